@@ -254,6 +254,18 @@ on_file "a small record without an image" 1 'refused 13 damaged
 ' "log A, body 1, byte 0: a page is changed of which the log has no image$" verify imageless
 on_file "a sweep of a live pair" 1 'refused 13 damaged
 ' "log A, body 1, byte 8266: a change does not fit its page$" verify unfit
+# What commits log of a leaf and the root: images, and from the second commit on small records, each batch byte for byte.
+"$program" format row 16 4 > /dev/null
+"$program" run row < row_script > /dev/null
+batch() { printf '%s' "$@" | awk '{ printf "%08x%s", length($0) / 2, $0 }'; }
+# PLACE BYTES: that place's body, in extent B, begins with these.
+body_is() { [ "$(od -An -v -tx1 -j $((512 * (2120 + 64 * $1))) -N $((${#2} / 2)) row | tr -d ' \n')" = "$2" ]; }
+holds "a leaf's image is logged" body_is 1 0000204a
+holds "its second pair is logged small" body_is 2 "$(batch "08$(printf '%016x' 2)$(pair 8 0 0 5 5)$leaf" "$(commit 2)")"
+holds "a wider bound is" body_is 3 \
+    "$(batch "09${leaf%2}10000$(key 0 0 20 20)" "08$(printf '%016x' 3)$(pair 9 15 15 20 20)$leaf" "$(commit 3)")"
+holds "a mark is" body_is 4 "$(batch "07$(printf '%016x' 4)$(pair 7 0 0 10 10)0001$leaf" "$(commit 4)")"
+holds "a sweep is" body_is 6 "$(batch "0a${leaf}010000" "08$(printf '%016x' 6)$(pair 11 3 3 4 4)$leaf" "$(commit 6)")"
 cp places cut
 truncate -s $((512 * 4290)) cut
 on_file "a file that was cut" 1 'refused 17 too small

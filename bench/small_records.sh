@@ -2,6 +2,7 @@
 #   small      images of the root and of the leaf with row 7; row 8 added; the bound widened, and row 9 added; row 7 deleted and swept
 #   imageless  a pair added to a page without an image
 #   unfit      a live pair swept
+# and a script, row_script, of six commits in one leaf: three inserts, a delete, an insert that fills it, and one that has it swept
 
 zeros() { printf '%0*d' $((2 * $1)) 0; }
 # FILE SECTOR HEX: writes these bytes from the start of a sector.
@@ -31,3 +32,5 @@ write_batch small 3 "09${leaf%2}10000$(key 0 0 20 20)" "08$(printf '%016x' 3)$(p
 write_batch small 4 "07$(printf '%016x' 4)$(pair 7 0 0 10 10)0001$leaf" "$(commit 4)" "0a${leaf}010000"
 write_batch imageless 1 "08$(printf '%016x' 1)$(pair 7 0 0 10 10)$leaf" "$(commit 1)"
 write_batch unfit 1 "$images" "$(commit 1)" "0a${leaf}010000"
+printf '1 BEGIN\n1 %s\n1 COMMIT\n' "INSERT 7 0 0 10 10" "INSERT 8 0 0 5 5" "INSERT 9 15 15 20 20" "DELETE 7 0 0 10 10" \
+    "INSERT 10 1 1 2 2" "INSERT 11 3 3 4 4" > row_script

@@ -3,7 +3,7 @@ use Rattle.std.proofs.Common.{◌≡◌, ℕ, ◌+◌, ◌<◌, ◌≤◌, List,
 use Rattle.std.proofs.lemmas.Bool.{cases_eq}
 use Rattle.std.proofs.lemmas.List.{get_or-set_same, get_or-set_other, get_or_default}
 use Rattle.gx_geom.specs.Rectangles.{Rectangle}
-use Rattle.gx_tree_laws.specs.Trees.{Child}
+use Rattle.gx_node.specs.Trees.{Child}
 use Rattle.gx_bench.specs.Choices.{IsChosen, AreChosen}
 use Rattle.gx_bench.specs.Sent.{key_of}
 use Rattle.gx_bench.specs.declared.sent.SentBox.{SentBox}

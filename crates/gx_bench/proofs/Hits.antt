@@ -7,7 +7,7 @@ use Rattle.gx_geom.specs.Rectangles.{Rectangle, IsBox, rectangle_of, overlaps}
 use Rattle.gx_class.specs.Boxes.{spelling}
 use Rattle.gx_page.specs.Contents.{Contents}
 use Rattle.gx_page.specs.Format.{IsWellFormed}
-use Rattle.gx_tree_laws.specs.Trees.{Pair}
+use Rattle.gx_node.specs.Trees.{Pair}
 use Rattle.gx_node.specs.Laws.{LeavesHold}
 use Rattle.gx_node.specs.Reading.{is_leaf, leaf_of}
 use Rattle.gx_bench.specs.Scans.{boxes, is_live_hit, hits_in, AreLeaves}

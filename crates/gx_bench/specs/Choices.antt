@@ -4,7 +4,7 @@ use Rattle.std.specs.List.{IsFirstBest}
 use Rattle.gx_geom.specs.Rectangles.{Rectangle}
 use Rattle.gx_class.specs.Boxes.{cost}
 use Rattle.gx_node.specs.Hits.{costs_less}
-use Rattle.gx_tree_laws.specs.Trees.{Child}
+use Rattle.gx_node.specs.Trees.{Child}
 use Rattle.gx_bench.specs.Sent.{key_of}
 use Rattle.gx_bench.specs.declared.sent.SentBox.{SentBox}
 

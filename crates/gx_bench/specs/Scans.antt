@@ -4,7 +4,7 @@ use Rattle.std.specs.List.{All, count_by, sum_by}
 use Rattle.gx_geom.specs.Rectangles.{Rectangle, rectangle_of, overlaps}
 use Rattle.gx_class.specs.Boxes.{reading}
 use Rattle.gx_page.specs.Contents.{Contents}
-use Rattle.gx_tree_laws.specs.Trees.{Pair}
+use Rattle.gx_node.specs.Trees.{Pair}
 use Rattle.gx_node.specs.Reading.{Format, format, is_leaf, leaf_of}
 
 -- how pages have boxes as keys

@@ -18,7 +18,7 @@ use Rattle.gx_index_laws.specs.Classes.{IsLawful, Page}
 use Rattle.gx_index_laws.specs.States as index
 use Rattle.gx_index_laws.proofs.Standing.{known_lawful}
 use Rattle.gx_durable.proofs.Crashes.{crash_leaves}
-use Rattle.gx_readings.specs.Classes.{class_of, reading_of}
+use Rattle.gx_durable.specs.Classes.{class_of, reading_of}
 use Rattle.gx_events.specs.declared.event.Event.{Event}
 use Rattle.gx_events.specs.declared.outcome.Outcome.{Outcome}
 use Rattle.gx_engine.specs.Holds.{Holds}

@@ -29,7 +29,7 @@ use Rattle.gx_opening.specs.Formatted.{Says, head_of}
 use Rattle.gx_opening.specs.Standing.{known_for, limits_of, reading}
 use Rattle.gx_opening.proofs.Heads.{formatted_head, head_magic, head_says}
 use Rattle.gx_opening.proofs.Stood.{one_saying}
-use Rattle.gx_readings.specs.Classes.{class_of, reading_of}
+use Rattle.gx_durable.specs.Classes.{class_of, reading_of}
 use Rattle.gx_recovery.specs.Records.{Record}
 use Rattle.gx_engine.specs.declared.start.NotOpened.{NotOpened}
 use Rattle.gx_engine.specs.Holds.{Holds}

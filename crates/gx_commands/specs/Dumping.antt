@@ -6,7 +6,7 @@ use Rattle.gx_machine.specs.Keys.{Members}
 use Rattle.gx_script.specs.Writes.{IsCut}
 use Rattle.gx_class.specs.declared.class.KeyClass.{Ghosts}
 use Rattle.gx_disk.specs.Device.{Device}
-use Rattle.gx_tree_laws.specs.Trees.{Tree}
+use Rattle.gx_node.specs.Trees.{Tree}
 use Rattle.gx_node.specs.Reading.{format_of, is_node}
 use Rattle.gx_glog.specs.declared.parameters.Parameters.{Parameters}
 use Rattle.gx_recovery.specs.Analysis.{number_of}
@@ -15,7 +15,7 @@ use Rattle.gx_recovery.specs.Known.{Limits}
 use Rattle.gx_index_laws.specs.States as index
 use Rattle.gx_index_laws.specs.States.{tree_now}
 use Rattle.gx_index_laws.specs.Whole.{IsWhole}
-use Rattle.gx_readings.specs.Classes.{class_of, reading_of}
+use Rattle.gx_durable.specs.Classes.{class_of, reading_of}
 use Rattle.gx_engine.specs.declared.start.NotOpened.{NotOpened}
 use Rattle.gx_engine.specs.States.{Parts}
 use Rattle.gx_opening.specs.Standing.{IsFormatted, known_for, limits_of}

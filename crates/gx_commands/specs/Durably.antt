@@ -16,12 +16,12 @@ use Rattle.gx_recovery.specs.Analysis.{number_of}
 use Rattle.gx_recovery.specs.Damage.{records_of}
 use Rattle.gx_recovery.specs.Logged.{latest}
 use Rattle.gx_recovery.specs.Standing.{stands_for}
-use Rattle.gx_engine_laws.specs.Engines.{SeenAs, opened_machine}
+use Rattle.gx_events.specs.Engines.{SeenAs, opened_machine}
 use Rattle.gx_index_laws.specs.States as index
 use Rattle.gx_index_laws.specs.States.{engine_of}
 use Rattle.gx_durable.specs.Area.{area_of}
 use Rattle.gx_durable.specs.Standing.{Stands}
-use Rattle.gx_readings.specs.Classes.{class_of}
+use Rattle.gx_durable.specs.Classes.{class_of}
 use Rattle.gx_engine.specs.Running.{Ran}
 use Rattle.gx_engine.specs.States.{Parts}
 use Rattle.gx_opening.specs.Standing.{IsFormatted, known_for, limits_of, reading}

@@ -19,7 +19,7 @@ use Rattle.gx_glog.specs.declared.parameters.Parameters.{Parameters}
 use Rattle.gx_format.specs.Fresh.{IsFresh}
 use Rattle.gx_format.specs.Formatting.{Formats, IsOldOrFresh}
 use Rattle.gx_recovery.specs.Known.{Limits}
-use Rattle.gx_readings.specs.Classes.{class_of, reading_of}
+use Rattle.gx_durable.specs.Classes.{class_of, reading_of}
 use Rattle.gx_engine.specs.declared.start.NotOpened.{NotOpened}
 use Rattle.gx_engine.specs.States.{Parts}
 use Rattle.gx_engine.specs.Made.{Makes}

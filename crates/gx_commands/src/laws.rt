@@ -15,8 +15,8 @@ ghost use Rattle.gx_script.specs.Scripts.{IsDone, IsScript, IsStopped};
 
 use gx_class::KeyClass;
 use gx_disk::SectorDisk;
+use gx_durable::ReadKeys;
 use gx_geom::{Box2, Shape};
-use gx_readings::ReadKeys;
 use gx_script::Answers;
 
 /// A script over a watched index is one over the index: of the same lines, with the same text, read and written the

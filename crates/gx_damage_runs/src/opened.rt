@@ -3,10 +3,10 @@ use crate::device::{bytes_of, device};
 use crate::fault::RunFault;
 use gx_class::Probing;
 use gx_disk::MemDisk;
+use gx_durable::ReadKeys;
 use gx_engine::Engine;
 use gx_opening::examine;
 use gx_plain_reader::{Damage, Finding, Part, Reading, findings, read};
-use gx_readings::ReadKeys;
 use gx_restart::{NotOpened, Report, open, verify};
 use std::alloc::Global;
 

@@ -1,5 +1,5 @@
 -- The descriptor of a device's file.
-use Rattle.std.specs.Prelude.{ℤ, pos, ◌<ℤ◌}
+use Rattle.std.specs.Prelude.{pos, ◌<ℤ◌}
 use Rattle.std.specs.Fd.{file_raw_fd}
 use Rattle.std.specs.declared.fs.File.{File}
 

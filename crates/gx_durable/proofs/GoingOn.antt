@@ -1,5 +1,5 @@
 -- A log that was found goes on where it stands.
-use Rattle.std.proofs.Common.{◌≡◌, ◌∙◌, sym, ap, refl, subst, inl, inr, ℕ, ◌+◌, ◌*◌, ◌<◌, ◌≤◌, Bool, true, false, ◌&&◌, List, [], ◌++◌, None, Some, Option, Result, Ok, Err, arith}
+use Rattle.std.proofs.Common.{◌≡◌, ◌∙◌, sym, ap, refl, subst, inl, inr, ℕ, ◌<◌, ◌≤◌, ◌&&◌, List, None, Some, Option, Result, Ok, Err, arith}
 use Rattle.std.proofs.Math.Path.{fun_ext}
 use Rattle.std.specs.Prelude.{OnOk, nat_le, nat_lt}
 use Rattle.std.proofs.lemmas.List.{append-nil}
@@ -10,8 +10,7 @@ use Rattle.gx_disk.specs.Sectors.{sector_of}
 use Rattle.gx_disk.proofs.Leaving.{leaves_weaker}
 use Rattle.gx_disk.proofs.Spans.{spans_same}
 use Rattle.gx_glog.specs.declared.extent.Extent.{Extent}
-use Rattle.gx_glog.specs.Cuts.{open_bodies}
-use Rattle.gx_glog.specs.Later.{KeepsRun, IsClosedBehind, ClosesLater}
+use Rattle.gx_glog.specs.Later.{KeepsRun, IsClosedBehind}
 use Rattle.gx_glog.specs.Layout.{selected_of, body_of, size_in}
 use Rattle.gx_glog.specs.Reading.{IsSize}
 use Rattle.gx_glog.specs.Standing.{HasBatches}
@@ -23,8 +22,7 @@ use Rattle.gx_recovery.specs.Known.{Known, IsLawful}
 use Rattle.gx_recovery.specs.Records.{Record}
 use Rattle.gx_recovery.specs.Redo.{redone}
 use Rattle.gx_recovery.specs.Damage.{records_of}
-use Rattle.gx_recovery.specs.Life.{AllWritten}
-use Rattle.gx_recovery.specs.Logged.{AgreesBeside, Logged, StandsForKept, all_records}
+use Rattle.gx_recovery.specs.Logged.{AgreesBeside, all_records}
 use Rattle.gx_recovery.specs.Renewal.{found}
 use Rattle.gx_recovery.proofs.DamageItems.{bodies_log}
 use Rattle.gx_recovery.proofs.Lives.{left_stands}
@@ -35,9 +33,9 @@ use Rattle.gx_durable.specs.Area.{area_of, HasPages}
 use Rattle.gx_durable.specs.Fitting.{AreGood, HasSizes}
 use Rattle.gx_durable.specs.Head.{head_in}
 use Rattle.gx_durable.specs.Standing.{Stands}
-use Rattle.gx_durable.specs.Stored.{IsStored, stored, bytes_by}
+use Rattle.gx_durable.specs.Stored.{bytes_by}
 use Rattle.gx_durable.specs.Opening.{found_glog}
-use Rattle.gx_durable.specs.GoingOn.{opened, found_state, IsFoundGood, FoundIsUp, BeginsBehind, FoundRuns, SameLogStands, IsClosedFound, ClosingKeepsFound}
+use Rattle.gx_durable.specs.GoingOn.{opened, found_state, IsFoundGood, FoundIsUp, FoundRuns, SameLogStands, IsClosedFound, ClosingKeepsFound}
 use Rattle.gx_durable.proofs.Areas.{by_test}
 use Rattle.gx_durable.proofs.Fitting.{gated_fit}
 use Rattle.gx_durable.proofs.Heads.{same_head}

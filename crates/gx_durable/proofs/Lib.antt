@@ -11,11 +11,13 @@ pub mod Images
 pub mod Joining
 pub mod Legality
 pub mod Moving
+pub mod Nodes
 pub mod Opening
 pub mod Paging
 pub mod Reading
 pub mod Recording
 pub mod Running
+pub mod Sayings
 pub mod Sizes
 pub mod Spellings
 pub mod Stamping
@@ -23,3 +25,4 @@ pub mod Stepping
 pub mod Storing
 pub mod TurnRunning
 pub mod Turning
+pub mod Used

@@ -1,5 +1,5 @@
 -- The bodies that are read of an image say sizes that are in range.
-use Rattle.std.proofs.Common.{◌≡◌, ◌∙◌, sym, subst, ap, refl, inl, inr, ⊎_elim, ℕ, ◌+◌, ◌<◌, ◌≤◌, Bool, true, false, List, length, below_more, arith}
+use Rattle.std.proofs.Common.{◌≡◌, ◌∙◌, sym, subst, ap, refl, ⊎_elim, ℕ, ◌+◌, ◌<◌, ◌≤◌, Bool, true, false, List, length, below_more, arith}
 use Rattle.gx_disk.specs.Device.{IsImage}
 use Rattle.gx_glog.specs.declared.extent.TheConstants.{BODY_ROOM, PLACES}
 use Rattle.gx_glog.specs.declared.extent.Extent.{Extent}
@@ -11,7 +11,7 @@ use Rattle.gx_glog.specs.Bodies.{HasRecords}
 use Rattle.gx_glog.specs.Layout.{other_of, selected_of, is_open, body_of, size_in, open_run}
 use Rattle.gx_glog.specs.Reading.{IsSize}
 use Rattle.gx_glog.specs.Standing.{Flies, HasBatches, HasHead, IsBodySettled, Leads, MayTurn, On}
-use Rattle.gx_glog.specs.State.{Log, in_flight, turning}
+use Rattle.gx_glog.specs.State.{Log, in_flight}
 use Rattle.gx_glog.proofs.Gates.{either_extent, run_is}
 use Rattle.gx_glog.proofs.Images.{image_body, image_gate, image_selects}
 use Rattle.gx_durable.specs.Fitting.{HasSizes}

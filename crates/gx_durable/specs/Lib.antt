@@ -1,10 +1,14 @@
 pub mod Area
 pub mod Beginning
 pub mod Bodies
+pub mod BoxKeys
 pub mod Calls
+pub mod ClassLaws
+pub mod Classes
 pub mod Fitting
 pub mod GoingOn
 pub mod Head
+pub mod IntervalKeys
 pub mod Joining
 pub mod Laws
 pub mod Legal

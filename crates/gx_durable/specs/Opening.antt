@@ -1,5 +1,5 @@
 -- A log that is found on an image: it is up to its turn, with later gates open too.
-use Rattle.std.specs.Prelude.{◌≡◌, ℕ, ◌*◌, ◌<◌, ◌≤◌, Bool, true, false, List, [], length, Result, Ok, Err}
+use Rattle.std.specs.Prelude.{◌≡◌, ℕ, ◌*◌, ◌<◌, ◌≤◌, Bool, true, false, List, length, Result, Ok, Err}
 use Rattle.gx_geom.specs.declared.refusal.Refusal.{Refusal}
 use Rattle.gx_disk.specs.declared.layout.TheConstants.{PAGES_AT}
 use Rattle.gx_disk.specs.Device.{Device, IsImage}

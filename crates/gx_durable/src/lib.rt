@@ -3,6 +3,9 @@
 //!
 //! What a log stands for and why a crash leaves a kept set is told of lists of records and of pages; log and pool are
 //! told of buffers and of sectors. Here they are tied.
+//!
+//! And here a class of keys is tied to them: how a key's bytes are read as an entry, and a page's as a node, and what
+//! is known of the tree of such pages. So each law holds of boxes and of intervals.
 #![tactic(auto)]
 
 ghost use Rattle.gx_durable.specs.Spelled.{Reading};
@@ -10,9 +13,15 @@ ghost use Rattle.gx_durable.specs.Spelled.{Reading};
 use gx_recovery::Meaning;
 
 pub mod calls;
+pub mod class_laws;
+mod class_pages;
+mod keys;
 pub mod laws;
 pub mod pages;
 pub mod turn;
+
+pub use class_pages::{NodePage, OfClass};
+pub use keys::ReadKeys;
 
 /// Entries and pages that stand in bytes: how a key is read as an entry, and an image as a page's content.
 pub trait Spelled: Meaning {

@@ -1,5 +1,5 @@
 -- An engine whose pages may have been brought, in events of no session; and what an event comes to that brings first.
-use Rattle.std.proofs.Common.{◌≡◌, ◌≤◌, ◌∙◌, sym, ap, refl, subst, ℕ, Bool, true, false, List, [], ◌∷◌, Option, Result, Ok, Err}
+use Rattle.std.proofs.Common.{◌≡◌, ◌≤◌, ◌∙◌, sym, ap, refl, subst, ℕ, Bool, true, false, List, [], ◌∷◌, Option}
 use Rattle.gx_geom.specs.declared.refusal.Refusal.{Refusal}
 use Rattle.gx_geom.specs.declared.refusal.Refusal.TheVariants.{Damaged as DamagedRefusal, Device as DeviceRefusal}
 use Rattle.gx_machine.specs.declared.entry.Entry.{Entry}
@@ -12,21 +12,17 @@ use Rattle.gx_node.specs.Reading.{Format}
 use Rattle.gx_pool.specs.Bringing.{OnlyRead}
 use Rattle.gx_glog.specs.State.{Log}
 use Rattle.gx_recovery.specs.Known.{Known, Limits}
-use Rattle.gx_recovery.specs.Analysis.{analysis}
-use Rattle.gx_recovery.specs.Logged as logged
-use Rattle.gx_recovery.specs.Logged.{Logged, all_records}
 use Rattle.gx_recovery.specs.Records.{Record}
-use Rattle.gx_engine_laws.specs.Events.{Event, Fails}
+use Rattle.gx_events.specs.Events.{Event, Fails}
 use Rattle.gx_index_laws.specs.Classes.{Class, IsLawful, Page, known_of}
 use Rattle.gx_index_laws.specs.Happening as happening
 use Rattle.gx_index_laws.specs.Happening.{AreHappening}
 use Rattle.gx_index_laws.specs.States as index
-use Rattle.gx_index_laws.specs.Whole.{IsWhole}
 use Rattle.gx_index_laws.proofs.AskedCalls.{faulted}
 use Rattle.gx_index_laws.proofs.Quiet.{as_it_is}
 use Rattle.gx_index_laws.proofs.Standing.{known_lawful}
 use Rattle.gx_durable.specs.Spelled.{Reading}
-use Rattle.gx_durable.specs.Standing.{MayRenew, Stands}
+use Rattle.gx_durable.specs.Standing.{Stands}
 use Rattle.gx_events.specs.declared.outcome.Outcome.{Outcome}
 use Rattle.gx_events.specs.declared.outcome.Outcome.TheVariants.{Help, Refused}
 use Rattle.gx_events.specs.declared.outcome.Need.{Need}
@@ -42,16 +38,15 @@ use Rattle.gx_storage.specs.declared.flusher.Help as storage
 use Rattle.gx_storage.specs.Bringing.{bringing}
 use Rattle.gx_storage.specs.Changes.{IsLogged, IsUnlogged, begun, has_room}
 use Rattle.gx_storage.specs.Flushing.{Helps}
-use Rattle.gx_storage.specs.Keeps.{Keeps, KeepsTheSame, StaysSame}
+use Rattle.gx_storage.specs.Keeps.{KeepsTheSame, StaysSame}
 use Rattle.gx_storage.specs.State.{Volume}
-use Rattle.gx_engine.specs.declared.checkpoint.Checkpoint.TheVariants.{Turning}
 use Rattle.gx_engine.specs.declared.work.Work.{Work}
-use Rattle.gx_engine.specs.Holds.{Holds, KnowsFlight, Led, Leads, Sits}
+use Rattle.gx_engine.specs.Holds.{Holds, Led, Leads}
 use Rattle.gx_engine.specs.Refusals.{CanBeHelped, IsEarly, IsHelp, IsRefusedAs, IsTurnedAway, StampsStay, need_of}
 use Rattle.gx_engine.specs.States.{Parts, runs}
 use Rattle.gx_engine.specs.Sweeping.{sweep_events}
 use Rattle.gx_engine.proofs.Growing.{stayed_led}
-use Rattle.gx_engine.proofs.Serving.{StaysSettled, may_renew_still, of_reads}
+use Rattle.gx_engine.proofs.Serving.{StaysSettled, of_reads}
 
 -- An engine that holds an index, with pages that were brought since.
 module _ {B D : Type 0} (c : Class B) (r : Reading (Entry B) (Page B)) (f : Format B) (passes : ℕ → Contents → Bool) (d e : Device) (old : Parts B D)
@@ -114,14 +109,17 @@ by_refusal {B} {D} told was new outcome P fault.Damaged is waits fails lies =
     subst (λ (x : Parts B D). P x outcome) (sym is.1) (subst (λ (o : Outcome B). P (record was { sessions = failed_state was.sessions }) o) (sym is.0) (lies refl))
 
 -- pages and log of which only the pages may be others
-pub same_volume : {D : Type 0} (v w : Volume D) → w.log ≡ v.log → w.most ≡ v.most → w ≡ record v { shelf = w.shelf }
-same_volume {D} v w log most =
-    ap (λ (l : Log). record { log = l; shelf = w.shelf; most = w.most }) log ∙ ap (λ (n : ℕ). record { log = v.log; shelf = w.shelf; most = n }) most
+pub same_volume : {D : Type 0} (v w : Volume D) → w.log ≡ v.log → w.most ≡ v.most → w.imaged ≡ v.imaged → w ≡ record v { shelf = w.shelf }
+same_volume {D} v w log most imaged =
+    ap (λ (l : Log). record { log = l; shelf = w.shelf; most = w.most; imaged = w.imaged }) log
+    ∙ ap (λ (n : ℕ). record { log = v.log; shelf = w.shelf; most = n; imaged = w.imaged }) most
+    ∙ ap (λ (bits : List Bool). record { log = v.log; shelf = w.shelf; most = v.most; imaged = bits }) imaged
 
 -- so of the engine
-pub as_brought : {B D : Type 0} (old : Parts B D) (w : Volume D) (sessions : State B (Work B)) → w.log ≡ old.volume.log → w.most ≡ old.volume.most
+pub as_brought : {B D : Type 0} (old : Parts B D) (w : Volume D) (sessions : State B (Work B)) → w.log ≡ old.volume.log → w.most ≡ old.volume.most → w.imaged ≡ old.volume.imaged
     → ◌≡◌ {A = Parts B D} (record old { volume = w; sessions = sessions }) (record old { volume = record old.volume { shelf = w.shelf }; sessions = sessions })
-as_brought old w sessions log most = ap (λ (v : Volume _). record old { volume = v; sessions = sessions }) (same_volume old.volume w log most)
+as_brought old w sessions log most imaged =
+    ap (λ (v : Volume _). record old { volume = v; sessions = sessions }) (same_volume old.volume w log most imaged)
 
 -- Pages were refused to an event that begins with room in the log, or without, and that logs nothing then.
 pub refused_leads : {B D : Type 0} (c : Class B) → (4 ≤ c.rules.most → IsLawful c) → (r : Reading (Entry B) (Page B)) (f : Format B) (passes : ℕ → Contents → Bool) (state : D → Device) (old : Parts B D) (w : Volume D)
@@ -187,4 +185,5 @@ logged_later known r f passes size d m e v t w x first next = record {
   goes_on = goes_on_joined passes d m e (begun v size) (begun (record v { shelf = t }) size) w.shelf (begun_on passes d m (bringing v) t (has_room v.log size) (first.since 0).goes_on) next.goes_on;
   others = λ q none. as_it_was_joined d m e v.shelf.frames t.frames w.shelf.frames q (first.since q).goes_on.steady (first.since q).same (next.others q none);
   most = next.most;
+  imaged = next.imaged;
 }

@@ -1,5 +1,5 @@
 -- The calls that events make of the device, by what they come to.
-use Rattle.std.proofs.Common.{◌≡◌, ◌∙◌, ap, sym, refl, subst, inl, inr, ℕ, ◌≤◌, Bool, true, false, Option, None, Some, Result, Ok, Err, IfOk, OnErr, List, arith}
+use Rattle.std.proofs.Common.{◌≡◌, ◌∙◌, ap, sym, refl, subst, inl, inr, ℕ, ◌≤◌, Bool, true, false, Option, None, Some, Result, Ok, Err, IfOk, IfErr, OnErr, List, arith}
 use Rattle.gx_geom.specs.declared.refusal.Refusal.{Refusal}
 use Rattle.gx_geom.specs.declared.refusal.Refusal.TheVariants as refusal
 use Rattle.gx_machine.specs.declared.call.Call.{Call}
@@ -19,16 +19,22 @@ use Rattle.gx_pool.proofs.Bringing.{only_read_joined, only_read_nothing}
 use Rattle.gx_recovery.specs.Known.{Known, Limits}
 use Rattle.gx_index_laws.specs.Classes.{Page}
 use Rattle.gx_durable.specs.Spelled.{Reading}
+use Rattle.gx_tree.specs.declared.descent.Descended.{Descended}
 use Rattle.gx_tree.specs.declared.seek.Sought.{Sought}
 use Rattle.gx_tree.specs.declared.seek.Sought.TheVariants.{Here, Right}
 use Rattle.gx_txn.specs.declared.note.Note.{Note}
 use Rattle.gx_events.specs.declared.outcome.Need.TheVariants as need
 use Rattle.gx_events.specs.declared.outcome.Outcome.{Outcome}
 use Rattle.gx_events.specs.declared.outcome.Outcome.TheVariants.{Replied, More, Help, Nothing, Refused}
-use Rattle.gx_storage.specs.Changes.{IsLoggedIf, IsUnlogged, MarkIsLogged, begun}
+use Rattle.gx_storage.specs.Changes.{DescentIsLogged, IsLoggedIf, IsUnlogged, MarkIsLogged, begun}
 use Rattle.gx_record.specs.Rec.{Rec}
-use Rattle.gx_record.specs.Writing.{write_record}
+use Rattle.gx_storage.specs.Imaged.{is_imaged}
+use Rattle.gx_storage.specs.Small.{mark_room}
 use Rattle.gx_storage.specs.State.{Volume}
+use Rattle.gx_storage.proofs.SmallWidens.{by_widened}
+use Rattle.gx_storage.specs.Sweeping.{SweepIsLogged, SweepIsRefused}
+use Rattle.gx_store.specs.declared.fault.StoreFault.{StoreFault}
+use Rattle.gx_node.specs.declared.fault.StepFault.{StepFault}
 use Rattle.gx_engine.specs.declared.checkpoint.Checkpoint.{Checkpoint}
 use Rattle.gx_engine.specs.declared.checkpoint.Checkpoint.TheVariants.{Off, Running, Turning}
 use Rattle.gx_engine.specs.Asks.{AskComes}
@@ -36,7 +42,7 @@ use Rattle.gx_engine.specs.Calls.{IsRead, MakesOne}
 use Rattle.gx_engine.specs.Checkpoints.{CheckpointSteps, RunsOn, StepsFrom, StepsOff}
 use Rattle.gx_engine.specs.Flushing.{LogGoes, LogSteps, PageGoes, PageIsWritten}
 use Rattle.gx_engine.specs.Commits.{AcknowledgeBy, AcknowledgeComes, SealComes}
-use Rattle.gx_engine.specs.States.{Parts, is_due, runs}
+use Rattle.gx_engine.specs.States.{Parts}
 use Rattle.gx_engine.specs.Undoing.{EndComes, RestoreComes, UndoBy, UndoComes}
 
 module _ {B D : Type 0} (state : D → Device) where
@@ -66,13 +72,25 @@ module _ {B D : Type 0} (known : Limits → Known (Entry B) (Page B)) (r : Readi
   changed_read size x any (Ok did) logged unlogged = if_read size x (any did) logged
   changed_read size x any (Err fault) logged unlogged = (unlogged.since 0).goes_on.device
 
+  -- of a step of a descent
+  pub stepped_read : {E : Type 0} (spelling : B → List ℕ) (key page size : ℕ) (result : Result (Descended B) E)
+      → IfOk result (DescentIsLogged known r f passes spelling key page d e v w) → OnErr result (IsUnlogged known r f passes (begun v size) d e v w) → OnlyRead d e
+  stepped_read spelling key page size (Ok did) logged unlogged = by_widened _ _ (OnlyRead d e) (λ slot bound is. is.goes_on.device) (λ is. (is.since 0).goes_on.device) did logged
+  stepped_read spelling key page size (Err fault) logged unlogged = (unlogged.since 0).goes_on.device
+
+  -- the sweep of a leaf
+  pub swept_read : (IsTest : (Entry B → Bool) → Type 0) (page : ℕ) (result : Result Bool (StepFault StoreFault)) → IfOk result (SweepIsLogged known r f passes IsTest d e v w page)
+      → IfErr result (SweepIsRefused known r f passes IsTest d e v w page) → OnlyRead d e
+  swept_read IsTest page (Ok any) logged refused = if_read _ _ any logged.logged
+  swept_read IsTest page (Err fault) logged refused = (refused.unlogged.since 0).goes_on.device
+
   mark_read : (spelling : B → List ℕ) (key transaction : ℕ) (entry : Entry B) (page : ℕ) (marked : Bool) (sought : Sought)
       → MarkIsLogged known r f passes spelling key transaction entry page marked d e v w sought → OnlyRead d e
   mark_read spelling key transaction entry page marked (Here slot before) is = is.goes_on.device
   mark_read spelling key transaction entry page marked (Right next) is = (is.since 0).goes_on.device
 
   pub marked_read : {E : Type 0} (spelling : B → List ℕ) (key transaction : ℕ) (entry : Entry B) (page : ℕ) (marked : Bool) (result : Result Sought E)
-      → IfOk result (MarkIsLogged known r f passes spelling key transaction entry page marked d e v w) → OnErr result (IsUnlogged known r f passes (begun v (write_record key)) d e v w) → OnlyRead d e
+      → IfOk result (MarkIsLogged known r f passes spelling key transaction entry page marked d e v w) → OnErr result (IsUnlogged known r f passes (begun v (mark_room (is_imaged v.imaged page) key)) d e v w) → OnlyRead d e
   marked_read spelling key transaction entry page marked (Ok sought) logged unlogged = mark_read spelling key transaction entry page marked sought logged
   marked_read spelling key transaction entry page marked (Err fault) logged unlogged = (unlogged.since 0).goes_on.device
 

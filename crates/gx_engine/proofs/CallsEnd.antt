@@ -7,7 +7,7 @@ use Rattle.gx_disk.specs.Device.{Device}
 use Rattle.gx_disk.specs.declared.layout.TheConstants.{MAX_PAGES}
 use Rattle.gx_machine.specs.declared.call.Call.{Call}
 use Rattle.gx_machine.specs.declared.entry.Entry.{Entry}
-use Rattle.gx_machine.specs.Keys.{Members, keys_of}
+use Rattle.gx_machine.specs.Keys.{Members}
 use Rattle.gx_node.specs.Reading.{format_of, is_node}
 use Rattle.gx_recovery.specs.Known.{Limits}
 use Rattle.gx_recovery.specs.Records.{Record}
@@ -15,7 +15,7 @@ use Rattle.gx_index_laws.specs.Classes.{Class, IsLawful, Page}
 use Rattle.gx_index_laws.specs.Measures.{work_left}
 use Rattle.gx_index_laws.specs.States as index
 use Rattle.gx_index_laws.specs.Whole.{IsWhole}
-use Rattle.gx_readings.specs.Classes.{class_of, known_at, reading_of}
+use Rattle.gx_durable.specs.Classes.{class_of, reading_of}
 use Rattle.gx_glog.specs.declared.extent.TheConstants.{BODY_ROOM}
 use Rattle.gx_record.specs.Writing.{write_record}
 use Rattle.gx_events.specs.declared.event.Event.{Event}
@@ -35,7 +35,7 @@ use Rattle.gx_engine.specs.Ending.{LeavesAll}
 use Rattle.gx_engine.specs.Flushing.{PageIsWritten}
 use Rattle.gx_engine.specs.Moves as moves
 use Rattle.gx_engine.specs.Moves.{left_by}
-use Rattle.gx_engine.specs.States.{IsOrderly, Parts, runs}
+use Rattle.gx_engine.specs.States.{IsOrderly, Parts}
 use Rattle.gx_engine.specs.Stepping.{Stepped}
 use Rattle.gx_engine.specs.Backlog.{backlog}
 use Rattle.gx_engine.specs.Driven.{AreDriven, IsUnderWay}
@@ -45,8 +45,8 @@ use Rattle.gx_engine.specs.Resting.{KeepsSessions}
 use Rattle.gx_engine.proofs.Helping.{helps}
 use Rattle.gx_engine.proofs.Lessening.{few_left, few_orderly}
 use Rattle.gx_engine.proofs.Measured.{done_rests, few_driven}
-use Rattle.gx_engine.proofs.Resting.{checkpoint_keeps, keeps_all, log_steps_keep, page_keeps}
-use Rattle.gx_engine.proofs.Waits.{names_work, waiting_flushes, waiting_leaves, waits_made}
+use Rattle.gx_engine.proofs.Resting.{keeps_all, page_keeps}
+use Rattle.gx_engine.proofs.Waits.{names_work, waiting_flushes, waiting_leaves}
 
 left_by_few : {B : Type 0} (p : Phase B (Work B)) (n : ℕ) → n < 2 ^ 39 → left_by p n ≤ 2 ^ 39
 left_by_few phase.Free n few = omega (arith, few)

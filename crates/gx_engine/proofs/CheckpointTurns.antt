@@ -22,7 +22,7 @@ use Rattle.gx_recovery.specs.Analysis.{analysis, number_of}
 use Rattle.gx_recovery.specs.Logged.{Logged, all_records, durable, gate_synced, latest}
 use Rattle.gx_recovery.specs.Renewal.{renewed}
 use Rattle.gx_recovery.proofs.Renewals.{same_number, same_touched}
-use Rattle.gx_engine_laws.specs.Events.{Event, Works, Fails}
+use Rattle.gx_events.specs.Events.{Event, Works, Fails}
 use Rattle.gx_index_laws.specs.Classes.{Class, IsLawful, Page, known_of, tree_in}
 use Rattle.gx_index_laws.specs.States as index
 use Rattle.gx_index_laws.specs.Happening as happening
@@ -37,7 +37,7 @@ use Rattle.gx_durable.specs.Standing.{MayRenew, Stands}
 use Rattle.gx_durable.proofs.Stamping.{none_writable}
 use Rattle.gx_events.specs.declared.outcome.Outcome.{Outcome}
 use Rattle.gx_events.specs.declared.outcome.Outcome.TheVariants.{More, Nothing, Refused}
-use Rattle.gx_events.specs.Engines.{IsSync}
+use Rattle.gx_events.specs.Steps.{IsSync}
 use Rattle.gx_phases.specs.Moves.{failed_state}
 use Rattle.gx_phases.specs.States.{phase_at}
 use Rattle.gx_storage.specs.Flushing.{HasTurned, IsLeastWritable, StepsLog, TurnsOn}

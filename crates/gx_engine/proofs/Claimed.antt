@@ -1,10 +1,10 @@
 -- What sessions claim is what their index's slots claim.
-use Rattle.std.proofs.Common.{◌≡◌, ◌∙◌, sym, ap, ℕ, suc, ◌<◌, Bool, ◌||◌, List, [], ◌∷◌, length, refl, arith}
+use Rattle.std.proofs.Common.{◌≡◌, ◌∙◌, sym, ap, ℕ, suc, ◌<◌, ◌||◌, List, [], ◌∷◌, length, refl, arith}
 use Rattle.gx_machine.specs.declared.entry.Entry.{Entry}
 use Rattle.gx_machine.specs.Keys.{Keys}
 use Rattle.gx_machine.specs.Sets.{has}
-use Rattle.gx_engine_laws.specs.Slots.{Slot, locks_held}
-use Rattle.gx_engine_laws.specs.Wants.{is_claimed}
+use Rattle.gx_events.specs.Slots.{Slot, locks_held}
+use Rattle.gx_events.specs.Wants.{is_claimed}
 use Rattle.gx_index_laws.specs.States as index
 use Rattle.gx_txn.specs.Tables.{Held, claimed_in, claims}
 use Rattle.gx_phases.specs.declared.phase.Phase.{Phase}

@@ -17,9 +17,9 @@ use Rattle.gx_recovery.specs.Records.{Record, Touch}
 use Rattle.gx_recovery.proofs.Folds.{analysis-snoc}
 use Rattle.gx_recovery.specs.Records as records
 use Rattle.gx_recovery.specs.Logged.{all_records, appended, durable, gate_synced, latest}
-use Rattle.gx_engine_laws.specs.Slots as slots
-use Rattle.gx_engine_laws.specs.Slots.{Working, Waiting, slot_at}
-use Rattle.gx_engine_laws.specs.Events.{Acknowledges, Seals}
+use Rattle.gx_events.specs.Slots as slots
+use Rattle.gx_events.specs.Slots.{Working, Waiting, slot_at}
+use Rattle.gx_events.specs.Events.{Acknowledges, Seals}
 use Rattle.gx_index_laws.specs.Classes.{Class, IsLawful, Page, known_of}
 use Rattle.gx_index_laws.specs.States as index
 use Rattle.gx_index_laws.specs.Happening.{Happens, slotted}

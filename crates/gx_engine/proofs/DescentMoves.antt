@@ -10,17 +10,17 @@ use Rattle.gx_disk.specs.Device.{Device}
 use Rattle.gx_page.specs.Contents.{Contents}
 use Rattle.gx_node.specs.Edits.{entry_of}
 use Rattle.gx_node.specs.Reading.{Format}
-use Rattle.gx_tree_laws.specs.Lists.{how_many}
-use Rattle.gx_tree_laws.specs.Reach.{TraversalItem}
-use Rattle.gx_tree_laws.specs.Trees.{Node, Used, size}
-use Rattle.gx_tree_laws.specs.Writes.{is_sweepable}
+use Rattle.gx_node.specs.Lists.{how_many}
+use Rattle.gx_node.specs.Reach.{TraversalItem}
+use Rattle.gx_node.specs.Trees.{Node, Used, size}
+use Rattle.gx_node.specs.Writes.{is_sweepable}
 use Rattle.gx_tree.specs.declared.descent.Descended.{Descended}
 use Rattle.gx_node.specs.Store.{Store, tree_of}
 use Rattle.gx_recovery.specs.Known.{Known, Limits}
-use Rattle.gx_engine_laws.specs.Events.{Event}
+use Rattle.gx_events.specs.Events.{Event}
 use Rattle.gx_index_laws.specs.Classes.{Class, IsLawful, Page}
 use Rattle.gx_durable.specs.Spelled.{Reading}
-use Rattle.gx_readings.specs.Classes.{reading_of}
+use Rattle.gx_durable.specs.Classes.{reading_of}
 use Rattle.gx_events.specs.declared.outcome.Outcome.{Outcome}
 use Rattle.gx_phases.specs.declared.phase.Phase.TheVariants as phase
 use Rattle.gx_phases.specs.States.{IsKept, held_at, note_of, phase_at}
@@ -39,9 +39,9 @@ use Rattle.gx_engine.proofs.LookMoves.{its_work, slot_now}
 
 -- what a step did, and whether a leaf was swept
 module _ {B D : Type 0} (known : Limits → Known (Entry B) (Page B)) (r : Reading (Entry B) (Page B)) (f : Format B) (passes : ℕ → Contents → Bool) (d e : Device) (v w : Volume D) where
-  pub stepped_as : (cost : B → B → ℕ × ℕ) (joined : B → B → B) (item : TraversalItem) (coming : B) (did given : Descended B) → did ≡ given
-      → HasStepped known r f passes cost joined d e v w item coming did → HasStepped known r f passes cost joined d e v w item coming given
-  stepped_as cost joined item coming did given is has = subst (λ (x : Descended B). HasStepped known r f passes cost joined d e v w item coming x) is has
+  pub stepped_as : (cost : B → B → ℕ × ℕ) (joined : B → B → B) (spelling : B → List ℕ) (key : ℕ) (item : TraversalItem) (coming : B) (did given : Descended B) → did ≡ given
+      → HasStepped known r f passes cost joined spelling key d e v w item coming did → HasStepped known r f passes cost joined spelling key d e v w item coming given
+  stepped_as cost joined spelling key item coming did given is has = subst (λ (x : Descended B). HasStepped known r f passes cost joined spelling key d e v w item coming x) is has
 
   pub swept_true : (claimed : Entry B → Bool) (page : ℕ) (any : Bool) → any ≡ true → LeafSweeping known r f passes claimed d e v w page (Ok any) → HasSwept known r f passes claimed d e v w page
   swept_true claimed page any is has = subst (λ (b : Bool). LeafSweeping known r f passes claimed d e v w page (Ok b)) is has

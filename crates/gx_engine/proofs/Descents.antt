@@ -10,18 +10,20 @@ use Rattle.gx_page.specs.Contents.{Contents}
 use Rattle.gx_pool.specs.Bringing.{OnlyRead}
 use Rattle.gx_node.specs.Reading.{Format}
 use Rattle.gx_node.specs.declared.items.TheConstants.{MAX_ENTRIES}
-use Rattle.gx_tree_laws.specs.Legal.{Legal}
-use Rattle.gx_tree_laws.specs.Lists.{Each}
-use Rattle.gx_tree_laws.specs.Reach.{TraversalItem}
-use Rattle.gx_tree_laws.specs.Trees.{Rules, Used, size}
+use Rattle.gx_node.specs.Legal.{Legal}
+use Rattle.gx_node.specs.Lists.{Each}
+use Rattle.gx_node.specs.Reach.{TraversalItem}
+use Rattle.gx_node.specs.Trees.{Rules, Used, size}
 use Rattle.gx_tree.specs.declared.descent.Descended.{Descended}
 use Rattle.gx_tree.specs.declared.descent.Descended.TheVariants.{Down, Widened}
 use Rattle.gx_node.specs.declared.fault.StepFault.{StepFault}
 use Rattle.gx_node.specs.declared.fault.StepFault.TheVariants as step
+use Rattle.gx_node.specs.declared.fault.SplitFault.{SplitFault}
+use Rattle.gx_node.specs.declared.fault.SplitFault.TheVariants as split
 use Rattle.gx_tree.specs.Descending.{StepsDown, is_widened}
 use Rattle.gx_tree.specs.declared.split.Split.{Split}
 use Rattle.gx_tree.specs.declared.split_root.RootSplit.{RootSplit}
-use Rattle.gx_node.specs.Owner.{IsWhy}
+use Rattle.gx_node.specs.Owner.{IsWhy, IsWhyOfSplit}
 use Rattle.gx_tree.specs.Splitting.{DidSplitRoot, Splits, has_split}
 use Rattle.gx_tree.specs.Writing.{Swept}
 use Rattle.gx_node.specs.Store.{tree_of}
@@ -30,8 +32,8 @@ use Rattle.gx_recovery.specs.Known.{Known, Limits}
 use Rattle.gx_recovery.specs.Logged.{Logged, all_records, appended}
 use Rattle.gx_recovery.specs.Records.{Record, Touch}
 use Rattle.gx_recovery.proofs.Folds.{analysis-snoc}
-use Rattle.gx_engine_laws.specs.Events.{Works}
-use Rattle.gx_engine_laws.specs.Slots.{Working, slot_at}
+use Rattle.gx_events.specs.Events.{Works}
+use Rattle.gx_events.specs.Slots.{Working, slot_at}
 use Rattle.gx_index_laws.specs.Classes.{Class, IsLawful, Page, known_of}
 use Rattle.gx_index_laws.specs.Happening.{Happens, with_record, with_work}
 use Rattle.gx_index_laws.specs.Measures.{work_left}
@@ -43,7 +45,7 @@ use Rattle.gx_index_laws.proofs.Standing.{grown, known_lawful}
 use Rattle.gx_index_laws.proofs.Tools.{changed_beside, changed_here}
 use Rattle.gx_durable.specs.Spelled.{Reading, record_read}
 use Rattle.gx_durable.specs.Standing.{Stands}
-use Rattle.gx_readings.specs.Classes.{reading_of}
+use Rattle.gx_durable.specs.Classes.{reading_of}
 use Rattle.gx_events.specs.declared.outcome.Outcome.TheVariants.{More}
 use Rattle.gx_txn.specs.Tables.{Held}
 use Rattle.gx_phases.specs.declared.phase.Phase.{Phase}
@@ -52,14 +54,18 @@ use Rattle.gx_phases.specs.States.{State, IsKept, held_at, note_of, phase_at, wi
 use Rattle.gx_store.specs.declared.fault.StoreFault.{StoreFault}
 use Rattle.gx_store.specs.Faults as faults
 use Rattle.gx_store.specs.Standing.{store_of}
-use Rattle.gx_store.specs.State.{IsInOrder, IsSteady}
-use Rattle.gx_record.specs.declared.sizes.TheConstants.{PAGE_RECORD, SPLIT_RECORD}
-use Rattle.gx_storage.specs.Changes.{IsLogged, IsLoggedIf, IsUnlogged, begun, page_given}
+use Rattle.gx_store.specs.State.{IsInOrder, IsSteady, Shelf}
+use Rattle.gx_record.specs.declared.sizes.TheConstants.{SPLIT_RECORD}
+use Rattle.gx_storage.specs.Changes.{DescentIsLogged, IsLogged, IsLoggedIf, IsUnlogged, begun}
+use Rattle.gx_storage.specs.Imaged.{is_imaged}
 use Rattle.gx_storage.specs.Giving.{pages_given, rising}
 use Rattle.gx_storage.specs.Keeps.{KeepsTheSame, KeepsWith, ShowsKeys}
 use Rattle.gx_storage.specs.Numbers.{HasOwnNumber}
+use Rattle.gx_storage.specs.Small.{widen_room, widen_said}
 use Rattle.gx_storage.specs.State.{Volume}
+use Rattle.gx_storage.specs.Sweeping.{SweepIsLogged, SweepIsRefused}
 use Rattle.gx_storage.specs.Sweeps.{WorksWith}
+use Rattle.gx_storage.proofs.Recording.{AreNodes}
 use Rattle.gx_storage.proofs.Descending.{GoesTo, IsJoin, was_split, went_down_to, widened_to, widened_works}
 use Rattle.gx_engine.specs.declared.checkpoint.Checkpoint.TheVariants.{Turning}
 use Rattle.gx_engine.specs.declared.work.Work.{Work}
@@ -75,21 +81,21 @@ use Rattle.gx_engine.proofs.Serving.{FliesOn, held_as_it_is, is_calm, not_due, o
 
 -- what storage tells of a step, as the engine has it
 pub stepping : {B D : Type 0} (known : Limits → Known (Entry B) (Page B)) (r : Reading (Entry B) (Page B)) (f : Format B) (passes : ℕ → Contents → Bool)
-    (cost : B → B → ℕ × ℕ) (joined : B → B → B) (d e : Device) (v w : Volume D) (item : TraversalItem) (coming : B) (result : Result (Descended B) (StepFault StoreFault))
-    → IfOk result (λ did. IsLoggedIf known r f passes PAGE_RECORD d e v w (page_given item.page e.seen w.shelf) (is_widened did))
-    → OnErr result (IsUnlogged known r f passes (begun v PAGE_RECORD) d e v w)
+    (cost : B → B → ℕ × ℕ) (joined : B → B → B) (spelling : B → List ℕ) (key : ℕ) (d e : Device) (v w : Volume D) (item : TraversalItem) (coming : B)
+    (result : Result (Descended B) (StepFault StoreFault))
+    → IfOk result (DescentIsLogged known r f passes spelling key item.page d e v w)
+    → OnErr result (IsUnlogged known r f passes (begun v (widen_room (is_imaged v.imaged item.page) key)) d e v w)
     → (IsSteady d v.shelf.frames → IfOk result (StepsDown cost joined v.most (store_of f d.seen v.shelf) (store_of f e.seen w.shelf) item coming))
-    → IfOk result (λ did. is_widened did ≡ true → HasOwnNumber e.seen w.shelf item.page) → IfErr result (IsWhy (faults.IsWhy passes d e (begun v PAGE_RECORD) w.shelf))
+    → IfOk result (λ did. is_widened did ≡ true → HasOwnNumber e.seen w.shelf item.page) → IfErr result (IsWhy (faults.IsWhy passes d e (begun v (widen_room (is_imaged v.imaged item.page) key)) w.shelf))
     → (IsSteady d v.shelf.frames → result ≡ Err step.Damaged → Used (tree_of (store_of f d.seen v.shelf)) item.page
     → (0 < ((tree_of (store_of f d.seen v.shelf)).node item.page).level) × (length ((tree_of (store_of f d.seen v.shelf)).node item.page).children ≡ 0))
-    → result ≢ Err step.Memory → result ≢ Err step.PagesFull → Stepping known r f passes cost joined d e v w item coming result
-stepping known r f passes cost joined d e v w item coming (Ok did) logged unlogged steps own why damaged memory full = record { logged = logged; steps = steps; own = own }
-stepping {B} known r f passes cost joined d e v w item coming (Err fault) logged unlogged steps own why damaged memory full =
+    → Stepping known r f passes cost joined spelling key d e v w item coming result
+stepping known r f passes cost joined spelling key d e v w item coming (Ok did) logged unlogged steps own why damaged = record { logged = logged; steps = steps; own = own }
+stepping {B} known r f passes cost joined spelling key d e v w item coming (Err fault) logged unlogged steps own why damaged =
     let result : StepFault StoreFault → Result (Descended B) (StepFault StoreFault) = λ x. Err x in
     record {
-      stops = record { unlogged = unlogged; why = why; memory = λ is. memory (ap result is) };
+      stops = record { unlogged = unlogged; why = why };
       damaged = λ steady is. damaged steady (ap result is);
-      full = λ is. full (ap result is);
     }
 
 -- A record changes no note.
@@ -97,6 +103,12 @@ pub untouched : {E P : Type 0} (k : Known E P) (x : Record E P) (log : Logged E 
     → (analysis k (all_records (appended x log))).touched ≡ (analysis k (all_records log)).touched
 untouched {E} {P} k x log quiet =
     ap (λ (a : Analysis E). a.touched) (ap (λ (rs : List (Record E P)). analysis k rs) (grown x log) ∙ analysis-snoc k (all_records log) x) ∙ quiet (analysis k (all_records log))
+
+-- So a widened bound's doesn't.
+quiet_widen : {B D : Type 0} (k : Known (Entry B) (Page B)) (said : List ℕ → B) (f : Format B) (spelling : B → List ℕ) (small : Bool) (page slot : ℕ) (key : B) (seen : List ℕ) (s : Shelf D)
+    → (a : Analysis (Entry B)) → (read k a (record_read (reading_of said f) (widen_said spelling small page slot key seen s))).touched ≡ a.touched
+quiet_widen k said f spelling true page slot key seen s a = refl
+quiet_widen k said f spelling false page slot key seen s a = refl
 
 -- An engine's session has a call open, and a record was logged that no session notices.
 module _ {B D : Type 0} (c : Class B) (l : IsLawful c) (r : Reading (Entry B) (Page B)) (f : Format B) (passes : ℕ → Contents → Bool) (d e : Device) (old : Parts B D)
@@ -219,80 +231,88 @@ module _ {B D : Type 0} (c : Class B) (lawful : 4 ≤ c.rules.most → IsLawful 
   module _ (flies : FliesOn old.volume.log w.log) where
     pub widened_moves : (IsKey : B → Type 0) (cost : B → B → ℕ × ℕ) (joined : B → B → B) → IsJoin c IsKey joined → IsKey entry.key
         → ShowsKeys (known_of c) r f passes IsKey d old.volume → IsInOrder (passes old.volume.shelf.pages) d.sectors old.volume.shelf.frames old.volume.shelf.used old.volume.shelf.pages
+        → AreNodes f passes old.volume.shelf → (spelling : B → List ℕ) → ((k : B) → IsKey k → f.reading (spelling k) ≡ Some k)
         → (next : TraversalItem) (place : ℕ) (key : B)
         → (IsSteady d old.volume.shelf.frames → StepsDown cost joined old.volume.most (store_of f d.seen old.volume.shelf) (store_of f e.seen w.shelf) item entry.key (Widened next place key))
-        → HasOwnNumber e.seen w.shelf item.page → KeepsWith (known_of c) r f passes d e old.volume w (page_given item.page e.seen w.shelf)
+        → HasOwnNumber e.seen w.shelf item.page
+        → KeepsWith (known_of c) r f passes d e old.volume w (widen_said spelling (is_imaged old.volume.imaged item.page) item.page place key e.seen w.shelf)
         → Moves c r f passes d e s old (calling s call (Descends item.page next) (record old { volume = w })) More (Works ∷ [])
-    widened_moves IsKey cost joined join is_key keyed order next place key steps own keeps bodies i h =
+    widened_moves IsKey cost joined join is_key keyed order was spelling reads next place key steps own keeps bodies i h =
         let l = lawful h.some in
         let after = keeps bodies i.log (known_lawful c l) h.keeps in
         let keys = keyed bodies i.log h.keeps order in
         let step = subst (λ m. StepsDown cost joined m (store_of f d.seen old.volume.shelf) (store_of f e.seen w.shelf) item entry.key (Widened next place key)) h.most (steps h.keeps.steady) in
         let its = held bodies i h in
         let with = widened_works c l said f passes d e old.volume w bodies i h.whole s entry parent item (work bodies i h) its.locks (map note_of its.notes) call (slot bodies i h) h.keeps
-        IsKey cost joined join keys is_key next place key step own after in
+        IsKey cost joined join keys is_key was spelling reads next place key step own after in
         let goes = widened_to c l said f passes d e old.volume w bodies i h.whole s entry parent item (work bodies i h) its.locks (map note_of its.notes) call (slot bodies i h) h.keeps
-        IsKey cost joined join keys is_key next place key step own after in
+        IsKey cost joined join keys is_key was spelling reads next place key step own after in
         logged_on c l r f passes d e old kept s is call (Descends parent item) at bodies i h (is_calm old.checkpoint (not_due old early).0) w most flies after.leaves
-        (record_read r (page_given item.page e.seen w.shelf)) (λ a. refl) with (Descends item.page next) (index.Descends entry item.page next) refl goes.does goes.lower
+        (record_read r (widen_said spelling (is_imaged old.volume.imaged item.page) item.page place key e.seen w.shelf))
+        (quiet_widen (known_of c) said f spelling (is_imaged old.volume.imaged item.page) item.page place key e.seen w.shelf) with (Descends item.page next) (index.Descends entry item.page next) refl goes.does goes.lower
 
 -- What storage tells of a sweep and of a split, as the engine has it.
 module _ {B D : Type 0} (known : Limits → Known (Entry B) (Page B)) (r : Reading (Entry B) (Page B)) (f : Format B) (passes : ℕ → Contents → Bool) (d e : Device) (v w : Volume D) where
-  pub leaf_sweeping : (claimed : Entry B → Bool) (page : ℕ) (result : Result Bool (StepFault StoreFault))
-      → IfOk result (λ any. IsLoggedIf known r f passes PAGE_RECORD d e v w (page_given page e.seen w.shelf) any) → OnErr result (IsUnlogged known r f passes (begun v PAGE_RECORD) d e v w)
+  pub leaf_sweeping : (IsTest : (Entry B → Bool) → Type 0) (claimed : Entry B → Bool) → IsTest claimed → (page : ℕ) (result : Result Bool (StepFault StoreFault))
+      → IfOk result (SweepIsLogged known r f passes IsTest d e v w page) → IfErr result (SweepIsRefused known r f passes IsTest d e v w page)
       → (IsSteady d v.shelf.frames → IfOk result (Swept claimed (store_of f d.seen v.shelf) (store_of f e.seen w.shelf) page))
-      → IfOk result (λ any. any ≡ true → HasOwnNumber e.seen w.shelf page) → IfErr result (IsWhy (faults.IsWhy passes d e (begun v PAGE_RECORD) w.shelf))
+      → IfOk result (λ any. any ≡ true → HasOwnNumber e.seen w.shelf page)
       → (IsSteady d v.shelf.frames → result ≡ Err step.Damaged → Used (tree_of (store_of f d.seen v.shelf)) page
       → ((tree_of (store_of f d.seen v.shelf)).node page).level ≡ 0 → MAX_ENTRIES < length ((tree_of (store_of f d.seen v.shelf)).node page).pairs)
-      → result ≢ Err step.Memory → result ≢ Err step.PagesFull → LeafSweeping known r f passes claimed d e v w page result
-  leaf_sweeping claimed page (Ok true) logged unlogged swept own why damaged memory full = record { logged = logged; swept = swept; own = own refl }
-  leaf_sweeping claimed page (Ok false) logged unlogged swept own why damaged memory full =
-      record { unlogged = logged; same = λ steady. ((swept steady).none refl).0; none = λ steady. ((swept steady).none refl).1 }
-  leaf_sweeping claimed page (Err fault) logged unlogged swept own why damaged memory full =
+      → LeafSweeping known r f passes claimed d e v w page result
+  leaf_sweeping IsTest claimed test page (Ok true) logged refused swept own damaged =
+      record { slots = logged.slots; taken = λ steady. logged.exact steady claimed test; logged = logged.logged; swept = swept; own = own refl }
+  leaf_sweeping IsTest claimed test page (Ok false) logged refused swept own damaged =
+      record { slots = logged.slots; taken = λ steady. logged.exact steady claimed test; unlogged = logged.logged; same = λ steady. ((swept steady).none refl).0; none = λ steady. ((swept steady).none refl).1 }
+  leaf_sweeping IsTest claimed test page (Err fault) logged refused swept own damaged =
       let result : StepFault StoreFault → Result Bool (StepFault StoreFault) = λ x. Err x in
       record {
-        stops = record { unlogged = unlogged; why = why; memory = λ is. memory (ap result is) };
+        slots = refused.slots;
+        taken = λ no_room steady. refused.exact no_room steady claimed test;
+        few = refused.few;
+        stops = record { unlogged = refused.unlogged; why = refused.why };
         damaged = λ steady is. damaged steady (ap result is);
-        full = λ is. full (ap result is);
       }
 
   module _ (rules : ℕ → Rules B) (sides_of : List B → ℕ → List Bool) where
-    pub splitting : (page parent : ℕ) (result : Result (Option (Split B)) (StepFault StoreFault))
+    pub splitting : (page parent : ℕ) (result : Result (Option (Split B)) (SplitFault StoreFault))
         → IfOk result (λ did. IsLoggedIf known r f passes SPLIT_RECORD d e v w (pages_given (rising page parent (suc v.shelf.used)) e.seen w.shelf) (has_split did))
         → OnErr result (IsUnlogged known r f passes (begun v SPLIT_RECORD) d e v w)
         → (IsSteady d v.shelf.frames → IfOk result (Splits (rules v.most) sides_of (store_of f d.seen v.shelf) (store_of f e.seen w.shelf) page parent))
         → IfOk result (λ did. IfSome did (λ some. Each (HasOwnNumber e.seen w.shelf) (rising page parent (suc v.shelf.used))))
-        → IfErr result (IsWhy (faults.IsWhy passes d e (begun v SPLIT_RECORD) w.shelf))
-        → (IsSteady d v.shelf.frames → result ≡ Err step.PagesFull → v.shelf.pages ≤ v.shelf.used)
-        → (IsSteady d v.shelf.frames → result ≡ Err step.Damaged → Legal (rules v.most) (tree_of (store_of f d.seen v.shelf)) → Used (tree_of (store_of f d.seen v.shelf)) page
+        → IfErr result (IsWhyOfSplit (faults.IsWhy passes d e (begun v SPLIT_RECORD) w.shelf))
+        → (IsSteady d v.shelf.frames → result ≡ Err split.PagesFull → v.shelf.pages ≤ v.shelf.used)
+        → (IsSteady d v.shelf.frames → result ≡ Err (split.Step step.Damaged) → Legal (rules v.most) (tree_of (store_of f d.seen v.shelf)) → Used (tree_of (store_of f d.seen v.shelf)) page
         → Used (tree_of (store_of f d.seen v.shelf)) parent → page ≢ parent → 0 < ((tree_of (store_of f d.seen v.shelf)).node parent).level
         → v.most ≤ size ((tree_of (store_of f d.seen v.shelf)).node page) → v.shelf.counter + 1 < 2 ^ 64 → ⊥)
-        → result ≢ Err step.Memory → Splitting known r f passes rules sides_of d e v w page parent result
-    splitting page parent (Ok (Some did)) logged unlogged split own why full damaged memory = record { logged = logged; split = split; own = own }
-    splitting page parent (Ok None) logged unlogged split own why full damaged memory = record { unlogged = logged; none = λ steady. (split steady).1 }
-    splitting page parent (Err fault) logged unlogged split own why full damaged memory =
-        let result : StepFault StoreFault → Result (Option (Split B)) (StepFault StoreFault) = λ x. Err x in
+        → Splitting known r f passes rules sides_of d e v w page parent result
+    splitting page parent (Ok (Some did)) logged unlogged split own why full damaged = record { logged = logged; split = split; own = own }
+    splitting page parent (Ok None) logged unlogged split own why full damaged = record { unlogged = logged; none = λ steady. (split steady).1 }
+    splitting page parent (Err fault) logged unlogged split own why full damaged =
+        let result : SplitFault StoreFault → Result (Option (Split B)) (SplitFault StoreFault) = λ x. Err x in
         record {
-          stops = record { unlogged = unlogged; why = why; memory = λ is. memory (ap result is) };
+          unlogged = unlogged;
+          why = why;
           full = λ steady is. full steady (ap result is);
           damaged = λ steady is. damaged steady (ap result is);
         }
 
-    pub root_splitting : (result : Result (RootSplit B) (StepFault StoreFault))
+    pub root_splitting : (result : Result (RootSplit B) (SplitFault StoreFault))
         → OnOk result (IsLogged known r f passes SPLIT_RECORD d e v w (pages_given (1 ∷ suc v.shelf.used ∷ suc (suc v.shelf.used) ∷ []) e.seen w.shelf))
         → OnErr result (IsUnlogged known r f passes (begun v SPLIT_RECORD) d e v w)
         → (IsSteady d v.shelf.frames → IfOk result (DidSplitRoot (rules v.most) sides_of (store_of f d.seen v.shelf) (store_of f e.seen w.shelf)))
         → OnOk result (Each (HasOwnNumber e.seen w.shelf) (1 ∷ suc v.shelf.used ∷ suc (suc v.shelf.used) ∷ []))
-        → IfErr result (IsWhy (faults.IsWhy passes d e (begun v SPLIT_RECORD) w.shelf))
-        → (IsSteady d v.shelf.frames → result ≡ Err step.PagesFull → v.shelf.pages < v.shelf.used + 2)
-        → (IsSteady d v.shelf.frames → result ≡ Err step.Damaged → Legal (rules v.most) (tree_of (store_of f d.seen v.shelf))
+        → IfErr result (IsWhyOfSplit (faults.IsWhy passes d e (begun v SPLIT_RECORD) w.shelf))
+        → (IsSteady d v.shelf.frames → result ≡ Err split.PagesFull → v.shelf.pages < v.shelf.used + 2)
+        → (IsSteady d v.shelf.frames → result ≡ Err (split.Step step.Damaged) → Legal (rules v.most) (tree_of (store_of f d.seen v.shelf))
         → v.most ≤ size ((tree_of (store_of f d.seen v.shelf)).node 1) → ((tree_of (store_of f d.seen v.shelf)).node 1).level + 1 < 2 ^ 16 → ⊥)
-        → result ≢ Err step.Memory → RootSplitting known r f passes rules sides_of d e v w result
-    root_splitting (Ok did) logged unlogged split own why full damaged memory = record { logged = logged; split = split; own = own }
-    root_splitting (Err fault) logged unlogged split own why full damaged memory =
-        let result : StepFault StoreFault → Result (RootSplit B) (StepFault StoreFault) = λ x. Err x in
+        → RootSplitting known r f passes rules sides_of d e v w result
+    root_splitting (Ok did) logged unlogged split own why full damaged = record { logged = logged; split = split; own = own }
+    root_splitting (Err fault) logged unlogged split own why full damaged =
+        let result : SplitFault StoreFault → Result (RootSplit B) (SplitFault StoreFault) = λ x. Err x in
         record {
-          stops = record { unlogged = unlogged; why = why; memory = λ is. memory (ap result is) };
+          unlogged = unlogged;
+          why = why;
           full = λ steady is. full steady (ap result is);
           damaged = λ steady is. damaged steady (ap result is);
         }

@@ -19,7 +19,7 @@ use Rattle.gx_recovery.specs.Analysis.{analysis, number_of}
 use Rattle.gx_recovery.specs.Redo.{tree_of}
 use Rattle.gx_recovery.specs.Logged.{Logged, all_records, begun, durable, gate_synced, latest}
 use Rattle.gx_recovery.proofs.States.{tree_agrees}
-use Rattle.gx_engine_laws.specs.Events.{Works, Durable, Fails}
+use Rattle.gx_events.specs.Events.{Works, Durable, Fails}
 use Rattle.gx_index_laws.specs.Classes.{Class, IsLawful, Page, known_of, tree_in}
 use Rattle.gx_index_laws.specs.States as index
 use Rattle.gx_index_laws.specs.Whole.{IsWhole}
@@ -49,7 +49,7 @@ use Rattle.gx_engine.specs.Moves.{left_by}
 use Rattle.gx_engine.specs.States.{Parts}
 use Rattle.gx_engine.specs.Flushing.{log_events, log_outcome, noted}
 use Rattle.gx_engine.specs.Noted.{AreTold}
-use Rattle.gx_engine.specs.Holds.{AreAt, Holds, KnowsFlight, Led, Leads}
+use Rattle.gx_engine.specs.Holds.{AreAt, Holds, KnowsFlight, Leads}
 
 -- the commits up to the last one of a log without a batch in flight are those of its gated records with those that fill
 all_in_flight : {E P : Type 0} (k : Known E P) (s : Logged E P) → s.flight ≡ [] → latest k s ≡ durable k (gate_synced (begun s))

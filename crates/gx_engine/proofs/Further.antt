@@ -14,9 +14,9 @@ use Rattle.gx_node.specs.Reading.{Format}
 use Rattle.gx_tree.specs.declared.look.Look.{Look}
 use Rattle.gx_recovery.specs.Records.{Record}
 use Rattle.gx_recovery.specs.Logged.{Logged}
-use Rattle.gx_engine_laws.specs.Engines.{IsSame}
-use Rattle.gx_engine_laws.specs.Events.{Event, Works}
-use Rattle.gx_engine_laws.proofs.EventRuns.{run_follows}
+use Rattle.gx_events.specs.Engines.{IsSame}
+use Rattle.gx_events.specs.Events.{Event, Works}
+use Rattle.gx_events.proofs.EventRuns.{run_follows}
 use Rattle.gx_index_laws.specs.Classes.{Class, IsLawful, Page, known_of}
 use Rattle.gx_index_laws.specs.Happening.{Happens}
 use Rattle.gx_index_laws.specs.States as index
@@ -26,7 +26,7 @@ use Rattle.gx_durable.specs.Spelled.{Reading}
 use Rattle.gx_durable.specs.Standing.{Stands}
 use Rattle.gx_events.specs.declared.outcome.Outcome.{Outcome}
 use Rattle.gx_events.specs.declared.outcome.Outcome.TheVariants.{Replied, More}
-use Rattle.gx_events.specs.Engines.{IsJust}
+use Rattle.gx_events.specs.Steps.{IsJust}
 use Rattle.gx_phases.specs.declared.phase.Phase.TheVariants as phase
 use Rattle.gx_phases.specs.Moves as moves
 use Rattle.gx_phases.specs.States.{State, IsKept, phase_at, with_phase_of}

@@ -30,7 +30,7 @@ use Rattle.gx_storage.specs.State.{Volume}
 use Rattle.gx_store.specs.declared.fault.StoreFault.{StoreFault}
 use Rattle.gx_store.specs.declared.fault.StoreFault.TheVariants.{NoRoom}
 use Rattle.gx_txn.specs.declared.note.Note.{Note}
-use Rattle.gx_engine_laws.proofs.Places.{is_numbered}
+use Rattle.gx_events.proofs.Places.{is_numbered}
 use Rattle.gx_phases.specs.Moves.{transaction_of}
 use Rattle.gx_phases.specs.States.{State, held_at, phase_at}
 use Rattle.gx_engine.specs.Heads.{IsNextOf, OnlyHead, Puts, PutsAll, PutsHead, PutsTouches, comes_before, is_less, note_record}

@@ -1,5 +1,5 @@
 -- An insert's pair that is added to the leaf to which it has descended, and noted, as an index's event.
-use Rattle.std.proofs.Common.{◌≡◌, ◌≢◌, ◌∙◌, ap, sym, refl, subst, ℕ, ◌-◌, ◌≤◌, ◌<◌, Bool, true, false, List, [], ◌∷◌, length, map, None, arith}
+use Rattle.std.proofs.Common.{◌≡◌, ◌≢◌, ◌∙◌, ap, sym, refl, subst, ℕ, ◌-◌, ◌≤◌, ◌<◌, Bool, true, false, List, [], ◌∷◌, length, map, None, Some, arith}
 use Rattle.gx_machine.specs.declared.entry.Entry.{Entry}
 use Rattle.gx_machine.specs.declared.call.Call.TheVariants.{Insert}
 use Rattle.gx_machine.specs.declared.reply.Reply.TheVariants as reply
@@ -8,17 +8,18 @@ use Rattle.gx_machine.specs.Machine.{is_session}
 use Rattle.gx_disk.specs.Device.{Device}
 use Rattle.gx_page.specs.Contents.{Contents}
 use Rattle.gx_node.specs.Reading.{Format}
-use Rattle.gx_tree_laws.specs.Reach.{TraversalItem}
-use Rattle.gx_tree_laws.specs.Trees.{Used}
+use Rattle.gx_node.specs.Reach.{TraversalItem}
+use Rattle.gx_node.specs.Trees.{Rules, Used}
+use Rattle.gx_node.specs.SmallLaws.{PairsMean}
 use Rattle.gx_node.specs.Store.{tree_of}
 use Rattle.gx_tree.specs.Writing.{Appends}
 use Rattle.gx_recovery.specs.Known.{Known}
 use Rattle.gx_recovery.specs.Analysis.{Analysis, analysis, touching}
 use Rattle.gx_recovery.specs.Logged.{all_records}
-use Rattle.gx_recovery.specs.Records.{Record, Touch, Whole}
+use Rattle.gx_recovery.specs.Records.{Record, Said, Touch}
 use Rattle.gx_recovery.proofs.Folds.{analysis-snoc}
-use Rattle.gx_engine_laws.specs.Events.{Event, Inserts}
-use Rattle.gx_engine_laws.specs.Slots.{Working}
+use Rattle.gx_events.specs.Events.{Event, Inserts}
+use Rattle.gx_events.specs.Slots.{Working}
 use Rattle.gx_index_laws.specs.Classes.{Class, IsLawful, Page, known_of}
 use Rattle.gx_index_laws.specs.Happening as happening
 use Rattle.gx_index_laws.specs.Happening.{slotted, with_record}
@@ -27,7 +28,7 @@ use Rattle.gx_index_laws.specs.Whole.{IsWhole, is_busy}
 use Rattle.gx_index_laws.proofs.Standing.{grown, known_lawful, tells}
 use Rattle.gx_index_laws.proofs.Tools.{changed_beside}
 use Rattle.gx_durable.specs.Spelled.{Reading}
-use Rattle.gx_readings.specs.Classes.{reading_of}
+use Rattle.gx_durable.specs.Classes.{reading_of}
 use Rattle.gx_events.specs.declared.outcome.Outcome.{Outcome}
 use Rattle.gx_events.specs.declared.outcome.Outcome.TheVariants.{Replied}
 use Rattle.gx_txn.specs.declared.note.Note.{Note}
@@ -39,14 +40,20 @@ use Rattle.gx_phases.specs.Moves.{transaction_of, written_state}
 use Rattle.gx_phases.specs.States.{State, IsKept, held_at, note_of, phase_at}
 use Rattle.gx_phases.proofs.Keeping.{low}
 use Rattle.gx_phases.proofs.Noting.{noting_notes}
+use Rattle.gx_class.specs.declared.class.TheConstants.{MAX_KEY}
+use Rattle.gx_record.specs.declared.sizes.TheConstants.{SPLIT_RECORD}
 use Rattle.gx_store.specs.Standing.{store_of}
 use Rattle.gx_store.specs.State.{IsSteady}
-use Rattle.gx_storage.specs.Changes.{image_at, write_of}
-use Rattle.gx_storage.specs.Keeps.{KeepsWith}
+use Rattle.gx_storage.specs.Imaged.{is_imaged}
+use Rattle.gx_storage.specs.Keeps.{KeepsWith, StaysWith}
 use Rattle.gx_storage.specs.Numbers.{HasOwnNumber}
+use Rattle.gx_storage.specs.Small.{IsSpelled, add_room, add_said}
 use Rattle.gx_storage.specs.State.{Volume}
-use Rattle.gx_storage.proofs.Adding.{inserted}
+use Rattle.gx_storage.proofs.Adding.{absent, inserted}
 use Rattle.gx_storage.proofs.Descending.{shown_descent}
+use Rattle.gx_storage.proofs.Recording.{AreNodes}
+use Rattle.gx_storage.proofs.SmallAdds.{add_is_said, add_read, add_told}
+use Rattle.gx_storage.proofs.Stepping.{shown_legal, stood}
 use Rattle.gx_engine.specs.declared.work.Work.{Work}
 use Rattle.gx_engine.specs.declared.work.Work.TheVariants.{Descends}
 use Rattle.gx_engine.specs.Holds.{Sits}
@@ -135,9 +142,12 @@ module _ {B D : Type 0} (c : Class B) (lawful : 4 ≤ c.rules.most → IsLawful 
   pub added_moves : (IsSteady d old.volume.shelf.frames → ((tree_of (store_of f d.seen old.volume.shelf)).node item.page).nsn ≤ item.seen)
       → (IsSteady d old.volume.shelf.frames → Appends old.volume.most (tree_of (store_of f d.seen old.volume.shelf)) (tree_of (store_of f e.seen w.shelf)) item.page entry)
       → (t : ℕ) → t ≡ transaction_of s old.sessions → (spelling : B → List ℕ) → said (spelling entry.key) ≡ entry.key → c.is_key entry.key ≡ true
-      → KeepsWith (known_of c) r f passes d e old.volume w (write_of spelling t entry.row entry.key true false item.page e.seen w.shelf) → HasOwnNumber e.seen w.shelf item.page
+      → AreNodes f passes old.volume.shelf → (rules : ℕ → Rules B) → rules c.rules.most ≡ c.rules → PairsMean f (rules old.volume.most)
+      → IsSpelled spelling entry.row entry.key → f.reading (spelling entry.key) ≡ Some entry.key
+      → KeepsWith (known_of c) r f passes d e old.volume w (add_said spelling (is_imaged old.volume.imaged item.page) t entry.row entry.key item.page e.seen w.shelf)
+      → HasOwnNumber e.seen w.shelf item.page
       → Moves c r f passes d e s old (record old { volume = w; sessions = written_state c.keys s note old.sessions }) (Replied reply.Inserted) (Inserts s entry ∷ [])
-  added_moves calm adds t its spelling back of_class keeps own bodies i h =
+  added_moves calm adds t its spelling back of_class nodes rules its_rules means spelled reads keeps own bodies i h =
       let l = lawful h.some in
       let held = held_at (s - 1) old.sessions.table in
       let slot = slot_now c l r f passes d old kept s is (Insert entry) (Descends parent item) at bodies i h in
@@ -147,9 +157,21 @@ module _ {B D : Type 0} (c : Class B) (lawful : 4 ≤ c.rules.most → IsLawful 
       let notes : List (Note B) = noting c.keys note held.notes in
       let appends = subst (λ m. Appends m (tree_of (store_of f d.seen old.volume.shelf)) (tree_of (store_of f e.seen w.shelf)) item.page entry) h.most (adds h.keeps.steady) in
       let with_note = noting_notes c.keys l.keys note held.notes (kept.placed (s - 1) (low c.keys old.sessions kept s is)).in_order in
+      let small = is_imaged old.volume.imaged item.page in
+      let told : Said (Page B) = add_told spelling f small entry item.page e.seen w.shelf in
+      let there = (shown_descent c l said f passes d e old.volume w bodies i h.whole s entry parent item work held.locks (map note_of held.notes) (Insert entry) slot h.keeps).there in
+      let high : item.page ≤ old.volume.shelf.used =
+      (let many = stood c l said f passes d e old.volume w bodies i h.whole h.keeps in let in_use = there.1 in omega (arith, many, in_use)) in
+      let is_said = add_is_said (known_of c) said f passes d old.volume bodies i.log h.keeps nodes item.page there (let some = there.0 in omega (arith, some)) high
+      c.rules (subst (λ (x : Rules B). PairsMean f x) (ap rules h.most ∙ its_rules) means)
+      (shown_legal c l said f passes d e old.volume w bodies i h.whole h.keeps) appends.leaf spelling entry e.seen w.shelf spelled.row_fits
+      (record { are = spelled.key_bytes; read = reads })
+      (absent c l said f passes d e old.volume w bodies i h.whole s entry parent item work held.locks (map note_of held.notes) slot h.keeps) appends.room own in
+      let x : Record (Entry B) (Page B) = happening.write_of i s entry true false item.page told in
+      let written = subst (λ (y : Record (Entry B) (Page B)). StaysWith (known_of c) r f passes d e w bodies i.log y)
+      (add_read said spelling f small t (i.transaction s) entry item.page e.seen w.shelf number back) after in
       let done = inserted c l said f passes d e old.volume w bodies i h.whole s entry parent item work held.locks (map note_of held.notes) slot h.keeps (calm h.keeps.steady) appends
-      t number spelling back after (h.sessions.failed ∙ works) of_class own (map note_of notes) with_note in
-      let x : Record (Entry B) (Page B) = happening.write_of i s entry true false item.page (Whole (r.content (image_at e.seen w.shelf item.page))) in
+      told is_said written (h.sessions.failed ∙ works) of_class (map note_of notes) with_note in
       let j : index.State B = slotted s (Working held.locks (map note_of notes) None) index.Rests (with_record x i) in
       let touched : (analysis (known_of c) (all_records j.log)).touched ≡ touching (known_of c) (touch_by (i.transaction s) note) (analysis (known_of c) (all_records i.log)).touched =
       ap (λ (a : Analysis (Entry B)). a.touched)
@@ -162,6 +184,11 @@ module _ {B D : Type 0} (c : Class B) (lawful : 4 ≤ c.rules.most → IsLawful 
             refl refl refl refl refl refl refl touched) refl (λ go. go);
         lowers = tt;
       }
+
+-- the record of an added pair is no longer than a split's
+pub add_is_short : (small : Bool) (key : ℕ) → key ≤ MAX_KEY → add_room small key ≤ SPLIT_RECORD
+add_is_short true key short = omega (arith, short)
+add_is_short false key short = omega (arith, short)
 
 -- A pair was added and noted.
 module _ {B D : Type 0} (s : ℕ) (entry : Entry B) (k : Keys B) (leaf : ℕ) (old mid new : Parts B D) (only : mid ≡ record old { volume = mid.volume })

@@ -1,11 +1,9 @@
 -- What each event came to, as events of an engine: the step that joins them.
-use Rattle.std.proofs.Common.{◌≡◌, ◌≢◌, ◌∙◌, sym, ap, refl, subst, inl, inr, ℕ, ◌-◌, Bool, true, false, ◌&&◌, Some, None, List, [], ◌∷◌}
+use Rattle.std.proofs.Common.{◌≡◌, sym, refl, subst, inl, inr, ℕ, ◌-◌, Bool, true, false, ◌&&◌, List, [], ◌∷◌}
 use Rattle.std.specs.Prelude.{Result, Ok, Err}
 use Rattle.std.proofs.lemmas.Bool.{and_parts}
 use Rattle.gx_geom.specs.declared.refusal.Refusal.{Refusal}
 use Rattle.gx_geom.specs.declared.refusal.Refusal.TheVariants as refusal
-use Rattle.gx_machine.specs.declared.entry.Entry.{Entry}
-use Rattle.gx_machine.specs.declared.query.Query.{Query}
 use Rattle.gx_machine.specs.declared.call.Call.{Call}
 use Rattle.gx_machine.specs.declared.call.Call.TheVariants.{Begin, Insert, Delete, Search, Commit, Abort}
 use Rattle.gx_machine.specs.declared.reply.Reply.TheVariants as reply
@@ -16,13 +14,12 @@ use Rattle.gx_machine.specs.Machine.{is_session}
 use Rattle.gx_disk.specs.Device.{Device}
 use Rattle.gx_glog.specs.declared.stage.Stage.{Stage}
 use Rattle.gx_glog.specs.declared.stage.Stage.TheVariants.{Body, BodySync, Gate, GateSync, Idle}
-use Rattle.gx_engine_laws.specs.Engines.{Engine}
-use Rattle.gx_engine_laws.specs.Events as laws
-use Rattle.gx_events.specs.declared.outcome.Need.{Need}
+use Rattle.gx_events.specs.Engines.{Engine}
+use Rattle.gx_events.specs.Events as laws
 use Rattle.gx_events.specs.declared.outcome.Need.TheVariants as need
 use Rattle.gx_events.specs.declared.outcome.Outcome.{Outcome}
 use Rattle.gx_events.specs.declared.outcome.Outcome.TheVariants.{Replied, More, Help, Nothing, Refused}
-use Rattle.gx_events.specs.Engines.{IsAsk, IsMove, IsSync, IsWork}
+use Rattle.gx_events.specs.Steps.{IsAsk, IsMove, IsSync, IsWork}
 use Rattle.gx_phases.specs.Asked.{AskedAt, AskedBy, Begun, IsAsked, asked_event, begins, event_by, finds_full, is_full}
 use Rattle.gx_phases.specs.declared.phase.Phase.{Phase}
 use Rattle.gx_phases.specs.declared.phase.Phase.TheVariants as phase
@@ -30,10 +27,9 @@ use Rattle.gx_phases.specs.States.{State, phase_at}
 use Rattle.gx_engine.specs.declared.work.Work.{Work}
 use Rattle.gx_engine.specs.declared.work.Work.TheVariants.{Rests}
 use Rattle.gx_engine.specs.Asks.{outcome_of}
-use Rattle.gx_engine.specs.Flushing.{LogComes, LogSteps, PageComes, PageIsWritten, log_events, log_outcome, page_events, page_outcome}
-use Rattle.gx_engine.specs.Commits as sealing
+use Rattle.gx_engine.specs.Flushing.{LogComes, LogSteps, PageComes, PageIsWritten, log_events, log_outcome, page_events}
 use Rattle.gx_engine.specs.Commits.{AcknowledgeBy, AcknowledgeComes, AreSealing, SealComes, acknowledge_events}
-use Rattle.gx_engine.specs.States.{Parts, runs}
+use Rattle.gx_engine.specs.States.{Parts}
 
 -- An ask.
 module _ {B : Type 0} (k : Keys B) (s : ℕ) (call : Call B) (old new : State B (Work B)) (given : Given B) where

@@ -13,6 +13,7 @@ pub mod Restored
 pub mod Undoing
 pub mod Growing
 pub mod Brought
+pub mod SweepRoom
 pub mod Sweeping
 pub mod Marking
 pub mod Touched

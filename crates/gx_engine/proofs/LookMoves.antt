@@ -15,10 +15,10 @@ use Rattle.gx_disk.proofs.Leaving.{nothing_leaves}
 use Rattle.gx_disk.specs.declared.layout.TheConstants.{MAX_PAGES}
 use Rattle.gx_page.specs.Contents.{Contents}
 use Rattle.gx_node.specs.Reading.{Format}
-use Rattle.gx_tree_laws.specs.Trees.{Pair, Tree}
-use Rattle.gx_tree_laws.specs.Reach.{TraversalItem}
-use Rattle.gx_tree_laws.specs.Looks.{IsLook, from_root}
-use Rattle.gx_tree_laws.proofs.OwnLook.{look_begins}
+use Rattle.gx_node.specs.Trees.{Pair, Tree}
+use Rattle.gx_node.specs.Reach.{TraversalItem}
+use Rattle.gx_node.specs.Looks.{IsLook, from_root}
+use Rattle.gx_node.proofs.OwnLook.{look_begins}
 use Rattle.gx_tree.specs.declared.found.Found.{Found}
 use Rattle.gx_tree.specs.declared.look.Look.{Look}
 use Rattle.gx_tree.specs.Found.{pairs_found}
@@ -27,9 +27,9 @@ use Rattle.gx_recovery.specs.Records.{Record}
 use Rattle.gx_recovery.specs.Analysis.{analysis}
 use Rattle.gx_recovery.specs.Logged.{Logged, all_records}
 use Rattle.gx_recovery.specs.Logged as logged
-use Rattle.gx_engine_laws.specs.Slots.{Slot, Working, slot_at, with_slot, is_unanswered}
-use Rattle.gx_engine_laws.specs.Slots as slots
-use Rattle.gx_engine_laws.specs.Events.{Event, Works, Closes, RefusesCall}
+use Rattle.gx_events.specs.Slots.{Slot, Working, slot_at, with_slot, is_unanswered}
+use Rattle.gx_events.specs.Slots as slots
+use Rattle.gx_events.specs.Events.{Event, Works, Closes, RefusesCall}
 use Rattle.gx_index_laws.specs.Classes.{Class, IsLawful, Page, known_of}
 use Rattle.gx_index_laws.specs.Measures.{work_left}
 use Rattle.gx_index_laws.specs.States as index

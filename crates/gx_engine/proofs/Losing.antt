@@ -1,13 +1,13 @@
 -- Transactions that a crash cut off, each held with a session: one touch more.
-use Rattle.std.proofs.Common.{◌≡◌, ℕ, zero, suc, ◌+◌, ◌-◌, ◌<◌, ◌≤◌, Bool, true, false, not, ◌&&◌, ◌||◌, ◌⊎◌, inl, inr, cond, Option, Some, None, List, [], ◌∷◌, ◌++◌, length, map, refl, ap, sym, ◌∙◌, subst, arith, append_assoc, append-nil}
-use Rattle.std.specs.Prelude.{◌==◌, if◌then◌else◌, slice_set, filter}
-use Rattle.std.specs.List.{list_any, slice_index_or, AllByRecursion}
+use Rattle.std.proofs.Common.{◌≡◌, ℕ, zero, suc, ◌+◌, ◌<◌, ◌≤◌, Bool, true, false, ◌||◌, inl, inr, cond, Option, Some, None, List, [], ◌∷◌, ◌++◌, length, refl, ap, sym, ◌∙◌, subst, arith, append_assoc, append-nil}
+use Rattle.std.specs.Prelude.{◌==◌, if◌then◌else◌, slice_set}
+use Rattle.std.specs.List.{slice_index_or}
 use Rattle.std.proofs.lemmas.Bool.{eqb-true, eq-eqb, ne_eqb, or_parts, or_from}
 use Rattle.std.proofs.lemmas.List.{length-append}
 use Rattle.gx_recovery.specs.Records.{Touch}
-use Rattle.gx_recovery.proofs.Tests.{true_or_false, either_of, or_second, itself, clash}
+use Rattle.gx_recovery.proofs.Tests.{true_or_false, or_second, itself, clash}
 use Rattle.gx_index_laws.specs.Openings.{numbers_of, listed_for}
-use Rattle.gx_index_laws.proofs.Numbered.{or_first, is_in, touches, in_touching, touching_in, Distinct, numbers_distinct, listed_at, listed_there}
+use Rattle.gx_index_laws.proofs.Numbered.{or_first, is_in, touches, in_touching, Distinct, numbers_distinct, listed_at, listed_there}
 use Rattle.gx_engine.specs.Noted.{touched_by}
 
 -- the transaction of the last of these touches

@@ -1,5 +1,5 @@
 -- Transactions that a crash cut off, each held with a session: what the sessions have in the end, and what an undamaged log tells.
-use Rattle.std.proofs.Common.{◌≡◌, ℕ, zero, suc, ◌+◌, ◌-◌, ◌<◌, ◌≤◌, Bool, true, false, not, ◌&&◌, ◌||◌, ◌⊎◌, inl, inr, cond, List, [], ◌∷◌, length, map, refl, ap, sym, ◌∙◌, subst, arith}
+use Rattle.std.proofs.Common.{◌≡◌, ℕ, zero, suc, ◌-◌, ◌<◌, ◌≤◌, Bool, true, false, not, ◌&&◌, ◌||◌, inl, inr, cond, List, [], ◌∷◌, length, map, refl, ap, sym, ◌∙◌, arith}
 use Rattle.std.specs.Prelude.{◌==◌, nat_le}
 use Rattle.std.specs.List.{slice_index_or, list_all, AllByRecursion}
 use Rattle.std.specs.Ordering.{nat_cmp, ordering_then}
@@ -7,13 +7,12 @@ use Rattle.std.specs.Cmp.{nat_cmp_is}
 use Rattle.std.specs.declared.cmp.Ordering.TheVariants.{Less, Equal, Greater}
 use Rattle.std.proofs.lemmas.Bool.{cases_order, eqb-true, leb-true}
 use Rattle.gx_machine.specs.declared.entry.Entry.{Entry}
-use Rattle.gx_machine.specs.Keys.{Keys, entry_cmp, same_entry}
-use Rattle.gx_machine.specs.Machine.{is_session}
-use Rattle.gx_engine_laws.specs.Slots as slots
-use Rattle.gx_engine_laws.specs.Slots.{Slot}
-use Rattle.gx_engine_laws.specs.Losers.{loser_slot}
-use Rattle.gx_engine_laws.proofs.Places.{is_numbered}
-use Rattle.gx_engine_laws.proofs.Sees.{same_turned}
+use Rattle.gx_machine.specs.Keys.{Keys}
+use Rattle.gx_events.specs.Slots as slots
+use Rattle.gx_events.specs.Slots.{Slot}
+use Rattle.gx_events.specs.Losers.{loser_slot}
+use Rattle.gx_events.proofs.Places.{is_numbered}
+use Rattle.gx_events.proofs.Sees.{same_turned}
 use Rattle.gx_recovery.specs.Known.{Known, same}
 use Rattle.gx_recovery.specs.Records.{Record, Touch}
 use Rattle.gx_recovery.specs.Analysis.{analysis, touch_cmp}
@@ -28,15 +27,13 @@ use Rattle.gx_index_laws.specs.Openings as openings
 use Rattle.gx_index_laws.specs.Openings.{losers_of, listed_for, notes_for, numbers_of}
 use Rattle.gx_index_laws.proofs.Numbered.{or_first, is_in, touches, in_touching, touching_in, IsAt, placed_in, in_placed, listed_at, listed_there, numbers_counted}
 use Rattle.gx_index_laws.proofs.Standing.{known_lawful}
-use Rattle.gx_txn.specs.declared.note.Note as txn
 use Rattle.gx_txn.specs.Tables.{Held}
-use Rattle.gx_phases.specs.declared.phase.Phase.{Phase}
 use Rattle.gx_phases.specs.Moves.{transaction_of}
 use Rattle.gx_phases.specs.States as phases
 use Rattle.gx_phases.specs.States.{State, held_at, phase_at, slot_of, slots_of}
 use Rattle.gx_engine.specs.declared.work.Work.{Work}
 use Rattle.gx_engine.specs.Losing.{AreCutOff, AreHeld, ComesBefore, ComeInOrder}
-use Rattle.gx_engine.specs.Noted.{AreFrom, AreInTurn, AreNoted, AreTold, HasIt, has_transaction, touch_by, touched_by}
+use Rattle.gx_engine.specs.Noted.{AreFrom, AreInTurn, AreTold, HasIt, has_transaction, touch_by, touched_by}
 use Rattle.gx_engine.proofs.Losing.{groups_of}
 use Rattle.gx_engine.proofs.LosingStates.{entry_in, held_for, index_map, low_number, note_in, number_for, phase_for, taken_up}
 

@@ -1,5 +1,5 @@
 -- Transactions that a crash cut off, each held with a session: what the sessions then have.
-use Rattle.std.proofs.Common.{◌≡◌, ℕ, zero, suc, ◌+◌, ◌-◌, ◌<◌, ◌≤◌, Bool, true, false, not, ◌&&◌, ◌||◌, ◌⊎◌, inl, inr, cond, Option, Some, None, Result, Ok, Err, List, [], ◌∷◌, ◌++◌, length, map, replicate, refl, ap, sym, ◌∙◌, subst, arith}
+use Rattle.std.proofs.Common.{◌≡◌, ℕ, zero, suc, ◌+◌, ◌-◌, ◌<◌, ◌≤◌, Bool, true, false, not, ◌&&◌, ◌||◌, inl, inr, cond, Option, Some, None, Result, Ok, Err, List, [], ◌∷◌, ◌++◌, length, map, replicate, refl, ap, sym, ◌∙◌, subst, arith}
 use Rattle.std.specs.Prelude.{◌==◌, if◌then◌else◌, nat_lt, slice_set, sum_by, IsOk}
 use Rattle.std.specs.List.{slice_index_or, AllByRecursion}
 use Rattle.std.specs.Ordering.{match_ordering, is_eq}
@@ -16,14 +16,14 @@ use Rattle.gx_machine.specs.Sets.{has, including}
 use Rattle.gx_machine.specs.Sessions.{Locks, conflicts, unless_busy, with_claim}
 use Rattle.gx_machine.specs.Least.{least_barring}
 use Rattle.gx_machine.proofs.Searched.{turned}
-use Rattle.gx_tree_laws.specs.Lists.{sum_over}
+use Rattle.gx_node.specs.Lists.{sum_over}
 use Rattle.gx_recovery.specs.Records.{Touch}
 use Rattle.gx_recovery.proofs.Tests.{true_or_false, clash}
 use Rattle.gx_index_laws.specs.Openings.{numbers_of, listed_for}
 use Rattle.gx_index_laws.proofs.Numbered.{touches, numbers_distinct, listed_sum, touched_by_each}
 use Rattle.gx_txn.specs.declared.note.Note as txn
 use Rattle.gx_txn.specs.Notes.{noting}
-use Rattle.gx_txn.specs.Tables.{Held, nothing_held, held_by, claims_in, locks_for, with_locks, with_notes}
+use Rattle.gx_txn.specs.Tables.{Held, held_by, claims_in, locks_for, with_locks, with_notes}
 use Rattle.gx_phases.specs.declared.phase.Phase.{Phase}
 use Rattle.gx_phases.specs.declared.phase.Phase.TheVariants as phase
 use Rattle.gx_phases.specs.Moves.{TakesUp, may_lose}

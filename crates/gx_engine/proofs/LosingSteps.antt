@@ -1,5 +1,5 @@
 -- Transactions that a crash cut off, each held with a session: one note more, and all.
-use Rattle.std.proofs.Common.{◌≡◌, ℕ, suc, ◌+◌, ◌-◌, ◌<◌, ◌≤◌, true, false, Option, Some, None, Result, Ok, Err, List, [], ◌∷◌, ◌++◌, length, map, take, drop, get_or, refl, ap, sym, ◌∙◌, subst, arith, take-append-drop}
+use Rattle.std.proofs.Common.{◌≡◌, ℕ, suc, ◌+◌, ◌-◌, ◌<◌, ◌≤◌, true, false, Option, Some, None, Result, Err, List, [], ◌∷◌, ◌++◌, length, map, take, drop, get_or, ap, sym, ◌∙◌, subst, arith, take-append-drop}
 use Rattle.std.specs.Prelude.{◌==◌, if◌then◌else◌, IfSome, IsOk}
 use Rattle.std.specs.List.{AllByRecursion}
 use Rattle.std.proofs.lemmas.List.{length-append, map-append, map_push, take_more}
@@ -8,7 +8,7 @@ use Rattle.gx_machine.specs.declared.call.Call.TheVariants.{Insert}
 use Rattle.gx_machine.specs.declared.entry.Entry.{Entry}
 use Rattle.gx_machine.specs.Keys.{Keys, IsLawful}
 use Rattle.gx_machine.specs.Machine.{is_session}
-use Rattle.gx_engine_laws.proofs.Places.{is_numbered}
+use Rattle.gx_events.proofs.Places.{is_numbered}
 use Rattle.gx_recovery.specs.Records.{Touch}
 use Rattle.gx_index_laws.specs.Openings.{numbers_of}
 use Rattle.gx_txn.specs.Tables.{locks_for}

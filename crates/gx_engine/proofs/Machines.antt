@@ -1,9 +1,7 @@
 -- What happens to an index, as the set machine that its engine is seen as.
-use Rattle.std.proofs.Common.{◌≡◌, ap, List, [], ◌∷◌}
-use Rattle.gx_machine.specs.Machine.{Machine}
-use Rattle.gx_engine_laws.specs.Engines.{Engine, SeenAs}
-use Rattle.gx_engine_laws.specs.Events as laws
-use Rattle.gx_engine_laws.specs.Runs.{AreEvents}
+use Rattle.std.proofs.Common.{ap, List, [], ◌∷◌}
+use Rattle.gx_events.specs.Events as laws
+use Rattle.gx_events.specs.Runs.{AreEvents}
 use Rattle.gx_index_laws.specs.Classes.{Class, IsLawful}
 use Rattle.gx_index_laws.specs.Happening.{AreHappening}
 use Rattle.gx_index_laws.specs.States as index
@@ -11,8 +9,8 @@ use Rattle.gx_index_laws.specs.States.{engine_of}
 use Rattle.gx_index_laws.specs.Whole.{IsWhole}
 use Rattle.gx_events.specs.declared.event.Event.{Event}
 use Rattle.gx_events.specs.declared.outcome.Outcome.{Outcome}
-use Rattle.gx_events.specs.Engines.{AreOf, Leads}
-use Rattle.gx_events.proofs.Engines.{happens}
+use Rattle.gx_events.specs.Steps.{AreOf, Leads}
+use Rattle.gx_events.proofs.Steps.{happens}
 
 module _ {B : Type 0} (c : Class B) (l : IsLawful c) where
   -- events of an index are its engine's

@@ -1,5 +1,5 @@
 -- A descent makes room: its full leaf is swept, or its node is split.
-use Rattle.std.proofs.Common.{◌≡◌, ◌≢◌, ne_eqb, if◌then◌else◌, ◌∙◌, ap, sym, refl, subst, inl, inr, ◌⊎◌, ℕ, suc, ◌+◌, ◌-◌, ◌^◌, ◌<◌, ◌≤◌, Bool, true, false, Option, None, Some, Ok, List, [], ◌∷◌, length, map, arith}
+use Rattle.std.proofs.Common.{◌≡◌, ◌≢◌, ne_eqb, if◌then◌else◌, ◌∙◌, ap, sym, refl, subst, inl, inr, ℕ, suc, ◌+◌, ◌-◌, ◌^◌, ◌<◌, ◌≤◌, Bool, true, false, Option, None, Some, Ok, List, [], ◌∷◌, length, map, arith}
 use Rattle.std.proofs.lemmas.List.{set-get_or}
 use Rattle.gx_geom.specs.declared.refusal.Refusal.{Refusal}
 use Rattle.gx_geom.specs.declared.refusal.Refusal.TheVariants as refusal
@@ -9,36 +9,37 @@ use Rattle.gx_machine.specs.declared.entry.Entry.{Entry}
 use Rattle.gx_machine.specs.declared.reply.Reply.TheVariants.{Refused as RefusedCall}
 use Rattle.gx_machine.specs.Keys.{Keys, Members, keys_of}
 use Rattle.gx_machine.specs.Machine.{is_session}
+use Rattle.gx_class.specs.declared.class.TheConstants.{MAX_KEY}
 use Rattle.gx_disk.specs.Device.{Device}
 use Rattle.gx_disk.specs.declared.layout.TheConstants.{MAX_PAGES}
 use Rattle.gx_page.specs.Contents.{Contents}
 use Rattle.gx_pool.specs.Bringing.{OnlyRead}
 use Rattle.gx_node.specs.Reading.{Format}
+use Rattle.gx_node.specs.SmallLaws.{RemovalsMean}
 use Rattle.gx_node.specs.declared.items.TheConstants.{MAX_ENTRIES}
-use Rattle.gx_tree_laws.specs.Legal.{Legal}
-use Rattle.gx_tree_laws.specs.Lists.{Each}
-use Rattle.gx_tree_laws.specs.Reach.{TraversalItem}
-use Rattle.gx_tree_laws.specs.Trees.{Pair, Rules, Used, size}
-use Rattle.gx_tree_laws.proofs.Levels.{root_below_used}
+use Rattle.gx_node.specs.Legal.{Legal}
+use Rattle.gx_node.specs.Lists.{Each}
+use Rattle.gx_node.specs.Reach.{TraversalItem}
+use Rattle.gx_node.specs.Trees.{Pair, Rules, Used, size}
+use Rattle.gx_node.proofs.Levels.{root_below_used}
 use Rattle.gx_tree.specs.declared.split.Split.{Split}
 use Rattle.gx_tree.specs.declared.split_root.RootSplit.{RootSplit}
 use Rattle.gx_tree.specs.Splitting.{DidSplit, DidSplitRoot, HasNoPlace}
 use Rattle.gx_node.specs.Store.{tree_of}
 use Rattle.gx_tree.specs.Writing.{Swept}
-use Rattle.gx_glog.specs.State.{Log}
 use Rattle.gx_node.specs.Keyed.{rules_of}
 use Rattle.gx_recovery.specs.Known.{Limits}
 use Rattle.gx_recovery.specs.Records.{Record}
-use Rattle.gx_engine_laws.specs.Events.{Closes, Event, Works}
-use Rattle.gx_engine_laws.specs.Slots.{Working, slot_at}
-use Rattle.gx_engine_laws.specs.Wants.{is_claimed}
+use Rattle.gx_events.specs.Events.{Closes, Event, Works}
+use Rattle.gx_events.specs.Slots.{Working, slot_at}
+use Rattle.gx_events.specs.Wants.{is_claimed}
 use Rattle.gx_index_laws.specs.Classes.{Class, IsLawful, Page, known_of}
 use Rattle.gx_index_laws.specs.Happening.{with_record}
 use Rattle.gx_index_laws.specs.States as index
 use Rattle.gx_index_laws.proofs.Answering.{closed}
 use Rattle.gx_index_laws.proofs.Standing.{known_lawful}
 use Rattle.gx_durable.specs.Spelled.{Reading, record_read}
-use Rattle.gx_readings.specs.Classes.{class_of, known_at, reading_of}
+use Rattle.gx_durable.specs.Classes.{class_of, known_at, reading_of}
 use Rattle.gx_events.specs.declared.outcome.Outcome.{Outcome}
 use Rattle.gx_events.specs.declared.outcome.Outcome.TheVariants.{More, Replied, Help}
 use Rattle.gx_txn.specs.Tables.{Held}
@@ -48,15 +49,17 @@ use Rattle.gx_phases.specs.Moves.{answered_state}
 use Rattle.gx_phases.specs.States.{State, IsKept, held_at, note_of, phase_at, with_phase_of}
 use Rattle.gx_store.specs.Standing.{store_of}
 use Rattle.gx_store.specs.State.{IsSteady}
-use Rattle.gx_record.specs.declared.sizes.TheConstants.{PAGE_RECORD, SPLIT_RECORD}
-use Rattle.gx_record.specs.Writing.{write_record}
-use Rattle.gx_storage.specs.Changes.{page_given}
+use Rattle.gx_record.specs.declared.sizes.TheConstants.{SPLIT_RECORD}
 use Rattle.gx_storage.specs.Giving.{pages_given, rising}
+use Rattle.gx_storage.specs.Imaged.{is_imaged}
 use Rattle.gx_storage.specs.Keeps.{KeepsTheSame, KeepsWith}
 use Rattle.gx_storage.specs.Numbers.{HasOwnNumber}
+use Rattle.gx_storage.specs.Small.{add_room, widen_room}
 use Rattle.gx_storage.specs.State.{Volume}
 use Rattle.gx_storage.proofs.Descending.{GoesTo, shown_descent}
 use Rattle.gx_storage.proofs.LeafSweeps.{sweep_lowers, sweep_works}
+use Rattle.gx_storage.proofs.Recording.{AreNodes}
+use Rattle.gx_storage.proofs.SmallSweeps.{swept_fits, sweep_quiet}
 use Rattle.gx_storage.proofs.SoundSplits.{no_place, root_split_to, root_split_works, split_is_sound, split_to, split_works}
 use Rattle.gx_storage.proofs.Stepping.{shown_legal, stood, used_few}
 use Rattle.gx_engine.specs.declared.work.Work.{Work}
@@ -65,8 +68,8 @@ use Rattle.gx_engine.specs.Descents.{HasSplitRoot, Splitting}
 use Rattle.gx_engine.specs.Holds.{Holds}
 use Rattle.gx_engine.specs.Moves.{Moves, calling}
 use Rattle.gx_engine.specs.States.{Parts, is_due}
-use Rattle.gx_engine.specs.Sweeping.{is_held}
-use Rattle.gx_engine.specs.Writes.{AsksRoom, HasPlace, IsFull, LacksPages, LeftFew, WriteBy, pages_split}
+use Rattle.gx_engine.specs.Sweeping.{AreTaken, is_held, slots_said}
+use Rattle.gx_engine.specs.Writes.{AsksHere, AsksRoom, HasPlace, IsFull, LacksPages, LeftFew, WriteBy, pages_split}
 use Rattle.gx_engine.proofs.Brought.{as_brought}
 use Rattle.gx_engine.proofs.Claimed.{claimed_alike}
 use Rattle.gx_engine.proofs.Descents.{logged_on, logged_yet, quiet_moves}
@@ -137,21 +140,24 @@ module _ {B D : Type 0} (c : Class B) (lawful : 4 ≤ c.rules.most → IsLawful 
     legal = shown_legal c l said f passes d e v w bodies i h.whole h.keeps
 
   -- its leaf was swept
-  pub swept_moves : FliesOn v.log w.log → (IsSteady d v.shelf.frames → Swept (is_held c.keys old) (store_of f d.seen v.shelf) (store_of f e.seen w.shelf) item.page true)
-      → HasOwnNumber e.seen w.shelf item.page → KeepsWith (known_of c) r f passes d e v w (page_given item.page e.seen w.shelf)
+  pub swept_moves : AreNodes f passes v.shelf → RemovalsMean f → (slots : List ℕ) → AreTaken (is_held c.keys old) f d v item.page slots → FliesOn v.log w.log → (IsSteady d v.shelf.frames → Swept (is_held c.keys old) (store_of f d.seen v.shelf) (store_of f e.seen w.shelf) item.page true)
+      → HasOwnNumber e.seen w.shelf item.page → KeepsWith (known_of c) r f passes d e v w (slots_said v item.page slots e w)
       → Moves c r f passes d e s old (record old { volume = w }) More (Works ∷ [])
-  swept_moves flies swept own keeps bodies i h =
+  swept_moves nodes means slots taken flies swept own keeps bodies i h =
       let l = lawful h.some in
       let its = held bodies i h in
       let after = keeps bodies i.log (known_lawful c l) h.keeps in
       let test : Entry B → Bool = is_held c.keys old in
       let claims : (x : Entry B) → test x ≡ is_claimed c.keys x i.slots = claimed_alike c.keys old.sessions i kept h.sessions in
+      let small = is_imaged v.imaged item.page in
+      let fits = λ (bit : small ≡ true). swept_fits (known_of c) said f passes d v bodies i.log h.keeps nodes means item.page test slots (store_of f e.seen w.shelf) (taken h.keeps.steady)
+      (swept h.keeps.steady) bit in
       logged_yet c l r f passes d e old kept s is call (Descends parent item) at bodies i h (is_calm old.checkpoint (not_due old early).0) w most flies after.leaves
-      (record_read r (page_given item.page e.seen w.shelf)) (λ a. refl)
+      (record_read r (slots_said v item.page slots e w)) (sweep_quiet (known_of c) said f small item.page slots e.seen w.shelf)
       (sweep_works c l said f passes d e v w bodies i h.whole s entry parent item (work bodies i h) its.locks (map note_of its.notes) call (slot bodies i h) h.keeps test claims
-      (swept h.keeps.steady) own after)
+      (swept h.keeps.steady) own small slots after fits)
       (sweep_lowers c l said f passes d e v w bodies i h.whole s entry parent item (work bodies i h) its.locks (map note_of its.notes) call (slot bodies i h) h.keeps test claims
-      (swept h.keeps.steady) own after)
+      (swept h.keeps.steady) own small slots after fits)
 
   -- no leaf has more pairs than fit
   pub never_swept : v.most ≤ MAX_ENTRIES → (IsSteady d v.shelf.frames → ((tree_of (store_of f d.seen v.shelf)).node item.page).level ≡ 0)
@@ -300,22 +306,36 @@ module _ {B D : Type 0} (k : Keys B) (passes : ℕ → Contents → Bool) (d e :
   comes_more (Help n) comes = ((comes.0.0, asks comes.0.0 comes.0.1, comes.0.2, comes.0.3), comes.1)
   comes_more o comes = comes
 
--- A descent's parts ask for what the descent may ask for.
-module _ {B D : Type 0} (f : Format B) (key : ℕ) (d : Device) (s : ℕ) (entry : Entry B) (parent : ℕ) (item : TraversalItem) (old : Parts B D)
-    (at : phase_at (s - 1) old.sessions.phases ≡ phase.Open (Insert entry) (Descends parent item)) where
-  pub asks_page : (size : ℕ) → size ≡ PAGE_RECORD → AsksRoom f key d s (Insert entry) old size
-  asks_page size is = record { work = Descends parent item; at = at; asks = inl is }
+-- the record of a widened bound is no longer than a split's, and is some bytes long
+pub widen_is_short : (small : Bool) (key : ℕ) → key ≤ MAX_KEY → widen_room small key ≤ SPLIT_RECORD
+widen_is_short true key short = omega (arith, short)
+widen_is_short false key short = omega arith
 
-  pub asks_write : HasPlace f d old item.page → (size : ℕ) → size ≡ write_record key → AsksRoom f key d s (Insert entry) old size
-  asks_write place size is = record { work = Descends parent item; at = at; asks = inr (inl (is, place)) }
+pub widen_is_some : (small : Bool) (key : ℕ) → 1 ≤ widen_room small key
+widen_is_some true key = omega arith
+widen_is_some false key = omega arith
+
+-- A descent's parts ask for what the descent may ask for.
+module _ {B D : Type 0} (k : Keys B) (f : Format B) (key : ℕ) (d : Device) (s : ℕ) (entry : Entry B) (parent : ℕ) (item : TraversalItem) (old : Parts B D)
+    (at : phase_at (s - 1) old.sessions.phases ≡ phase.Open (Insert entry) (Descends parent item)) where
+  pub asks_widen : (size : ℕ) → size ≡ widen_room (is_imaged old.volume.imaged item.page) key → AsksRoom k f key d s (Insert entry) old size
+  asks_widen size is = record { work = Descends parent item; at = at; asks = inl is }
+
+  -- for an added pair's by the leaf's bit, where no bit has changed since
+  pub asks_add : HasPlace f d old item.page → (imaged : List Bool) → imaged ≡ old.volume.imaged → (size : ℕ)
+      → size ≡ add_room (is_imaged imaged item.page) key → AsksRoom k f key d s (Insert entry) old size
+  asks_add place imaged same size is = record {
+    work = Descends parent item;
+    at = at;
+    asks = inr (inl (is ∙ ap (λ (bits : List Bool). add_room (is_imaged bits item.page) key) same, place));
+  }
 
   module _ (full : IsFull f d old item.page) where
-    pub asks_split : (size : ℕ) → size ≡ SPLIT_RECORD → AsksRoom f key d s (Insert entry) old size
-    asks_split size is = record { work = Descends parent item; at = at; asks = inr (inr (is, full)) }
+    pub asks_sweep : (size : ℕ) → AsksHere k f d old item.page size → AsksRoom k f key d s (Insert entry) old size
+    asks_sweep size asks = record { work = Descends parent item; at = at; asks = inr (inr (asks, full)) }
 
-    pub asks_sweep : (size : ℕ) → (size ≡ PAGE_RECORD) ⊎ (size ≡ SPLIT_RECORD) → AsksRoom f key d s (Insert entry) old size
-    asks_sweep size (inl is) = asks_page size is
-    asks_sweep size (inr is) = asks_split size is
+    pub asks_split : (size : ℕ) → size ≡ SPLIT_RECORD → AsksRoom k f key d s (Insert entry) old size
+    asks_split size is = asks_sweep size (inr is)
 
     pub lacks_pages : LeftFew d old item.page → LacksPages f d s (Insert entry) old
     lacks_pages few = record { entry = entry; inserts = refl; parent = parent; item = item; descends = at; full = full; few = few }
@@ -329,10 +349,11 @@ module _ {B D : Type 0} (s : ℕ) (old mid new : Parts B D) (only : mid ≡ reco
       subst (λ (y : Outcome B). P new y) (sym one) (subst (λ (x : Parts B D). P x (Replied (RefusedCall refusal.PagesFull))) (sym is_end) at_end)
 
   pub full_comes : (Asks : ℕ → Type 0) (Lacks : Type 0) (k : Keys B) (passes : ℕ → Contents → Bool) (state : D → Device) (call : Call B) → mid.volume.most ≡ old.volume.most → mid.volume.log ≡ old.volume.log
+      → mid.volume.imaged ≡ old.volume.imaged
       → Lacks → WriteBy Asks Lacks k passes (state old.volume.shelf.disk) (state new.volume.shelf.disk) s call old new o
-  full_comes Asks Lacks k passes state call most log lacks =
+  full_comes Asks Lacks k passes state call most log imaged lacks =
       full_is (λ x y. WriteBy Asks Lacks k passes (state old.volume.shelf.disk) (state x.volume.shelf.disk) s call old x y)
-      (lacks, as_brought old mid.volume (answered_state s old.sessions) log most)
+      (lacks, as_brought old mid.volume (answered_state s old.sessions) log most imaged)
 
 -- A split that was made, or for which there was no place.
 module _ {B D : Type 0} (shape : Members B) (proper : B → Bool) (said : List ℕ → B) (f : Format B) (passes : ℕ → Contents → Bool) (sides_of : List B → ℕ → List Bool)

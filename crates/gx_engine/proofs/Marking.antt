@@ -1,5 +1,5 @@
 -- A pair of the log's tree that is sought in the tree that pages show, and its mark that is set there. There is no engine in this.
-use Rattle.std.proofs.Common.{◌≡◌, ◌≢◌, ◌∙◌, sym, ap, refl, subst, ℕ, zero, suc, ◌<◌, ◌≤◌, Bool, not, ◌&&◌, true, false, List, [], ◌∷◌, ◌++◌, Some, arith}
+use Rattle.std.proofs.Common.{◌≡◌, ◌≢◌, ◌∙◌, sym, ap, refl, subst, ℕ, zero, suc, ◌<◌, ◌≤◌, Bool, not, ◌&&◌, true, false, List, [], ◌∷◌, Some, arith}
 use Rattle.std.specs.Prelude.{◌==◌, if◌then◌else◌, slice_get}
 use Rattle.std.specs.Ordering.{is_eq}
 use Rattle.std.proofs.lemmas.Bool.{ne_eqb}
@@ -7,13 +7,13 @@ use Rattle.gx_machine.specs.declared.entry.Entry.{Entry}
 use Rattle.gx_disk.specs.Device.{Device}
 use Rattle.gx_page.specs.Contents.{Contents}
 use Rattle.gx_node.specs.Reading.{Format}
-use Rattle.gx_tree_laws.specs.Alike.{AgreeOnUsed}
-use Rattle.gx_tree_laws.specs.Legal.{Legal}
-use Rattle.gx_tree_laws.specs.Lists.{Each, how_many, one_if}
-use Rattle.gx_tree_laws.specs.Steps.{IsMarking, Marks}
-use Rattle.gx_tree_laws.specs.Trees.{Node, Pair, Tree, Used}
-use Rattle.gx_tree_laws.proofs.AlikeSteps.{step_too}
-use Rattle.gx_tree_laws.proofs.AlikeTrees.{agree_back, legal_too, used_back}
+use Rattle.gx_node.specs.Alike.{AgreeOnUsed}
+use Rattle.gx_node.specs.Legal.{Legal}
+use Rattle.gx_node.specs.Lists.{Each, how_many, one_if}
+use Rattle.gx_node.specs.Steps.{IsMarking, Marks}
+use Rattle.gx_node.specs.Trees.{Node, Pair, Tree, Used}
+use Rattle.gx_node.proofs.AlikeSteps.{step_too}
+use Rattle.gx_node.proofs.AlikeTrees.{agree_back, legal_too, used_back}
 use Rattle.gx_node.specs.Keyed.{AreKeys}
 use Rattle.gx_tree.specs.Seeking.{Seeks}
 use Rattle.gx_tree.specs.Writing.{SetsMark}

@@ -5,7 +5,7 @@ use Rattle.std.specs.List.{list_all}
 use Rattle.std.proofs.lemmas.Bool.{leb-true}
 use Rattle.gx_machine.specs.declared.entry.Entry.{Entry}
 use Rattle.gx_machine.specs.Machine.{is_session}
-use Rattle.gx_engine_laws.specs.Slots.{Slot, slot_at}
+use Rattle.gx_events.specs.Slots.{Slot, slot_at}
 use Rattle.gx_recovery.specs.Known.{Known}
 use Rattle.gx_recovery.specs.Records.{Record, Touch, settled, any_number}
 use Rattle.gx_recovery.specs.Analysis.{analysis, lists}

@@ -14,7 +14,7 @@ use Rattle.gx_pool.specs.Bringing.{OnlyRead}
 use Rattle.gx_node.specs.Reading.{Format}
 use Rattle.gx_node.specs.Store.{Store}
 use Rattle.gx_recovery.specs.Known.{Known, Limits}
-use Rattle.gx_engine_laws.specs.Events.{Event}
+use Rattle.gx_events.specs.Events.{Event}
 use Rattle.gx_index_laws.specs.Classes.{Class, IsLawful, Page, known_of}
 use Rattle.gx_index_laws.specs.Happening.{AreHappening}
 use Rattle.gx_index_laws.specs.States as index
@@ -93,7 +93,7 @@ module _ {B D : Type 0} (k : Keys B) (known : Limits → Known (Entry B) (Page B
 
   module _ (mid : Parts B D) (only : mid ≡ record old { volume = mid.volume }) (first : IsUnlogged known r f passes (begun old.volume size) d m old.volume mid.volume) where
     brought : mid ≡ record old { volume = record old.volume { shelf = mid.volume.shelf } }
-    brought = only ∙ as_brought old mid.volume old.sessions first.log first.most
+    brought = only ∙ as_brought old mid.volume old.sessions first.log first.most first.imaged
 
     -- what comes of it from there on is what comes of it
     pub comes_then : (Asks : ℕ → Type 0) (Lacks Lacks' : Type 0) → (Lacks → Lacks') → (new : Parts B D) (o : Outcome B)

@@ -11,16 +11,16 @@ use Rattle.gx_disk.specs.Device.{Device}
 use Rattle.gx_page.specs.Contents.{Contents}
 use Rattle.gx_node.specs.Reading.{Format}
 use Rattle.gx_pool.specs.Bringing.{OnlyRead}
-use Rattle.gx_tree_laws.specs.Lists.{Each}
-use Rattle.gx_tree_laws.specs.Trees.{Child, Node, Pair, Tree, Used}
-use Rattle.gx_tree_laws.specs.Legal.{Legal}
-use Rattle.gx_tree_laws.specs.Alike.{AgreeOnUsed}
-use Rattle.gx_tree_laws.specs.Reach.{TraversalItem, pages_ahead}
-use Rattle.gx_tree_laws.specs.Looks.{ItemFits, IsLook, LeadsTo}
-use Rattle.gx_tree_laws.proofs.AlikeLooks.{look_too}
-use Rattle.gx_tree_laws.proofs.AlikeTrees.{used_too}
-use Rattle.gx_tree_laws.proofs.OwnLook.{item_used}
-use Rattle.gx_tree_laws.proofs.Sums.{each_parts}
+use Rattle.gx_node.specs.Lists.{Each}
+use Rattle.gx_node.specs.Trees.{Child, Node, Pair, Tree, Used}
+use Rattle.gx_node.specs.Legal.{Legal}
+use Rattle.gx_node.specs.Alike.{AgreeOnUsed}
+use Rattle.gx_node.specs.Reach.{TraversalItem, pages_ahead}
+use Rattle.gx_node.specs.Looks.{ItemFits, IsLook, LeadsTo}
+use Rattle.gx_node.proofs.AlikeLooks.{look_too}
+use Rattle.gx_node.proofs.AlikeTrees.{used_too}
+use Rattle.gx_node.proofs.OwnLook.{item_used}
+use Rattle.gx_node.proofs.Sums.{each_parts}
 use Rattle.gx_tree.specs.declared.found.Found.{Found}
 use Rattle.gx_tree.specs.declared.look.Look.{Look}
 use Rattle.gx_tree.specs.Found.{found_at, pairs_found}
@@ -29,9 +29,9 @@ use Rattle.gx_tree.specs.Looking.{LookStep, below, beyond}
 use Rattle.gx_tree.proofs.Searched.{leads_to}
 use Rattle.gx_tree.proofs.Turned.{falls, goes_on, next_is_used}
 use Rattle.gx_recovery.specs.Records.{Record}
-use Rattle.gx_engine_laws.specs.Slots.{Slot, slot_at}
-use Rattle.gx_engine_laws.specs.Events.{Event, Closes, RefusesCall}
-use Rattle.gx_engine_laws.specs.Wants as laws
+use Rattle.gx_events.specs.Slots.{Slot, slot_at}
+use Rattle.gx_events.specs.Events.{Event, Closes, RefusesCall}
+use Rattle.gx_events.specs.Wants as laws
 use Rattle.gx_index_laws.specs.Classes.{Class, IsLawful, Page, known_of, pair_of}
 use Rattle.gx_index_laws.specs.Happening.{with_work}
 use Rattle.gx_index_laws.specs.Measures.{descent_most, pages_free, work_left}
@@ -219,12 +219,12 @@ module _ {B D : Type 0} (s : ℕ) (call : Call B) (old : Parts B D) (w : Volume 
       subst (λ (o : Outcome B). P new o (look_events s call o)) (sym is.0) (subst (λ (x : Parts B D). P x (Replied (RefusedCall refusal.Damaged)) []) (sym is.1) (never refl))
 
 -- a volume of which only pages were brought
-pub only_shelf : {D : Type 0} (v w : Volume D) → w.log ≡ v.log → w.most ≡ v.most → w ≡ record v { shelf = w.shelf }
-only_shelf v w log most = λ j. record { log = log j; shelf = w.shelf; most = most j }
+pub only_shelf : {D : Type 0} (v w : Volume D) → w.log ≡ v.log → w.most ≡ v.most → w.imaged ≡ v.imaged → w ≡ record v { shelf = w.shelf }
+only_shelf v w log most imaged = λ j. record { log = log j; shelf = w.shelf; most = most j; imaged = imaged j }
 
 -- what a refused look comes to
 module _ {B D : Type 0} (passes : ℕ → Contents → Bool) (state : D → Device) (d : Device) (s : ℕ) (was : Parts B D) (w : Volume D)
-    (log : w.log ≡ was.volume.log) (most : w.most ≡ was.volume.most) where
+    (log : w.log ≡ was.volume.log) (most : w.most ≡ was.volume.most) (imaged : w.imaged ≡ was.volume.imaged) where
   abbrev Comes : Parts B D → Outcome B → Type 0
   Comes new outcome = StopComes passes d (state new.volume.shelf.disk) s was new outcome
 
@@ -232,7 +232,7 @@ module _ {B D : Type 0} (passes : ℕ → Contents → Bool) (state : D → Devi
   at new there outcome given one other comes = subst (λ (o : Outcome B). Comes new o) (sym one) (subst (λ (x : Parts B D). Comes x given) (sym other) comes)
 
   pub with_sessions : (sessions : State B (Work B)) → record was { volume = w; sessions = sessions } ≡ record was { volume = record was.volume { shelf = w.shelf }; sessions = sessions }
-  with_sessions sessions = ap (λ (v : Volume D). record was { volume = v; sessions = sessions }) (only_shelf was.volume w log most)
+  with_sessions sessions = ap (λ (v : Volume D). record was { volume = v; sessions = sessions }) (only_shelf was.volume w log most imaged)
 
   pub refused_comes : StampsStay was.volume.shelf w.shelf → (n : StoreFault) → faults.IsWhy passes d (state w.shelf.disk) (bringing was.volume) w.shelf n → (new : Parts B D) (outcome : Outcome B)
       → IsRefused n (record was { volume = w }) new outcome → Comes new outcome
@@ -245,11 +245,11 @@ module _ {B D : Type 0} (passes : ℕ → Contents → Bool) (state : D → Devi
 
 -- a call that is closed while its work is at hand
 pub closed_comes : {B D : Type 0} (k : Keys B) (passes : ℕ → Contents → Bool) (state : D → Device) (e : Parts B D) (kept : IsKept k e.sessions) (s : ℕ) (is : is_session s ≡ true) (call : Call B) (rest : Work B)
-    (at : phase_at (s - 1) e.sessions.phases ≡ phase.Open call rest) (work : Work B) (w : Volume D) (log : w.log ≡ e.volume.log) (most : w.most ≡ e.volume.most)
+    (at : phase_at (s - 1) e.sessions.phases ≡ phase.Open call rest) (work : Work B) (w : Volume D) (log : w.log ≡ e.volume.log) (most : w.most ≡ e.volume.most) (imaged : w.imaged ≡ e.volume.imaged)
     → StopComes passes (state e.volume.shelf.disk) (state w.shelf.disk) s (calling s call work e) (record e { volume = w; sessions = answered_state s e.sessions }) (Replied (RefusedCall refusal.Memory))
-closed_comes {B} {D} k passes state e kept s is call rest at work w log most =
+closed_comes {B} {D} k passes state e kept s is call rest at work w log most imaged =
     ap (λ (x : State B (Work B)). record e { volume = w; sessions = x }) (answered_again k e kept s is call rest at work)
-    ∙ with_sessions passes state (state e.volume.shelf.disk) s (calling s call work e) w log most (answered_state s (calling s call work e).sessions)
+    ∙ with_sessions passes state (state e.volume.shelf.disk) s (calling s call work e) w log most imaged (answered_state s (calling s call work e).sessions)
 
 -- The same of work that is at hand.
 module _ {B D : Type 0} (c : Class B) (lawful : 4 ≤ c.rules.most → IsLawful c) (r : Reading (Entry B) (Page B)) (f : Format B) (passes : ℕ → Contents → Bool)

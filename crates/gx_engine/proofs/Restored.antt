@@ -1,19 +1,19 @@
 -- What an undo has restored, note by note.
-use Rattle.std.proofs.Common.{◌≡◌, ◌∙◌, sym, ap, refl, subst, ℕ, zero, suc, ◌+◌, ◌≤◌, ◌<◌, Bool, true, false, not, ◌||◌, List, [], ◌∷◌, ◌++◌, Option, None, Some, map, take, get_or, length, option_map}
+use Rattle.std.proofs.Common.{◌≡◌, ◌∙◌, sym, ap, refl, subst, ℕ, zero, suc, ◌+◌, ◌≤◌, Bool, true, false, ◌||◌, List, [], ◌∷◌, ◌++◌, Option, Some, map, take, get_or, length, option_map}
 use Rattle.std.specs.Prelude.{slice_get, slice_set}
 use Rattle.std.proofs.lemmas.List.{length-map, take_all, take_more}
 use Rattle.std.proofs.lemmas.Option.{get_or_from_slice_get, slice_get-map, slice_get_within}
 use Rattle.gx_machine.specs.declared.entry.Entry.{Entry}
 use Rattle.gx_machine.specs.Keys.{Keys, IsLawful, entry_cmp, same_entry}
-use Rattle.gx_machine.specs.Sets.{has, Before, InOrder}
+use Rattle.gx_machine.specs.Sets.{has, InOrder}
 use Rattle.gx_machine.proofs.SetLaws.{entry_itself}
 use Rattle.gx_machine.proofs.SessionMoves.{same_itself, or_second}
 use Rattle.gx_txn.specs.declared.note.Note.{Note}
 use Rattle.gx_txn.specs.Notes.{entries_of, noting}
 use Rattle.gx_txn.proofs.Noted.{noting_at}
-use Rattle.gx_engine_laws.specs.Slots as slots
-use Rattle.gx_engine_laws.specs.Slots.{noted}
-use Rattle.gx_engine_laws.proofs.Noted.{has_noted}
+use Rattle.gx_events.specs.Slots as slots
+use Rattle.gx_events.specs.Slots.{noted}
+use Rattle.gx_events.proofs.Noted.{has_noted}
 use Rattle.gx_phases.specs.Moves.{moved}
 use Rattle.gx_phases.specs.States.{note_of}
 use Rattle.gx_phases.proofs.Moved.{set_map}

@@ -1,13 +1,11 @@
 -- Events one after another, joined.
-use Rattle.std.proofs.Common.{◌≡◌, ◌∙◌, sym, refl, subst, inl, inr, ℕ, Bool, List, [], ◌∷◌, ◌++◌}
+use Rattle.std.proofs.Common.{sym, refl, subst, inl, inr, ℕ, Bool, List, [], ◌∷◌, ◌++◌}
 use Rattle.gx_machine.specs.declared.entry.Entry.{Entry}
-use Rattle.gx_machine.specs.Machine.{Machine}
 use Rattle.gx_disk.specs.Device.{Device}
-use Rattle.gx_disk.specs.Moments.{Leaves}
 use Rattle.gx_disk.proofs.Leaving.{leaves_joined, leaves_weaker, nothing_leaves}
 use Rattle.gx_page.specs.Contents.{Contents}
 use Rattle.gx_node.specs.Reading.{Format}
-use Rattle.gx_engine_laws.specs.Events as laws
+use Rattle.gx_events.specs.Events as laws
 use Rattle.gx_recovery.specs.Records.{Record}
 use Rattle.gx_index_laws.specs.Classes.{Class, Page}
 use Rattle.gx_index_laws.specs.Happening.{AreHappening}

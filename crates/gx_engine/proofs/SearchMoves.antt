@@ -10,12 +10,12 @@ use Rattle.gx_machine.specs.Machine.{is_session}
 use Rattle.gx_disk.specs.Device.{Device}
 use Rattle.gx_page.specs.Contents.{Contents}
 use Rattle.gx_node.specs.Reading.{Format}
-use Rattle.gx_tree_laws.specs.Reach.{TraversalItem}
+use Rattle.gx_node.specs.Reach.{TraversalItem}
 use Rattle.gx_tree.specs.declared.look.Look.{Look}
 use Rattle.gx_tree.specs.Found.{pairs_found}
-use Rattle.gx_engine_laws.specs.Engines.{gathered}
-use Rattle.gx_engine_laws.specs.Events.{Event, Closes, Finds}
-use Rattle.gx_engine_laws.specs.Slots.{Working}
+use Rattle.gx_events.specs.Engines.{gathered}
+use Rattle.gx_events.specs.Events.{Event, Closes, Finds}
+use Rattle.gx_events.specs.Slots.{Working}
 use Rattle.gx_index_laws.specs.Classes.{Class, IsLawful, Page, entry_of}
 use Rattle.gx_index_laws.specs.Happening as happening
 use Rattle.gx_index_laws.specs.States as index

@@ -12,25 +12,24 @@ use Rattle.gx_disk.proofs.Leaving.{leaves_joined}
 use Rattle.gx_page.specs.Contents.{Contents}
 use Rattle.gx_pool.specs.Bringing.{OnlyRead}
 use Rattle.gx_node.specs.Reading.{Format}
-use Rattle.gx_glog.specs.State.{Log}
-use Rattle.gx_tree_laws.specs.Alike.{AgreeOnUsed}
-use Rattle.gx_tree_laws.specs.Lists.{how_many}
-use Rattle.gx_tree_laws.specs.Steps.{IsMarking}
-use Rattle.gx_tree_laws.specs.Trees.{Node, Pair, Tree, Used}
-use Rattle.gx_tree_laws.proofs.SeekSteps.{seek_at_leaf}
+use Rattle.gx_node.specs.Alike.{AgreeOnUsed}
+use Rattle.gx_node.specs.Lists.{how_many}
+use Rattle.gx_node.specs.Steps.{IsMarking}
+use Rattle.gx_node.specs.Trees.{Node, Pair, Tree, Used}
+use Rattle.gx_node.proofs.SeekSteps.{seek_at_leaf}
 use Rattle.gx_node.specs.Keyed.{AreKeys}
 use Rattle.gx_tree.specs.Writing.{SetsMark}
 use Rattle.gx_tree.specs.declared.seek.Sought.{Sought}
 use Rattle.gx_tree.specs.declared.seek.Sought.TheVariants.{Here, Right}
 use Rattle.gx_recovery.specs.Analysis.{Analysis, analysis, touching}
-use Rattle.gx_recovery.specs.Coming.{MayCome}
+use Rattle.gx_recovery.specs.Coming.{IsSaid, MayCome}
 use Rattle.gx_recovery.specs.Known as known
 use Rattle.gx_recovery.specs.Known.{Known, Limits}
 use Rattle.gx_recovery.specs.Logged.{Logged, all_records, appended}
-use Rattle.gx_recovery.specs.Records.{Record, Touch, Whole, Write}
+use Rattle.gx_recovery.specs.Records.{Record, Said, Touch, Write}
 use Rattle.gx_recovery.proofs.Folds.{analysis-snoc}
-use Rattle.gx_engine_laws.specs.Events.{Event, Deletes, FindsAbsent, FindsPresent, Inserts, RefusesCall, Works}
-use Rattle.gx_engine_laws.specs.Slots.{WithNote, Working, slot_at}
+use Rattle.gx_events.specs.Events.{Event, Deletes, FindsAbsent, FindsPresent, Inserts, RefusesCall, Works}
+use Rattle.gx_events.specs.Slots.{WithNote, Working, slot_at}
 use Rattle.gx_index_laws.specs.Classes.{Class, IsLawful, Page, is_live, is_live_of, is_of, known_of}
 use Rattle.gx_index_laws.specs.Happening.{Comes, Happens, slotted, with_record}
 use Rattle.gx_index_laws.specs.States as index
@@ -44,7 +43,7 @@ use Rattle.gx_index_laws.proofs.Standing.{grown, is_legal, known_lawful, tells}
 use Rattle.gx_index_laws.proofs.Tools.{changed_beside}
 use Rattle.gx_durable.specs.Spelled.{Reading, record_read}
 use Rattle.gx_durable.specs.Standing.{Stands}
-use Rattle.gx_readings.specs.Classes.{class_of, known_at, reading_of}
+use Rattle.gx_durable.specs.Classes.{class_of, known_at, reading_of}
 use Rattle.gx_events.specs.declared.outcome.Need.{Need}
 use Rattle.gx_events.specs.declared.outcome.Outcome.{Outcome}
 use Rattle.gx_events.specs.declared.outcome.Outcome.TheVariants.{Replied, More, Help, Nothing, Refused}
@@ -62,7 +61,11 @@ use Rattle.gx_store.specs.declared.fault.StoreFault.TheVariants as fault
 use Rattle.gx_store.specs.Faults as faults
 use Rattle.gx_store.specs.State.{IsInOrder, IsSteady}
 use Rattle.gx_store.specs.Standing.{store_of}
-use Rattle.gx_storage.specs.Changes.{begun, image_at, write_of}
+use Rattle.gx_storage.specs.Changes.{begun}
+use Rattle.gx_storage.specs.Imaged.{is_imaged}
+use Rattle.gx_storage.specs.Small.{mark_said}
+use Rattle.gx_storage.proofs.Recording.{AreNodes}
+use Rattle.gx_storage.proofs.SmallMarks.{ReadsMarks, mark_is_said, mark_read, mark_told}
 use Rattle.gx_storage.specs.Keeps.{Keeps, KeepsTheSame, ShowsKeys, ShowsTheLogs, StaysSame, StaysWith, tree_shown}
 use Rattle.gx_storage.specs.State.{Volume}
 use Rattle.gx_engine.specs.declared.work.Work.{Work}
@@ -121,7 +124,7 @@ not_alike false false is = refl
 -- A write whose mark was set, as its index's event.
 module _ {B : Type 0} (c : Class B) (l : IsLawful c) (old : State B (Work B)) (kept : IsKept c.keys old) (works : old.failed ≡ false) (s : ℕ) (is : is_session s ≡ true)
     (entry : Entry B) (leaf : ℕ) (marked before : Bool) (same : before ≡ not marked) (at : phase_at (s - 1) old.phases ≡ phase.Open (write_call marked entry) (Seeks leaf))
-    (i : index.State B) (whole : IsWhole c i) (h : Sits c old i) (content : Page B) where
+    (i : index.State B) (whole : IsWhole c i) (h : Sits c old i) (told : Said (Page B)) where
   abbrev k : Known (Entry B) (Page B)
   k = known_of c
 
@@ -141,7 +144,7 @@ module _ {B : Type 0} (c : Class B) (l : IsLawful c) (old : State B (Work B)) (k
   notes = noting c.keys n held_then.notes
 
   abbrev write_by : ℕ → Bool → Bool → Record (Entry B) (Page B)
-  write_by number b m = Write number entry b m leaf (Whole content)
+  write_by number b m = Write number entry b m leaf told
 
   abbrev notes_by : Bool → List (Note B)
   notes_by b = noting c.keys (record { entry = entry; before = b; leaf = leaf }) held_then.notes
@@ -158,7 +161,7 @@ module _ {B : Type 0} (c : Class B) (l : IsLawful c) (old : State B (Work B)) (k
   slot_then : slot_at s i.slots ≡ Working held_then.locks (map note_of held_then.notes) (Some (write_call marked entry))
   slot_then = slot_is c.keys old i kept h.of s is ∙ ap (λ (p : Phase B (Work B)). slot_of p held_then) at
 
-  module _ (of_class : c.is_key entry.key ≡ true) (own : content.own ≡ leaf)
+  module _ (of_class : c.is_key entry.key ≡ true) (own : IsSaid k leaf told (all_records i.log))
       (counts : (test : Pair B → Bool) → ((x : Pair B) → is_of c entry x ≡ true → x.marked ≡ before → test x ≡ true) → 0 < how_many test ((tree_now c i).node leaf).pairs)
       (step : IsMarking c.rules (tree_now c i) (tree_after c (appended (write_by t before marked) i.log)) leaf entry.row entry.key marked) where
     with_note : (b : Bool) → WithNote c.keys entry (not b) (map note_of held_then.notes) (map note_of (notes_by b))
@@ -170,10 +173,10 @@ module _ {B : Type 0} (c : Class B) (l : IsLawful c) (old : State B (Work B)) (k
         → Comes c i (write_by (i.transaction s) b m) (written_event s entry m) (index_by (i.transaction s) b m)
     comes_by true true is slot counts step = absurd (let no : true ≡ false = is in cc)
     comes_by true false is slot counts step =
-        delete_marks c l i whole (h.of.failed ∙ works) s held_then.locks (map note_of held_then.notes) (map note_of (notes_by false)) entry leaf (Whole content) of_class own slot (with_note false)
+        delete_marks c l i whole (h.of.failed ∙ works) s held_then.locks (map note_of held_then.notes) (map note_of (notes_by false)) entry leaf told of_class own slot (with_note false)
         (counts (λ x. is_of c entry x && not x.marked) (λ x is_its has. both (is_of c entry x) (not x.marked) is_its (ap not has))) step
     comes_by false true is slot counts step =
-        insert_clears c l i whole (h.of.failed ∙ works) s held_then.locks (map note_of held_then.notes) (map note_of (notes_by true)) entry leaf (Whole content) of_class own slot (with_note true)
+        insert_clears c l i whole (h.of.failed ∙ works) s held_then.locks (map note_of held_then.notes) (map note_of (notes_by true)) entry leaf told of_class own slot (with_note true)
         (counts (λ x. is_of c entry x && x.marked) (λ x is_its has. both (is_of c entry x) x.marked is_its has)) step
     comes_by false false is slot counts step = absurd (let no : false ≡ true = is in cc)
 
@@ -414,12 +417,14 @@ module _ {B D : Type 0} (c : Class B) (lawful : 4 ≤ c.rules.most → IsLawful 
           let none = found_none.0 in
           absurd (omega (arith, none, some))
 
-      module _ (at_slot : ℕ) (before : Bool) (content : Page B) (of_class : c.is_key entry.key ≡ true) (own : content.own ≡ leaf)
+      module _ (at_slot : ℕ) (before : Bool) (told : Said (Page B)) (of_class : c.is_key entry.key ≡ true)
+          (own : (bodies : List (List (Record (Entry B) (Page B)))) (log : Logged (Entry B) (Page B)) → Keeps (known_of c) r f passes d old.volume bodies log
+          → IsSaid (known_of c) leaf told (all_records log))
           (sets : IsSteady d old.volume.shelf.frames → SetsMark wants (store_of f d.seen old.volume.shelf) (store_of f e.seen w.shelf) leaf marked (Here at_slot before))
           (flies : FliesOn old.volume.log w.log)
           (keeps : (bodies : List (List (Record (Entry B) (Page B)))) (log : Logged (Entry B) (Page B)) → known.IsLawful (known_of c)
           → Keeps (known_of c) r f passes d old.volume bodies log
-          → StaysWith (known_of c) r f passes d e w bodies log (Write (transaction_of s old.sessions) entry before marked leaf (Whole content))) where
+          → StaysWith (known_of c) r f passes d e w bodies log (Write (transaction_of s old.sessions) entry before marked leaf told)) where
         abbrev new : State B (Work B)
         new = written_state c.keys s (record { entry = entry; before = before; leaf = leaf }) old.sessions
 
@@ -432,20 +437,20 @@ module _ {B D : Type 0} (c : Class B) (lawful : 4 ≤ c.rules.most → IsLawful 
             let set = sets h.keeps.steady in
             let after = keeps bodies i.log (known_lawful c l) h.keeps in
             let t : ℕ = transaction_of s old.sessions in
-            let x : Record (Entry B) (Page B) = Write t entry before marked leaf (Whole content) in
+            let x : Record (Entry B) (Page B) = Write t entry before marked leaf told in
             let there : IsSought f IsKey c.keys d old.volume entry leaf (Here at_slot before) = record { wants = wants; wanted = wanted; seeks = set.0 } in
             let same : before ≡ not marked =
             not_alike before (not marked) (sym (lives bodies i h at_slot before there) ∙ lives bodies i h spot (not marked) found) in
-            let marks = marks_too c l r f passes IsKey d e old.volume w i.log t entry before marked leaf (Whole content) (is_legal c l i h.whole) (agree bodies i h) (keys bodies i h) after.shows
+            let marks = marks_too c l r f passes IsKey d e old.volume w i.log t entry before marked leaf told (is_legal c l i h.whole) (agree bodies i h) (keys bodies i h) after.shows
             wants wanted at_slot set in
-            let comes = written_comes c l old.sessions kept works s is entry leaf marked before same at i h.whole sits content of_class own (counts bodies i h at_slot before there) marks in
-            let j : index.State B = written_index c l old.sessions kept works s is entry leaf marked before same at i h.whole sits content in
+            let comes = written_comes c l old.sessions kept works s is entry leaf marked before same at i h.whole sits told of_class (own bodies i.log h.keeps) (counts bodies i h at_slot before there) marks in
+            let j : index.State B = written_index c l old.sessions kept works s is entry leaf marked before same at i h.whole sits told in
             subst (λ (events : List (Event B)). Moved c r f passes d e s old (record old { volume = w; sessions = new }) (Replied (written_reply marked)) i events) (sym (written_told s entry marked))
             (record {
               led =
                   grown_led c r f passes d e old bodies i h (is_calm old.checkpoint (not_due old early).0) w most flies after.leaves x (after.keeps comes.0)
                   (written_event s entry marked ∷ []) j (j, comes.1, refl) comes.1.whole refl refl refl new
-                  (written_sits c l old.sessions kept works s is entry leaf marked before same at i h.whole sits content) refl (λ works. works);
+                  (written_sits c l old.sessions kept works s is entry leaf marked before same at i h.whole sits told) refl (λ works. works);
               lowers = tt;
             })
 
@@ -462,22 +467,25 @@ module _ {B D : Type 0} (shape : Members B) (proper : B → Bool) (limits : Limi
 
   pub set_moves : ShowsTheLogs (known_of its_class) its_reading f passes d old.volume → ShowsKeys (known_of its_class) its_reading f passes IsKey d old.volume
       → IsInOrder (passes old.volume.shelf.pages) d.sectors old.volume.shelf.frames old.volume.shelf.used old.volume.shelf.pages
-      → said (spelling entry.key) ≡ entry.key → proper entry.key ≡ true → (spot : ℕ) → IsSought f IsKey (keys_of shape) d old.volume entry leaf (Here spot (not marked))
+      → AreNodes f passes old.volume.shelf → (most : ℕ) → ReadsMarks IsKey spelling f shape most → IsKey entry.key → said (spelling entry.key) ≡ entry.key → proper entry.key ≡ true → (spot : ℕ) → IsSought f IsKey (keys_of shape) d old.volume entry leaf (Here spot (not marked))
       → (sought : Sought)
       → PairIsSought (known_at shape proper) its_reading f passes IsKey (keys_of shape) spelling key d e old.volume w (transaction_of s old.sessions) (record { entry = entry; before = marked; leaf = leaf }) leaf sought
       → Moves its_class its_reading f passes d e s old (record old { volume = w; sessions = set_state (keys_of shape) s entry leaf marked sought old.sessions }) (set_outcome marked sought)
       (write_events s (write_call marked entry) (set_outcome marked sought))
-  set_moves shows keyed order back of_class spot found (Here slot before) set =
-      let content : Page B = its_reading.content (image_at e.seen w.shelf leaf) in
+  set_moves shows keyed order nodes most reads is_key back of_class spot found (Here slot before) set =
+      let small = is_imaged old.volume.imaged leaf in
+      let told : Said (Page B) = mark_told spelling f small entry marked leaf e.seen w.shelf in
       let t : ℕ = transaction_of s old.sessions in
-      let same : record_read its_reading (write_of spelling t entry.row entry.key before marked leaf e.seen w.shelf) ≡ Write t entry before marked leaf (Whole content) =
-      ap (λ (x : B). (let y : Record (Entry B) (Page B) = Write t (record { row = entry.row; key = x }) before marked leaf (Whole content) in y)) back in
+      let same : record_read its_reading (mark_said spelling small t entry.row entry.key before marked leaf e.seen w.shelf) ≡ Write t entry before marked leaf told =
+      mark_read said spelling f small t entry before marked leaf e.seen w.shelf back in
       here_moves its_class lawful its_reading f passes d old kept works s is entry leaf marked at IsKey shows keyed order early spot found e w set.logged.most set.wants
-      set.wanted slot before content of_class set.own
+      set.wanted slot before told of_class
+      (λ bodies log keeps. mark_is_said shape (known_of its_class) said f passes d old.volume bodies log keeps nodes IsKey spelling most reads entry is_key
+      set.wants set.wanted leaf slot before marked e.seen w.shelf set.own (store_of f e.seen w.shelf) (set.sets keeps.steady))
       set.sets (flies_on _ _ set.logged.logs)
       (λ bodies log lawful_log keeps. subst (λ (y : Record (Entry B) (Page B)). StaysWith (known_of its_class) its_reading f passes d e w bodies log y) same
       (set.logged.keeps limits bodies log lawful_log keeps))
-  set_moves shows keyed order back of_class spot found (Right page) set =
+  set_moves shows keyed order nodes most reads is_key back of_class spot found (Right page) set =
       right_never its_class lawful its_reading f passes d old kept works s is entry leaf marked at IsKey shows keyed order early spot found e w
       (set.logged.most) set.wants set.wanted page set.sets e
       (record old { volume = w; sessions = set_state (keys_of shape) s entry leaf marked (Right page) old.sessions }) More (write_events s (write_call marked entry) More)

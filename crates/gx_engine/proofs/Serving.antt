@@ -23,7 +23,7 @@ use Rattle.gx_durable.specs.Standing.{MayRenew}
 use Rattle.gx_storage.specs.Keeps.{Logs}
 use Rattle.gx_storage.specs.State.{Volume}
 use Rattle.gx_index_laws.specs.States as index
-use Rattle.gx_engine_laws.specs.Slots.{Slot, slot_at, with_slot}
+use Rattle.gx_events.specs.Slots.{Slot, slot_at, with_slot}
 use Rattle.gx_index_laws.specs.Happening.{slotted}
 use Rattle.gx_index_laws.specs.declared.TheConstants.{CHECKPOINT_AT}
 use Rattle.gx_txn.specs.Tables.{Held, nothing_held, with_held}

@@ -1,8 +1,7 @@
 -- An engine that starts over what was found on its device holds the index that is opened over it.
-use Rattle.std.proofs.Common.{◌⊎◌, inl, inr, ◌≡◌, ◌≢◌, ◌∙◌, sym, subst, ap, refl, ℕ, suc, ◌-◌, ◌+◌, ◌*◌, ◌<◌, ◌≤◌, Bool, true, false, None, Some, zero, List, [], ◌∷◌, ◌++◌, length, arith}
+use Rattle.std.proofs.Common.{◌≡◌, ◌∙◌, sym, subst, ap, refl, ℕ, suc, ◌-◌, ◌+◌, ◌*◌, ◌≤◌, Bool, false, None, Some, zero, List, [], ◌∷◌, arith}
 use Rattle.std.proofs.lemmas.List.{append-nil}
 use Rattle.gx_machine.specs.declared.entry.Entry.{Entry}
-use Rattle.gx_machine.specs.Machine.{is_session}
 use Rattle.gx_disk.specs.Device.{Device}
 use Rattle.gx_disk.specs.declared.layout.TheConstants.{MAX_PAGES, PAGES_AT, PAGE_SECTORS}
 use Rattle.gx_page.specs.Contents.{Contents}
@@ -26,10 +25,11 @@ use Rattle.gx_store.specs.State.{IsInOrder, Shelf}
 use Rattle.gx_durable.proofs.Stamping.{told_kept}
 use Rattle.gx_machine.specs.Keys.{Keys}
 use Rattle.gx_storage.specs.State.{Volume}
+use Rattle.gx_storage.proofs.Imaging.{nothing_imaged}
 use Rattle.gx_engine.specs.Holds.{AreAt, Holds}
 use Rattle.gx_engine.specs.States.{Parts}
 use Rattle.gx_engine.specs.declared.start.Start.{Start}
-use Rattle.gx_engine.specs.Starting.{AreFresh, HoldsFrom, StandsOn, Started, TakenUp, cut_off, rested}
+use Rattle.gx_engine.specs.Starting.{AreFresh, StandsOn, Started, TakenUp, cut_off, rested}
 use Rattle.gx_durable.specs.GoingOn.{RunsAfresh}
 use Rattle.gx_durable.specs.Opening.{found_glog}
 use Rattle.gx_durable.proofs.GoingOn.{found_runs}
@@ -40,9 +40,10 @@ use Rattle.gx_recovery.specs.Damage.{IsLog}
 use Rattle.gx_recovery.proofs.DamageItems.{bodies_log}
 use Rattle.gx_engine.specs.Losing.{AllRest, AreCutOff, AreHeld, IsAtRest, OnlyHeld, touch_of}
 use Rattle.gx_engine.specs.declared.losers.Loser.{Loser}
-use Rattle.std.proofs.Common.{◌⊎◌, map}
+use Rattle.std.proofs.Common.{map}
+use Rattle.std.specs.Prelude.{replicate}
 use Rattle.std.specs.List.{slice_index_or}
-use Rattle.gx_engine_laws.specs.Losers.{loser_slot}
+use Rattle.gx_events.specs.Losers.{loser_slot}
 use Rattle.gx_glog.specs.State.{Log, starting}
 use Rattle.gx_pool.specs.State.{Kept}
 use Rattle.gx_recovery.specs.Logged.{gate_synced, durable}
@@ -78,6 +79,7 @@ module _ {B D : Type 0} (c : Class B) (r : Reading (Entry B) (Page B)) (f : Form
     log = rested start;
     shelf = record { disk = disk; frames = frames; used = start.used; counter = start.counter; pages = start.pages; batch = 0; has_room = false };
     most = start.fanout;
+    imaged = replicate start.pages false;
   }
 
   abbrev i : index.State B
@@ -151,6 +153,7 @@ module _ {B D : Type 0} (c : Class B) (r : Reading (Entry B) (Page B)) (f : Form
       counter = ap (λ (x : List (Record (Entry B) (Page B))). (analysis k x).counter) all_found ∙ sym so.counter;
       pages = sym so.pages;
       formed = λ page x was. absurd (none_kept page x was);
+      imaged = nothing_imaged start.pages s;
     }
 
     started_keeps : Keeps k r f passes d e.volume bodies s
@@ -205,12 +208,14 @@ fresh_in_order passes count batch sectors used pages x fresh few inside taken = 
 pub over_started : {B D : Type 0} (k : Keys B) (start : Start B) (disk : D) (log : Log) (frames : Frames) (shelf : Shelf D) (volume v : Volume D) (taken s : State B (Work B)) (noted most : ℕ)
     → log ≡ rested start → most ≡ start.fanout
     → shelf ≡ record { disk = disk; frames = frames; used = start.used; counter = start.counter; pages = start.pages; batch = 0; has_room = false }
-    → volume ≡ record { log = log; shelf = shelf; most = most } → AreFresh start.frames (start.bodies - 1) frames → TakenUp k start taken
+    → volume ≡ record { log = log; shelf = shelf; most = most; imaged = replicate shelf.pages false } → AreFresh start.frames (start.bodies - 1) frames → TakenUp k start taken
     → v ≡ volume → s ≡ taken → noted ≡ taken.durable → Started k start disk (record { volume = v; sessions = s; in_flight = noted; checkpoint = Running })
 over_started {B} {D} k start disk log frames shelf volume v taken s noted most is_log is_most is_shelf is_volume fresh up same_volume same_sessions same_noted =
-    let over : Log → Shelf D → Volume D = λ l h. record { log = l; shelf = h; most = start.fanout } in
+    let over : Log → Shelf D → Volume D = λ l h. record { log = l; shelf = h; most = start.fanout; imaged = replicate h.pages false } in
     let on : Frames → Shelf D = λ x. record { disk = disk; frames = x; used = start.used; counter = start.counter; pages = start.pages; batch = 0; has_room = false } in
-    let is : v ≡ over (rested start) (on frames) = same_volume ∙ is_volume ∙ ap (λ (m : ℕ). record { log = log; shelf = shelf; most = m }) is_most ∙ ap (λ l. over l shelf) is_log ∙ ap (over (rested start)) is_shelf in
+    let is : v ≡ over (rested start) (on frames) = same_volume ∙ is_volume
+    ∙ ap (λ (m : ℕ). record { log = log; shelf = shelf; most = m; imaged = replicate shelf.pages false }) is_most
+    ∙ ap (λ l. over l shelf) is_log ∙ ap (over (rested start)) is_shelf in
     let frames_are : v.shelf.frames ≡ frames = ap (λ (x : Volume D). x.shelf.frames) is in
     record {
       volume = is ∙ ap (λ x. over (rested start) (on x)) (sym frames_are);

@@ -18,9 +18,8 @@ use Rattle.gx_page.specs.Contents.{Contents}
 use Rattle.gx_node.specs.Reading.{Format}
 use Rattle.gx_recovery.specs.Known.{Known, Limits}
 use Rattle.gx_recovery.specs.Records.{Record}
-use Rattle.gx_engine_laws.specs.Engines.{Engine}
-use Rattle.gx_engine_laws.specs.Events as laws
-use Rattle.gx_engine_laws.specs.Slots.{Slot, is_unanswered, slot_at}
+use Rattle.gx_events.specs.Events as laws
+use Rattle.gx_events.specs.Slots.{Slot, is_unanswered, slot_at}
 use Rattle.gx_index_laws.proofs.Quiet.{as_it_is}
 use Rattle.gx_index_laws.specs.Classes.{Class, IsLawful, Page, known_of}
 use Rattle.gx_index_laws.specs.Happening as happening
@@ -32,31 +31,28 @@ use Rattle.gx_index_laws.proofs.AskedCalls.{faulted}
 use Rattle.gx_index_laws.proofs.Measuring.{left_below}
 use Rattle.gx_durable.specs.Spelled.{Reading}
 use Rattle.gx_durable.specs.Standing.{Stands}
-use Rattle.gx_events.specs.declared.event.Event.{Event}
 use Rattle.gx_events.specs.declared.event.Event.TheVariants.{Ask, Move, LogStep, WritePage, CheckpointStep, Sweep}
-use Rattle.gx_events.specs.declared.outcome.Need.{Need}
 use Rattle.gx_events.specs.declared.outcome.Need.TheVariants as need
 use Rattle.gx_events.specs.declared.outcome.Outcome.{Outcome}
 use Rattle.gx_events.specs.declared.outcome.Outcome.TheVariants.{Replied, More, Help, Nothing, Refused}
-use Rattle.gx_events.specs.Engines.{AreOf, IsAsk, IsJust, IsMove, IsSync, IsWork}
+use Rattle.gx_events.specs.Steps.{IsAsk, IsMove, IsSync, IsWork}
 use Rattle.gx_txn.specs.declared.note.Note.{Note}
 use Rattle.gx_txn.specs.Tables.{Held}
 use Rattle.gx_phases.specs.declared.phase.Phase.{Phase}
 use Rattle.gx_phases.specs.declared.phase.Phase.TheVariants as phase
 use Rattle.gx_phases.specs.Indexes as phases
-use Rattle.gx_phases.specs.States.{IsKept, State, held_at, phase_at, slot_of}
-use Rattle.gx_phases.specs.Moves.{failed_state}
+use Rattle.gx_phases.specs.States.{IsKept, held_at, phase_at, slot_of}
 use Rattle.gx_engine.specs.declared.work.Work.{Work}
 use Rattle.gx_engine.specs.declared.work.Work.TheVariants.{Rests, Looks, Descends, Seeks}
 use Rattle.gx_engine.specs.Asks.{AskComes, ask_events}
 use Rattle.gx_engine.specs.Ending.{Spares, SparesSo}
-use Rattle.gx_engine.specs.Flushing.{IsEnded, LogSteps, PageIsWritten, log_events, page_events}
+use Rattle.gx_engine.specs.Flushing.{LogSteps, PageIsWritten, log_events, page_events}
 use Rattle.gx_engine.specs.Holds.{CallIsAt, Holds, IsAt, Leads, LeadsSo, Led}
 use Rattle.gx_engine.specs.Moves.{Lowers, MovesSo, left, left_by}
 use Rattle.gx_engine.specs.Commits.{AcknowledgeBy, AcknowledgeComes, AreSealing, SealComes, acknowledge_events}
 use Rattle.gx_engine.specs.Searches.{AreSearching, SearchComes}
 use Rattle.gx_engine.specs.States.{Parts, is_due, runs}
-use Rattle.gx_engine.specs.Stepping.{LowersBy, Stepped, Steps, has_call}
+use Rattle.gx_engine.specs.Stepping.{Steps, has_call}
 use Rattle.gx_engine.specs.Sweeping.{HasFailed, SweepComes, SweepsBy, SweepsPage, is_page, sweep_events}
 use Rattle.gx_engine.specs.Undoing.{AreUndoing, EndComes, RestoreComes, UndoBy, UndoComes}
 use Rattle.gx_engine.specs.Writes.{AreWriting, WriteComes}

@@ -11,7 +11,7 @@ use Rattle.gx_page.specs.Contents.{Contents}
 use Rattle.gx_pool.specs.Bringing.{OnlyRead}
 use Rattle.gx_node.specs.Reading.{Format}
 use Rattle.gx_recovery.specs.Records.{Record}
-use Rattle.gx_engine_laws.specs.Events.{RefusesCall}
+use Rattle.gx_events.specs.Events.{RefusesCall}
 use Rattle.gx_index_laws.specs.Classes.{Class, IsLawful, Page, known_of}
 use Rattle.gx_index_laws.specs.States as index
 use Rattle.gx_index_laws.proofs.Standing.{known_lawful}
@@ -41,7 +41,7 @@ use Rattle.gx_engine.proofs.Serving.{StaysSettled, of_reads}
 
 -- What it comes to.
 module _ {B D : Type 0} (Asks : ℕ → Type 0) (Lacks : Type 0) (k : Keys B) (passes : ℕ → Contents → Bool) (state : D → Device) (old : Parts B D) (s : ℕ) (entry : Entry B) (w : Volume D)
-    (most : w.most ≡ old.volume.most) (same_log : w.log ≡ old.volume.log) where
+    (most : w.most ≡ old.volume.most) (same_log : w.log ≡ old.volume.log) (imaged : w.imaged ≡ old.volume.imaged) where
   abbrev Comes : Parts B D → Outcome B → Type 0
   Comes new o = WriteBy Asks Lacks k passes (state old.volume.shelf.disk) (state new.volume.shelf.disk) s (Insert entry) old new o
 
@@ -49,17 +49,17 @@ module _ {B D : Type 0} (Asks : ℕ → Type 0) (Lacks : Type 0) (k : Keys B) (p
       → (new : Parts B D) (o : Outcome B) → IsRefused n (record old { volume = w }) new o → Comes new o
   stopped_comes early stay size asks small n why new o is =
       by_refusal (λ x. Replied (RefusedCall x)) (record old { volume = w }) new o Comes n is
-      (λ can found helps. ((size, asks, small, inr (record { fault = n; can = can; why = why; help = found; helps = helps; is = refl; stamps = stay }, always_early n (is_due old) early)), as_brought old w old.sessions same_log most))
+      (λ can found helps. ((size, asks, small, inr (record { fault = n; can = can; why = why; help = found; helps = helps; is = refl; stamps = stay }, always_early n (is_due old) early)), as_brought old w old.sessions same_log most imaged))
       (λ device. (
         subst (λ (x : StoreFault). faults.IsWhy passes (state old.volume.shelf.disk) (state w.shelf.disk) (begun old.volume size) w.shelf x) device why,
-        as_brought old w (failed_state old.sessions) same_log most,
+        as_brought old w (failed_state old.sessions) same_log most imaged,
       ))
-      (λ lies. as_brought old w (failed_state old.sessions) same_log most)
+      (λ lies. as_brought old w (failed_state old.sessions) same_log most imaged)
 
   pub lost_comes : (new : Parts B D) (o : Outcome B) → o ≡ Replied (RefusedCall refusal.Damaged) → new ≡ record old { volume = w; sessions = failed_state old.sessions } → Comes new o
   lost_comes new o one other =
       subst (λ (y : Outcome B). Comes new y) (sym one)
-      (subst (λ (x : Parts B D). Comes x (Replied (RefusedCall refusal.Damaged))) (sym other) (as_brought old w (failed_state old.sessions) same_log most))
+      (subst (λ (x : Parts B D). Comes x (Replied (RefusedCall refusal.Damaged))) (sym other) (as_brought old w (failed_state old.sessions) same_log most imaged))
 
 -- What it does to an index.
 module _ {B D : Type 0} (c : Class B) (lawful : 4 ≤ c.rules.most → IsLawful c) (r : Reading (Entry B) (Page B)) (f : Format B) (passes : ℕ → Contents → Bool)

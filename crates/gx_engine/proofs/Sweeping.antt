@@ -1,22 +1,21 @@
 -- The sweep of a leaf as an index's event.
-use Rattle.std.proofs.Common.{◌≡◌, ◌≢◌, ◌∙◌, sym, ap, refl, subst, inl, inr, ⊎_elim, ℕ, ◌<◌, ◌≤◌, Bool, ◌&&◌, true, false, List, [], ◌∷◌, ◌++◌, length, Result, Ok, Err, arith}
+use Rattle.std.proofs.Common.{◌≡◌, ◌≢◌, ◌∙◌, sym, ap, refl, subst, inl, inr, ⊎_elim, ℕ, ◌<◌, ◌≤◌, Bool, ◌&&◌, true, false, List, [], ◌∷◌, length, arith}
 use Rattle.std.specs.Prelude.{nat_le, nat_lt, ◌==◌}
 use Rattle.std.proofs.lemmas.Bool.{eqb-true, le-leb, lt-ltb, ltb-true}
 use Rattle.gx_machine.specs.declared.entry.Entry.{Entry}
 use Rattle.gx_machine.specs.Keys.{Keys}
 use Rattle.gx_disk.specs.Device.{Device}
 use Rattle.gx_page.specs.Contents.{Contents}
-use Rattle.gx_record.specs.Rec.{Rec}
-use Rattle.gx_record.specs.declared.sizes.TheConstants.{PAGE_RECORD}
 use Rattle.gx_node.specs.Edits.{entry_of}
 use Rattle.gx_node.specs.Reading.{Format}
+use Rattle.gx_node.specs.SmallLaws.{RemovalsMean}
 use Rattle.gx_node.specs.declared.items.TheConstants.{MAX_ENTRIES}
-use Rattle.gx_tree_laws.specs.Lists.{how_many}
-use Rattle.gx_tree_laws.specs.Trees.{Node, Used}
-use Rattle.gx_tree_laws.specs.Writes.{is_sweepable}
+use Rattle.gx_node.specs.Lists.{how_many}
+use Rattle.gx_node.specs.Trees.{Node, Used}
+use Rattle.gx_node.specs.Writes.{is_sweepable}
 use Rattle.gx_node.specs.Store.{Stays, Store, tree_of}
 use Rattle.gx_tree.specs.Writing.{Swept}
-use Rattle.gx_engine_laws.specs.Events.{Event, Works}
+use Rattle.gx_events.specs.Events.{Event, Works}
 use Rattle.gx_recovery.specs.Analysis.{Analysis, analysis}
 use Rattle.gx_recovery.specs.Known.{Known, Limits}
 use Rattle.gx_recovery.specs.Logged.{all_records, appended}
@@ -29,12 +28,13 @@ use Rattle.gx_index_laws.specs.Happening.{with_record}
 use Rattle.gx_index_laws.specs.States as index
 use Rattle.gx_index_laws.proofs.Standing.{grown, known_lawful}
 use Rattle.gx_durable.specs.Spelled.{Reading, record_read}
-use Rattle.gx_readings.specs.Classes.{reading_of}
+use Rattle.gx_durable.specs.Classes.{reading_of}
 use Rattle.gx_events.specs.declared.outcome.Outcome.{Outcome}
 use Rattle.gx_events.specs.declared.outcome.Outcome.TheVariants.{Help, More, Nothing, Refused, Replied}
 use Rattle.gx_phases.specs.Moves.{failed_state}
 use Rattle.gx_phases.specs.States.{IsKept}
 use Rattle.gx_store.specs.declared.fault.StoreFault.{StoreFault}
+use Rattle.gx_store.specs.declared.fault.StoreFault.TheVariants as store
 use Rattle.gx_store.specs.Faults as faults
 use Rattle.gx_store.specs.Faults.{CanBeRead}
 use Rattle.gx_store.specs.Standing.{standing_node, store_of}
@@ -42,24 +42,29 @@ use Rattle.gx_store.specs.State.{IsSteady, Shelf}
 use Rattle.gx_store.specs.Since.{GoesOn}
 use Rattle.gx_store.proofs.Listed.{nodes_long}
 use Rattle.gx_storage.specs.Bringing.{bringing, has_removable}
-use Rattle.gx_storage.specs.Changes.{IsLogged, IsLoggedIf, IsUnlogged, begun, has_room, page_given}
+use Rattle.gx_storage.specs.Changes.{IsUnlogged, begun, has_room}
+use Rattle.gx_storage.specs.Imaged.{is_imaged}
 use Rattle.gx_storage.specs.Keeps.{KeepsWith, StaysWith}
 use Rattle.gx_storage.specs.Numbers.{HasOwnNumber}
 use Rattle.gx_storage.specs.State.{Volume}
 use Rattle.gx_storage.specs.Sweeps.{WorksWith}
+use Rattle.gx_storage.specs.Sweeping.{SweepIsLogged, swept_slots}
+use Rattle.gx_storage.proofs.Recording.{AreNodes}
+use Rattle.gx_storage.proofs.SmallSweeps.{swept_fits, sweep_quiet}
 use Rattle.gx_storage.proofs.Stepping.{shown_legal, stood}
 use Rattle.gx_storage.proofs.SoundSweeps.{sweep_works}
 use Rattle.gx_engine.specs.declared.checkpoint.Checkpoint.TheVariants.{Turning}
-use Rattle.gx_engine.specs.Holds.{Holds, Led, Leads, Sits}
+use Rattle.gx_engine.specs.Holds.{Holds, Led, Leads}
 use Rattle.gx_engine.specs.Noted.{AreTold}
 use Rattle.gx_engine.specs.Refusals.{IsTurnedAway, StampsStay}
 use Rattle.gx_engine.specs.States.{Parts, is_due, runs}
-use Rattle.gx_engine.specs.Sweeping.{SweepsPage, is_held, node_shown, takes_any}
+use Rattle.gx_engine.specs.Sweeping.{AreTaken, SweepsPage, is_held, node_shown, slots_room, slots_said, takes_any}
 use Rattle.gx_engine.specs.Writes.{brought}
 use Rattle.gx_engine.proofs.Brought.{as_brought, begun_on, by_refusal, help_later, logged_later}
 use Rattle.gx_engine.proofs.Claimed.{claimed_alike}
 use Rattle.gx_engine.proofs.Growing.{grown_led}
 use Rattle.gx_engine.proofs.Serving.{FliesOn}
+use Rattle.gx_engine.proofs.SweepRoom.{lacks_taken}
 
 same_parts : {B : Type 0} (one other : Store B) → one.nodes ≡ other.nodes → one.counter ≡ other.counter → one.room ≡ other.room → one ≡ other
 same_parts {B} one other nodes counter room =
@@ -91,10 +96,16 @@ module _ {B D : Type 0} (k : Keys B) (known : Limits → Known (Entry B) (Page B
       ap (λ (n : ℕ). (nat_lt 0 page && nat_le page n) && has_removable (is_held k old) (node_shown f m page mid)) same_used
       ∙ ap (λ (s : Store B). (nat_lt 0 page && nat_le page old.volume.shelf.used) && has_removable (is_held k old) ((tree_of s).node page)) (same_store steady)
 
+  -- so a sweep takes the same
+  taken_same : (slots : List ℕ) → AreTaken (is_held k old) f m mid.volume page slots → AreTaken (is_held k old) f d old.volume page slots
+  taken_same slots taken steady = taken (on.steady steady) ∙ ap (λ (s : Store B). swept_slots (is_held k old) ((tree_of s).node page)) (same_store steady)
+
   then_comes : (new : Parts B D) (outcome : Outcome B) → SweepsPage k known r f passes page m e mid new outcome → SweepsPage k known r f passes page d e old new outcome
   then_comes new More is = record {
     early = is.early;
-    logged = logged_later known r f passes PAGE_RECORD d m e old.volume t new.volume (page_given page e.seen new.volume.shelf) first is.logged;
+    slots = is.slots;
+    taken = taken_same is.slots is.taken;
+    logged = logged_later known r f passes (slots_room old.volume page is.slots) d m e old.volume t new.volume (slots_said old.volume page is.slots e new.volume) first is.logged;
     swept = λ steady. subst (λ (s : Store B). Swept (is_held k old) s (store_of f e.seen new.volume.shelf) page true) (same_store steady) (is.swept (on.steady steady));
     only = is.only;
   }
@@ -108,7 +119,12 @@ module _ {B D : Type 0} (k : Keys B) (known : Limits → Known (Entry B) (Page B
               (λ due. inl due)
               (λ room. inr (
                 room.0,
-                help_later passes d m e (runs old.checkpoint) _ _ new.volume.shelf n (begun_on passes d m (bringing old.volume) t (has_room old.volume.log PAGE_RECORD) on) stay room.1,
+                record {
+                  slots = room.1.slots;
+                  taken = taken_same room.1.slots room.1.taken;
+                  help = help_later passes d m e (runs old.checkpoint) _ _ new.volume.shelf n
+                      (begun_on passes d m (bringing old.volume) t (has_room old.volume.log (slots_room old.volume page room.1.slots)) on) stay room.1.help;
+                },
               ))
               some.1,
         ))
@@ -135,14 +151,15 @@ sweep_then {B} {D} k known r f passes page d m e old mid same first stays new ou
     → SweepsPage k known r f passes page m e x new outcome → SweepsPage k known r f passes page d e old new outcome)
     (sym same) (λ first stays is. then_comes k known r f passes page d m e old mid.volume.shelf first stays new outcome is) first stays is
 
--- something was logged, or nothing
-pub logged_so : {B D : Type 0} (known : Limits → Known (Entry B) (Page B)) (r : Reading (Entry B) (Page B)) (f : Format B) (passes : ℕ → Contents → Bool) (size : ℕ) (d e : Device) (v w : Volume D) (x : Rec) (any : Bool)
-    → any ≡ true → IsLoggedIf known r f passes size d e v w x any → IsLogged known r f passes size d e v w x
-logged_so known r f passes size d e v w x any is logged = subst (λ (b : Bool). IsLoggedIf known r f passes size d e v w x b) is logged
+-- a sweep that took something
+pub sweep_so : {B D : Type 0} (known : Limits → Known (Entry B) (Page B)) (r : Reading (Entry B) (Page B)) (f : Format B) (passes : ℕ → Contents → Bool) (IsTest : (Entry B → Bool) → Type 0)
+    (d e : Device) (v w : Volume D) (page : ℕ) (any : Bool) → any ≡ true → SweepIsLogged known r f passes IsTest d e v w page any → SweepIsLogged known r f passes IsTest d e v w page true
+sweep_so known r f passes IsTest d e v w page any is logged = subst (λ (b : Bool). SweepIsLogged known r f passes IsTest d e v w page b) is logged
 
-pub unlogged_so : {B D : Type 0} (known : Limits → Known (Entry B) (Page B)) (r : Reading (Entry B) (Page B)) (f : Format B) (passes : ℕ → Contents → Bool) (size : ℕ) (d e : Device) (v w : Volume D) (x : Rec) (any : Bool)
-    → any ≡ false → IsLoggedIf known r f passes size d e v w x any → IsUnlogged known r f passes (begun v size) d e v w
-unlogged_so known r f passes size d e v w x any is unlogged = subst (λ (b : Bool). IsLoggedIf known r f passes size d e v w x b) is unlogged
+-- or nothing
+pub unswept_so : {B D : Type 0} (known : Limits → Known (Entry B) (Page B)) (r : Reading (Entry B) (Page B)) (f : Format B) (passes : ℕ → Contents → Bool) (IsTest : (Entry B → Bool) → Type 0)
+    (d e : Device) (v w : Volume D) (page : ℕ) (any : Bool) → any ≡ false → SweepIsLogged known r f passes IsTest d e v w page any → SweepIsLogged known r f passes IsTest d e v w page false
+unswept_so known r f passes IsTest d e v w page any is logged = subst (λ (b : Bool). SweepIsLogged known r f passes IsTest d e v w page b) is logged
 
 pub swept_so : {B : Type 0} (claimed : Entry B → Bool) (old new : Store B) (page : ℕ) (any : Bool) → any ≡ true → Swept claimed old new page any → Swept claimed old new page true
 swept_so claimed old new page any is swept = subst (λ (b : Bool). Swept claimed old new page b) is swept
@@ -176,10 +193,11 @@ more_than_fit f page d old claimed low high some full =
 module _ {B D : Type 0} (c : Class B) (lawful : 4 ≤ c.rules.most → IsLawful c) (said : List ℕ → B) (f : Format B) (passes : ℕ → Contents → Bool) (page : ℕ) (d e : Device) (old : Parts B D)
     (kept : IsKept c.keys old.sessions) where
   module _ (w : Volume D) (calm : old.checkpoint ≢ Turning) (most : w.most ≡ old.volume.most) (flies : FliesOn old.volume.log w.log)
-      (keeps : KeepsWith (known_of c) (reading_of said f) f passes d e old.volume w (page_given page e.seen w.shelf))
+      (nodes : AreNodes f passes old.volume.shelf) (means : RemovalsMean f) (slots : List ℕ) (taken : AreTaken (is_held c.keys old) f d old.volume page slots)
+      (keeps : KeepsWith (known_of c) (reading_of said f) f passes d e old.volume w (slots_said old.volume page slots e w))
       (swept : IsSteady d old.volume.shelf.frames → Swept (is_held c.keys old) (store_of f d.seen old.volume.shelf) (store_of f e.seen w.shelf) page true) (own : HasOwnNumber e.seen w.shelf page) where
     abbrev given : Record (Entry B) (Page B)
-    given = record_read (reading_of said f) (page_given page e.seen w.shelf)
+    given = record_read (reading_of said f) (slots_said old.volume page slots e w)
 
     module _ (bodies : List (List (Record (Entry B) (Page B)))) (i : index.State B) (h : Holds c (reading_of said f) f passes d old bodies i) where
       after : StaysWith (known_of c) (reading_of said f) f passes d e w bodies i.log given
@@ -188,7 +206,9 @@ module _ {B D : Type 0} (c : Class B) (lawful : 4 ≤ c.rules.most → IsLawful 
       -- what any session claims is spared, so the record may come
       works_with : WorksWith c (reading_of said f) f passes e w bodies i given
       works_with =
-          sweep_works c (lawful h.some) said f passes d e old.volume w page bodies i h.whole h.keeps after (is_held c.keys old)
+          sweep_works c (lawful h.some) said f passes d e old.volume w page bodies i h.whole h.keeps (is_imaged old.volume.imaged page) slots after
+          (λ bit. swept_fits (known_of c) said f passes d old.volume bodies i.log h.keeps nodes means page (is_held c.keys old) slots (store_of f e.seen w.shelf) (taken h.keeps.steady)
+          (swept h.keeps.steady) bit) (is_held c.keys old)
           (λ entry claimed. claimed_alike c.keys old.sessions i kept h.sessions entry ∙ claimed) (swept h.keeps.steady) own
 
       -- no entry is touched
@@ -196,6 +216,7 @@ module _ {B D : Type 0} (c : Class B) (lawful : 4 ≤ c.rules.most → IsLawful 
       same_touched =
           ap (λ (a : Analysis (Entry B)). a.touched)
           (ap (λ (rs : List (Record (Entry B) (Page B))). analysis (known_of c) rs) (grown given i.log) ∙ analysis-snoc (known_of c) (all_records i.log) given)
+          ∙ sweep_quiet (known_of c) said f (is_imaged old.volume.imaged page) page slots e.seen w.shelf (analysis (known_of c) (all_records i.log))
 
       sweep_led : Led c (reading_of said f) f passes d e (record old { volume = w }) i (Works ∷ [])
       sweep_led =
@@ -225,12 +246,13 @@ module _ {B D : Type 0} (c : Class B) (lawful : 4 ≤ c.rules.most → IsLawful 
 
 -- Pages were refused to the sweep of a leaf that has something to take.
 pub turned_comes : {B D : Type 0} (k : Keys B) (known : Limits → Known (Entry B) (Page B)) (r : Reading (Entry B) (Page B)) (f : Format B) (passes : ℕ → Contents → Bool) (page : ℕ) (state : D → Device)
-    (old : Parts B D) (w : Volume D) → w.most ≡ old.volume.most → w.log ≡ old.volume.log → 1 ≤ page → page ≤ old.volume.shelf.used
+    (old : Parts B D) (w : Volume D) → w.most ≡ old.volume.most → w.log ≡ old.volume.log → w.imaged ≡ old.volume.imaged → 1 ≤ page → page ≤ old.volume.shelf.used
     → has_removable (is_held k old) (node_shown f (state old.volume.shelf.disk) page old) ≡ true → is_due old ≡ false
     → StampsStay old.volume.shelf w.shelf
-    → (n : StoreFault) → faults.IsWhy passes (state old.volume.shelf.disk) (state w.shelf.disk) (begun old.volume PAGE_RECORD) w.shelf n → (new : Parts B D) (o : Outcome B)
+    → (n : StoreFault) (slots : List ℕ) → (n ≡ store.NoRoom → AreTaken (is_held k old) f (state old.volume.shelf.disk) old.volume page slots)
+    → faults.IsWhy passes (state old.volume.shelf.disk) (state w.shelf.disk) (begun old.volume (slots_room old.volume page slots)) w.shelf n → (new : Parts B D) (o : Outcome B)
     → IsTurnedAway n (record old { volume = w }) new o → SweepsPage k known r f passes page (state old.volume.shelf.disk) (state new.volume.shelf.disk) old new o
-turned_comes {B} {D} k known r f passes page state old w most log low high some early stay n why new o is =
+turned_comes {B} {D} k known r f passes page state old w most log imaged low high some early stay n slots exact why new o is =
     let d = state old.volume.shelf.disk in
     let taken : (nat_lt 0 page && nat_le page old.volume.shelf.used) ≡ true =
     and_all (nat_lt 0 page) (nat_le page old.volume.shelf.used) (lt-ltb 0 page low) (le-leb page old.volume.shelf.used high) in
@@ -238,14 +260,25 @@ turned_comes {B} {D} k known r f passes page state old w most log low high some 
     and_all (nat_lt 0 page && nat_le page old.volume.shelf.used) (has_removable (is_held k old) (node_shown f d page old)) taken some in
     by_refusal Refused (record old { volume = w }) new o (λ x y. SweepsPage k known r f passes page d (state x.volume.shelf.disk) old x y) n is
     (λ can found helps. (
-      inr ((λ steady. takes), inr (early, record { fault = n; can = can; why = why; help = found; helps = helps; is = refl; stamps = stay })),
-      as_brought old w old.sessions log most,
+      (let lacks = lacks_taken passes d (state w.shelf.disk) f (is_held k old) old.volume page w.shelf n slots exact why in
+          inr (
+            (λ steady. takes),
+            inr (
+              early,
+              record {
+                slots = lacks.0;
+                taken = lacks.1;
+                help = record { fault = n; can = can; why = lacks.2; help = found; helps = helps; is = refl; stamps = stay };
+              },
+            ),
+          )),
+      as_brought old w old.sessions log most imaged,
     ))
     (λ device. (
-      inl (refl, subst (λ (x : StoreFault). faults.IsWhy passes d (state w.shelf.disk) (begun old.volume PAGE_RECORD) w.shelf x) device why),
-      as_brought old w (failed_state old.sessions) log most,
+      inl (refl, subst (λ (x : StoreFault). faults.IsWhy passes d (state w.shelf.disk) (begun old.volume (slots_room old.volume page slots)) w.shelf x) device why),
+      as_brought old w (failed_state old.sessions) log most imaged,
     ))
     (λ lies. (
-      inr (refl, λ steady readable. absurd (subst (λ (x : StoreFault). faults.IsWhy passes d (state w.shelf.disk) (begun old.volume PAGE_RECORD) w.shelf x) lies why steady readable)),
-      as_brought old w (failed_state old.sessions) log most,
+      inr (refl, λ steady readable. absurd (subst (λ (x : StoreFault). faults.IsWhy passes d (state w.shelf.disk) (begun old.volume (slots_room old.volume page slots)) w.shelf x) lies why steady readable)),
+      as_brought old w (failed_state old.sessions) log most imaged,
     ))

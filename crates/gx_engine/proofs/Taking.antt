@@ -5,7 +5,7 @@ use Rattle.gx_machine.specs.declared.call.Call.{Call}
 use Rattle.gx_machine.specs.Keys.{Keys}
 use Rattle.gx_machine.specs.Machine.{is_session}
 use Rattle.gx_disk.specs.Device.{Device}
-use Rattle.gx_tree_laws.specs.Reach.{TraversalItem}
+use Rattle.gx_node.specs.Reach.{TraversalItem}
 use Rattle.gx_tree.specs.declared.look.Look.{Look}
 use Rattle.gx_phases.specs.declared.phase.Phase.{Phase}
 use Rattle.gx_phases.specs.declared.phase.Phase.TheVariants as phase

@@ -23,14 +23,14 @@ use Rattle.gx_recovery.specs.Logged.{Logged, all_records}
 use Rattle.gx_recovery.specs.Renewal.{notes_of, renewed}
 use Rattle.gx_index_laws.specs.Classes.{Class, IsLawful, Page, known_of}
 use Rattle.gx_index_laws.specs.States as index
-use Rattle.gx_engine_laws.specs.Events.{Fails}
+use Rattle.gx_events.specs.Events.{Fails}
 use Rattle.gx_index_laws.proofs.Standing.{known_lawful}
 use Rattle.gx_durable.specs.Area.{IsSettledBut}
 use Rattle.gx_durable.specs.Spelled.{Reading, AreRecords}
 use Rattle.gx_durable.specs.Standing.{batch_of}
 use Rattle.gx_events.specs.declared.outcome.Outcome.{Outcome}
 use Rattle.gx_events.specs.declared.outcome.Outcome.TheVariants.{More, Refused}
-use Rattle.gx_events.specs.Engines.{IsSync}
+use Rattle.gx_events.specs.Steps.{IsSync}
 use Rattle.gx_durable.proofs.Spellings.{one_way, none_are}
 use Rattle.gx_durable.proofs.Storing.{nothing_dirty}
 use Rattle.gx_store.specs.declared.fault.StoreFault.{StoreFault}
@@ -187,6 +187,7 @@ module _ {B D : Type 0} (k : Known (Entry B) (Page B)) (r : Reading (Entry B) (P
         counter = old.counter;
         pages = old.pages;
         formed = old.formed;
+        imaged = old.imaged;
       }
 
   pub head_kept : OnlyHead u w → Keeps k r f passes e u bodies s → Keeps k r f passes e w bodies s

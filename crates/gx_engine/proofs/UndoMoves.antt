@@ -16,28 +16,29 @@ use Rattle.gx_disk.proofs.Leaving.{nothing_leaves}
 use Rattle.gx_page.specs.Contents.{Contents}
 use Rattle.gx_pool.specs.Bringing.{OnlyRead}
 use Rattle.gx_node.specs.Reading.{Format}
-use Rattle.gx_glog.specs.State.{Log}
 use Rattle.gx_record.specs.Rec as rec
-use Rattle.gx_record.specs.Writing.{write_record}
-use Rattle.gx_tree_laws.specs.Alike.{AgreeOnUsed}
-use Rattle.gx_tree_laws.specs.Lists.{how_many}
-use Rattle.gx_tree_laws.specs.Trees.{Node, Pair, Tree, Used}
-use Rattle.gx_tree_laws.proofs.SeekSteps.{seek_at_leaf}
+use Rattle.gx_node.specs.Alike.{AgreeOnUsed}
+use Rattle.gx_node.specs.Lists.{how_many}
+use Rattle.gx_node.specs.Trees.{Node, Pair, Tree, Used}
+use Rattle.gx_node.proofs.SeekSteps.{seek_at_leaf}
 use Rattle.gx_node.specs.Keyed.{AreKeys}
-use Rattle.gx_node.specs.Owner.{IsWhy}
+use Rattle.gx_node.specs.Owner.{IsWhy, IsWhyOfSplit}
 use Rattle.gx_tree.specs.Writing.{SetsMark}
 use Rattle.gx_node.specs.declared.fault.StepFault.{StepFault}
 use Rattle.gx_node.specs.declared.fault.StepFault.TheVariants as step
+use Rattle.gx_node.specs.declared.fault.SplitFault.{SplitFault}
+use Rattle.gx_node.specs.declared.fault.SplitFault.TheVariants as split
 use Rattle.gx_tree.specs.declared.seek.Sought.{Sought}
 use Rattle.gx_tree.specs.declared.seek.Sought.TheVariants.{Here, Right}
 use Rattle.gx_recovery.specs.Known as known
 use Rattle.gx_recovery.specs.Known.{Known, Limits}
-use Rattle.gx_recovery.specs.Logged.{Logged}
+use Rattle.gx_recovery.specs.Logged.{Logged, all_records}
 use Rattle.gx_recovery.specs.Records as records
-use Rattle.gx_recovery.specs.Records.{Record, Whole, Write}
-use Rattle.gx_engine_laws.specs.Events.{Event, EndsUndo, RefusesCall, Undoes, Works}
-use Rattle.gx_engine_laws.specs.Slots as slots
-use Rattle.gx_engine_laws.specs.Slots.{Slot, is_unanswered, slot_at}
+use Rattle.gx_recovery.specs.Coming.{IsSaid}
+use Rattle.gx_recovery.specs.Records.{Record, Said, Write}
+use Rattle.gx_events.specs.Events.{Event, EndsUndo, RefusesCall, Undoes, Works}
+use Rattle.gx_events.specs.Slots as slots
+use Rattle.gx_events.specs.Slots.{Slot, is_unanswered, slot_at}
 use Rattle.gx_index_laws.specs.Classes.{Class, IsLawful, Page, is_of, known_of}
 use Rattle.gx_index_laws.specs.Happening.{slotted, with_record, with_restored, with_work}
 use Rattle.gx_index_laws.specs.Measures.{work_left}
@@ -47,7 +48,7 @@ use Rattle.gx_index_laws.specs.Working.{SeeksFor}
 use Rattle.gx_index_laws.proofs.Standing.{is_legal, known_lawful}
 use Rattle.gx_durable.specs.Spelled.{Reading, record_read}
 use Rattle.gx_durable.specs.Standing.{Stands}
-use Rattle.gx_readings.specs.Classes.{class_of, known_at, reading_of}
+use Rattle.gx_durable.specs.Classes.{class_of, known_at, reading_of}
 use Rattle.gx_events.specs.declared.outcome.Outcome.{Outcome}
 use Rattle.gx_events.specs.declared.outcome.Outcome.TheVariants.{Replied, More, Help}
 use Rattle.gx_events.specs.declared.outcome.Need.{Need}
@@ -63,7 +64,12 @@ use Rattle.gx_store.specs.declared.fault.StoreFault.TheVariants as fault
 use Rattle.gx_store.specs.Faults as faults
 use Rattle.gx_store.specs.Standing.{store_of}
 use Rattle.gx_store.specs.State.{IsInOrder, IsSteady}
-use Rattle.gx_storage.specs.Changes.{IsUnlogged, MarkIsLogged, begun, image_at, write_of}
+use Rattle.gx_storage.specs.Changes.{IsUnlogged, MarkIsLogged, begun}
+use Rattle.gx_storage.specs.Imaged.{is_imaged}
+use Rattle.gx_storage.specs.Marks.{MarksEntry}
+use Rattle.gx_storage.specs.Small.{mark_room, mark_said}
+use Rattle.gx_storage.proofs.Recording.{AreNodes}
+use Rattle.gx_storage.proofs.SmallMarks.{ReadsMarks, mark_is_said, mark_read, mark_told}
 use Rattle.gx_storage.specs.Flushing.{KeepsRecord}
 use Rattle.gx_storage.specs.Keeps.{Keeps, KeepsTheSame, ShowsKeys, ShowsTheLogs, StaysSame, StaysWith, tree_shown}
 use Rattle.gx_storage.specs.Numbers.{OwnWhereSet}
@@ -297,14 +303,15 @@ module _ {B D : Type 0} (c : Class B) (lawful : 4 ≤ c.rules.most → IsLawful 
     module _ (IsKey : B → Type 0) (shows : ShowsTheLogs (known_of c) r f passes d old.volume) (keyed : ShowsKeys (known_of c) r f passes IsKey d old.volume)
         (order : IsInOrder (passes old.volume.shelf.pages) d.sectors old.volume.shelf.frames old.volume.shelf.used old.volume.shelf.pages)
         (wants : Pair B → Bool) (wanted : (x : Pair B) → IsKey x.key → wants x ≡ ((x.row == n.entry.row) && is_eq (c.keys.cmp x.key n.entry.key)))
-        (slot : ℕ) (before : Bool) (content : Page B) (of_class : c.is_key n.entry.key ≡ true) (own : content.own ≡ leaf)
+        (slot : ℕ) (before : Bool) (told : Said (Page B)) (of_class : c.is_key n.entry.key ≡ true)
+        (own : (bodies : List (List (Record (Entry B) (Page B)))) (log : Logged (Entry B) (Page B)) → Keeps (known_of c) r f passes d old.volume bodies log → IsSaid (known_of c) leaf told (all_records log))
         (sets : IsSteady d old.volume.shelf.frames → SetsMark wants (store_of f d.seen old.volume.shelf) (store_of f e.seen w.shelf) leaf n.before (Here slot before))
         (flies : FliesOn old.volume.log w.log)
         (keeps : (bodies : List (List (Record (Entry B) (Page B)))) (log : Logged (Entry B) (Page B)) → known.IsLawful (known_of c)
         → Keeps (known_of c) r f passes d old.volume bodies log
-        → StaysWith (known_of c) r f passes d e w bodies log (Write (transaction_of s old.sessions) n.entry before n.before leaf (Whole content))) where
+        → StaysWith (known_of c) r f passes d e w bodies log (Write (transaction_of s old.sessions) n.entry before n.before leaf told)) where
       abbrev x : Record (Entry B) (Page B)
-      x = Write (transaction_of s old.sessions) n.entry before n.before leaf (Whole content)
+      x = Write (transaction_of s old.sessions) n.entry before n.before leaf told
 
       pub here_moves : MovesSo c r f passes d e s old (record old { volume = w; sessions = restored_state s m n leaf Rests old.sessions }) More (AreUndoing s old.sessions More)
       unfolding grown_led
@@ -318,11 +325,11 @@ module _ {B D : Type 0} (c : Class B) (lawful : 4 ≤ c.rules.most → IsLawful 
           let set = sets h.keeps.steady in
           let after = keeps bodies i.log (known_lawful c law) h.keeps in
           let t : ℕ = transaction_of s old.sessions in
-          let marks = marks_too c law r f passes IsKey d e old.volume w i.log t n.entry before n.before leaf (Whole content) legal agree keys after.shows wants wanted slot set in
+          let marks = marks_too c law r f passes IsKey d e old.volume w i.log t n.entry before n.before leaf told legal agree keys after.shows wants wanted slot set in
           let lived = here_live c law IsKey tree (other bodies i h) agree keys leaf used n.entry wants wanted slot before set.0 legal in
           let some = here_counts c law IsKey tree (other bodies i h) agree keys leaf used n.entry wants wanted slot before set.0 (is_of c n.entry) (λ y is_its at. is_its) in
-          let comes = undoing.restored_comes c law old.sessions kept works s is m was at i h.whole (sits bodies i h) n next.note before leaf content of_class own lived some marks in
-          let lowers = undoing.restored_lowers c law old.sessions kept works s is m was at i h.whole (sits bodies i h) n next.note before leaf content of_class own lived some marks in
+          let comes = undoing.restored_comes c law old.sessions kept works s is m was at i h.whole (sits bodies i h) n next.note before leaf told of_class (own bodies i.log h.keeps) lived some marks in
+          let lowers = undoing.restored_lowers c law old.sessions kept works s is m was at i h.whole (sits bodies i h) n next.note before leaf told of_class (own bodies i.log h.keeps) lived some marks in
           let j : index.State B = with_restored s n.entry (with_record x i) in
           let past = left_then (phase_at (s - 1) old.sessions.phases) m was at (work_left c i s) in
           let now = left_now c.keys old.sessions kept s is (m + 1) Rests (work_left c j s) in (
@@ -332,7 +339,7 @@ module _ {B D : Type 0} (c : Class B) (lawful : 4 ≤ c.rules.most → IsLawful 
               led =
                   grown_led c r f passes d e old bodies i h (is_calm old.checkpoint (not_due old early).0) w most flies after.leaves x (after.keeps comes.0)
                   (Undoes s n.entry ∷ []) j (j, comes.1, refl) comes.1.whole refl refl refl (restored_state s m n leaf Rests old.sessions)
-                  (undoing.restored_sits c law old.sessions kept works s is m was at i h.whole (sits bodies i h) n next.note before leaf content of_class own lived some marks) refl (λ works. works);
+                  (undoing.restored_sits c law old.sessions kept works s is m was at i h.whole (sits bodies i h) n next.note before leaf told of_class (own bodies i.log h.keeps) lived some marks) refl (λ works. works);
               lowers = lower_by _ _ _ _ past now lowers;
             },
           )
@@ -345,6 +352,10 @@ due_moves c r f passes d old s need bodies i h = ([], refl, record { led = nothi
 -- pages that a step was refused say why
 pub why_pages : {F : Type 0} (P : F → Type 0) (whole : StepFault F) (x : F) → whole ≡ step.Pages x → IsWhy P whole → P x
 why_pages {F} P whole x is why = subst (λ (y : StepFault F). IsWhy P y) is why
+
+-- and so do those that a split was refused
+pub why_split_pages : {F : Type 0} (P : F → Type 0) (whole : SplitFault F) (fault : StepFault F) (x : F) → whole ≡ split.Step fault → fault ≡ step.Pages x → IsWhyOfSplit P whole → P x
+why_split_pages {F} P whole fault x of is why = why_pages P fault x is (subst (λ (y : SplitFault F). IsWhyOfSplit P y) of why)
 
 -- Pages were refused.
 module _ {B D : Type 0} (c : Class B) (lawful : 4 ≤ c.rules.most → IsLawful c) (r : Reading (Entry B) (Page B)) (f : Format B) (passes : ℕ → Contents → Bool)
@@ -379,8 +390,8 @@ module _ {B D : Type 0} (known : Limits → Known (Entry B) (Page B)) (r : Readi
   coming : (new there : Parts B D) (o given : Outcome B) → o ≡ given → new ≡ there → Comes there given → Comes new o
   coming new there o given one other it = subst (λ (y : Outcome B). Comes new y) (sym one) (subst (λ (x : Parts B D). Comes x given) (sym other) it)
 
-  module _ (unlogged : IsUnlogged known r f passes (begun old.volume (write_record key)) d (state w.shelf.disk) old.volume w) where
-    pub refused_comes : (refused : StoreFault) → faults.IsWhy passes d (state w.shelf.disk) (begun old.volume (write_record key)) w.shelf refused → (new : Parts B D) (o : Outcome B)
+  module _ (unlogged : IsUnlogged known r f passes (begun old.volume (mark_room (is_imaged old.volume.imaged leaf) key)) d (state w.shelf.disk) old.volume w) where
+    pub refused_comes : (refused : StoreFault) → faults.IsWhy passes d (state w.shelf.disk) (begun old.volume (mark_room (is_imaged old.volume.imaged leaf) key)) w.shelf refused → (new : Parts B D) (o : Outcome B)
         → IsRefused refused (record old { volume = w }) new o → Comes new o
     refused_comes fault.NoRoom why new o is =
         coming new _ o _ is.2 is.3 (unlogged, record { fault = fault.NoRoom; can = tt; why = why; help = is.0; helps = is.1; is = refl; stamps = λ page. (unlogged.since page).same.stamp }, refl)
@@ -437,18 +448,21 @@ module _ {B D : Type 0} (shape : Members B) (proper : B → Bool) (limits : Limi
 
   pub sought_moves : ShowsTheLogs (known_of c) r f passes d old.volume → ShowsKeys (known_of c) r f passes IsKey d old.volume
       → IsInOrder (passes old.volume.shelf.pages) d.sectors old.volume.shelf.frames old.volume.shelf.used old.volume.shelf.pages
-      → said (spelling n.entry.key) ≡ n.entry.key → proper n.entry.key ≡ true
+      → AreNodes f passes old.volume.shelf → (most : ℕ) → ReadsMarks IsKey spelling f shape most → IsKey n.entry.key → said (spelling n.entry.key) ≡ n.entry.key → proper n.entry.key ≡ true
       → (sought : Sought) → PairIsSought (known_at shape proper) r f passes IsKey (keys_of shape) spelling key d e old.volume w (transaction_of s old.sessions) n leaf sought
       → MovesSo c r f passes d e s old (record old { volume = w; sessions = sought_state s next.restored n leaf sought old.sessions }) More (AreUndoing s old.sessions More)
-  sought_moves shows keyed order back of_class (Here slot before) found =
-      let content : Page B = r.content (image_at e.seen w.shelf leaf) in
+  sought_moves shows keyed order nodes most reads is_key back of_class (Here slot before) found =
+      let small = is_imaged old.volume.imaged leaf in
+      let told : Said (Page B) = mark_told spelling f small n.entry n.before leaf e.seen w.shelf in
       let t : ℕ = transaction_of s old.sessions in
-      let same : record_read r (write_of spelling t n.entry.row n.entry.key before n.before leaf e.seen w.shelf) ≡ Write t n.entry before n.before leaf (Whole content) =
-      ap (λ (x : B). (let y : Record (Entry B) (Page B) = Write t (record { row = n.entry.row; key = x }) before n.before leaf (Whole content) in y)) back in
-      here_moves c lawful r f passes d e old kept works s is early w found.logged.most n next leaf its_leaf IsKey shows keyed order found.wants found.wanted slot before content of_class found.own
+      let same : record_read r (mark_said spelling small t n.entry.row n.entry.key before n.before leaf e.seen w.shelf) ≡ Write t n.entry before n.before leaf told =
+      mark_read said spelling f small t n.entry before n.before leaf e.seen w.shelf back in
+      here_moves c lawful r f passes d e old kept works s is early w found.logged.most n next leaf its_leaf IsKey shows keyed order found.wants found.wanted slot before told of_class
+      (λ bodies log keeps. mark_is_said shape (known_of c) said f passes d old.volume bodies log keeps nodes IsKey spelling most reads n.entry is_key
+      found.wants found.wanted leaf slot before n.before e.seen w.shelf found.own (store_of f e.seen w.shelf) (found.sets keeps.steady))
       found.sets (flies_on old.volume.log w.log found.logged.logs)
       (λ bodies log lawful_log keeps. subst (λ (y : Record (Entry B) (Page B)). StaysWith (known_of c) r f passes d e w bodies log y) same (found.logged.keeps limits bodies log lawful_log keeps))
-  sought_moves shows keyed order back of_class (Right page) found =
+  sought_moves shows keyed order nodes most reads is_key back of_class (Right page) found =
       right_moves c lawful r f passes d e old kept works s is early w found.logged.most n next leaf its_leaf found.logged.log (found.logged.since 0).goes_on.device (found.logged.keeps limits)
       IsKey shows keyed order found.wants found.wanted page found.sets
 
@@ -475,23 +489,20 @@ some_comes {B} {D} known r f passes IsKey k spelling key d e s old new outcome e
     (n, here, subst (λ (q : ℕ). RestoreComes known r f passes IsKey k spelling key d e s m n q old new outcome) its_leaf (comes m place)))
 
 -- What a call that sets a mark tells, as what was sought.
-pub seeking : {B D : Type 0} (known : Limits → Known (Entry B) (Page B)) (r : Reading (Entry B) (Page B)) (f : Format B) (passes : ℕ → Contents → Bool) (IsKey : B → Type 0) (k : Keys B)
-    (spelling : B → List ℕ) (key : ℕ) (d e : Device) (v w : Volume D) (t : ℕ) (n : Note B) (leaf : ℕ) (wants : Pair B → Bool)
-    → ((x : Pair B) → IsKey x.key → wants x ≡ ((x.row == n.entry.row) && is_eq (k.cmp x.key n.entry.key)))
+pub seeking : {B D : Type 0} (known : Limits → Known (Entry B) (Page B)) (r : Reading (Entry B) (Page B)) (f : Format B) (passes : ℕ → Contents → Bool) (IsKey : B → Type 0) (shape : Members B)
+    (spelling : B → List ℕ) (key : ℕ) (d e : Device) (v w : Volume D) (t : ℕ) (n : Note B) (leaf : ℕ)
     → (result : Result Sought (StepFault StoreFault)) → IfOk result (MarkIsLogged known r f passes spelling key t n.entry leaf n.before d e v w)
-    → OnErr result (IsUnlogged known r f passes (begun v (write_record key)) d e v w)
-    → (IsSteady d v.shelf.frames → IfOk result (SetsMark wants (store_of f d.seen v.shelf) (store_of f e.seen w.shelf) leaf n.before)) → IfOk result (OwnWhereSet e.seen w.shelf leaf)
-    → IfErr result (IsWhy (faults.IsWhy passes d e (begun v (write_record key)) w.shelf))
-    → (IsSteady d v.shelf.frames → result ≡ Err step.Damaged → IsNoLeaf known r f passes IsKey k spelling key d v leaf) → result ≢ Err step.Memory → result ≢ Err step.PagesFull
-    → Seeking known r f passes IsKey k spelling key d e v w t n leaf result
-seeking known r f passes IsKey k spelling key d e v w t n leaf wants wanted (Ok sought) logged unlogged sets own why damaged memory full =
-    record { wants = wants; wanted = wanted; logged = logged; sets = sets; own = own }
-seeking known r f passes IsKey k spelling key d e v w t n leaf wants wanted (Err fault) logged unlogged sets own why damaged memory full =
+    → OnErr result (IsUnlogged known r f passes (begun v (mark_room (is_imaged v.imaged leaf) key)) d e v w)
+    → IfOk result (MarksEntry IsKey shape (IsSteady d v.shelf.frames) (store_of f d.seen v.shelf) (store_of f e.seen w.shelf) n.entry leaf n.before) → IfOk result (OwnWhereSet e.seen w.shelf leaf)
+    → IfErr result (IsWhy (faults.IsWhy passes d e (begun v (mark_room (is_imaged v.imaged leaf) key)) w.shelf))
+    → (IsSteady d v.shelf.frames → result ≡ Err step.Damaged → IsNoLeaf known r f passes IsKey (keys_of shape) spelling key d v leaf)
+    → Seeking known r f passes IsKey (keys_of shape) spelling key d e v w t n leaf result
+seeking known r f passes IsKey shape spelling key d e v w t n leaf (Ok sought) logged unlogged marks own why damaged =
+    record { wants = marks.wants; wanted = marks.wanted; logged = logged; sets = marks.sets; own = own }
+seeking known r f passes IsKey shape spelling key d e v w t n leaf (Err fault) logged unlogged marks own why damaged =
     let result : StepFault StoreFault → Result Sought (StepFault StoreFault) = λ x. Err x in
     record {
       unlogged = unlogged;
       why = why;
       damaged = λ steady is. damaged steady (ap result is);
-      memory = λ is. memory (ap result is);
-      full = λ is. full (ap result is);
     }

@@ -1,32 +1,27 @@
 -- The moves of an undo, as an index's events and as what its sessions come to.
-use Rattle.std.proofs.Common.{◌≡◌, ◌≢◌, ◌∙◌, sym, ap, refl, subst, ℕ, zero, suc, ◌+◌, ◌-◌, ◌<◌, ◌≤◌, Bool, true, false, not, cond, List, [], ◌∷◌, ◌++◌, Option, None, Some, map, option_map, length, arith}
+use Rattle.std.proofs.Common.{◌≡◌, ◌≢◌, ◌∙◌, sym, ap, refl, subst, ℕ, zero, suc, ◌+◌, ◌-◌, ◌<◌, ◌≤◌, Bool, true, false, not, cond, List, [], ◌∷◌, ◌++◌, Option, Some, map, option_map, length}
 use Rattle.std.specs.Prelude.{◌==◌, filter, slice_get}
 use Rattle.std.specs.List.{slice_index_or}
 use Rattle.std.proofs.lemmas.List.{set-get_or}
 use Rattle.std.proofs.lemmas.Option.{slice_get-map, slice_get_within, get_or_from_slice_get}
 use Rattle.gx_machine.specs.declared.entry.Entry.{Entry}
-use Rattle.gx_machine.specs.Keys.{Keys}
-use Rattle.gx_machine.specs.Sets.{has, InOrder}
+use Rattle.gx_machine.specs.Sets.{InOrder}
 use Rattle.gx_machine.specs.Machine.{is_session}
-use Rattle.gx_machine.proofs.Places.{session_bounds}
-use Rattle.gx_tree_laws.specs.Lists.{how_many}
-use Rattle.gx_tree_laws.specs.Steps.{IsMarking}
-use Rattle.gx_tree_laws.specs.Trees.{Tree}
-use Rattle.gx_tree_laws.proofs.SeekSteps.{seek_goes_right}
+use Rattle.gx_node.specs.Lists.{how_many}
+use Rattle.gx_node.specs.Steps.{IsMarking}
+use Rattle.gx_node.proofs.SeekSteps.{seek_goes_right}
 use Rattle.gx_recovery.specs.Known.{Known}
 use Rattle.gx_recovery.specs.Analysis.{Analysis, analysis, read, touching, without}
-use Rattle.gx_recovery.specs.Coming.{MayCome}
-use Rattle.gx_recovery.specs.Records.{Record, Said, Touch, Whole, Write}
+use Rattle.gx_recovery.specs.Coming.{IsSaid, MayCome}
+use Rattle.gx_recovery.specs.Records.{Record, Said, Touch, Write}
 use Rattle.gx_recovery.specs.Records as records
-use Rattle.gx_recovery.specs.Logged.{Logged, all_records, appended, durable, gate_synced}
+use Rattle.gx_recovery.specs.Logged.{all_records, appended, durable}
 use Rattle.gx_recovery.proofs.Folds.{analysis-snoc}
-use Rattle.gx_engine_laws.specs.Slots as slots
-use Rattle.gx_engine_laws.specs.Slots.{Slot, Undoing, slot_at, with_slot, is_unanswered, noted}
-use Rattle.gx_engine_laws.specs.Events as events
-use Rattle.gx_engine_laws.specs.Events.{Event, EndsUndo, RefusesCall, Undoes, Works}
+use Rattle.gx_events.specs.Slots as slots
+use Rattle.gx_events.specs.Slots.{Slot, Undoing, slot_at, with_slot, is_unanswered, noted}
+use Rattle.gx_events.specs.Events.{EndsUndo, Undoes, Works}
 use Rattle.gx_index_laws.specs.Classes.{Class, IsLawful, Page, is_live, is_of, known_of}
-use Rattle.gx_index_laws.specs.Happening as happening
-use Rattle.gx_index_laws.specs.Happening.{AreHappening, Happens, changed_at, slotted, with_record, with_restored, with_work}
+use Rattle.gx_index_laws.specs.Happening.{Happens, changed_at, slotted, with_record, with_restored, with_work}
 use Rattle.gx_index_laws.specs.Measures.{work_left}
 use Rattle.gx_index_laws.specs.States as index
 use Rattle.gx_index_laws.specs.States.{tree_after, tree_now}
@@ -36,7 +31,7 @@ use Rattle.gx_index_laws.proofs.Closing.{ended}
 use Rattle.gx_index_laws.proofs.Entering.{undo_restores}
 use Rattle.gx_index_laws.proofs.Measuring as measuring
 use Rattle.gx_index_laws.proofs.Noting.{note_seeks}
-use Rattle.gx_index_laws.proofs.Quiet.{as_it_is, turned}
+use Rattle.gx_index_laws.proofs.Quiet.{turned}
 use Rattle.gx_index_laws.proofs.Standing.{grown, known_lawful, tells}
 use Rattle.gx_index_laws.proofs.Tools.{changed_beside, changed_here}
 use Rattle.gx_txn.specs.declared.note.Note.{Note}
@@ -45,7 +40,7 @@ use Rattle.gx_txn.specs.Tables.{Held, nothing_held, with_held, with_notes}
 use Rattle.gx_phases.specs.declared.phase.Phase.{Phase}
 use Rattle.gx_phases.specs.declared.phase.Phase.TheVariants as phase
 use Rattle.gx_phases.specs.Indexes.{AreOf}
-use Rattle.gx_phases.specs.Moves.{ended_state, failed_state, moved, restored_state, transaction_of}
+use Rattle.gx_phases.specs.Moves.{ended_state, moved, restored_state, transaction_of}
 use Rattle.gx_phases.specs.States.{State, IsKept, held_at, note_of, phase_at, slot_of, slots_of, with_phase, with_phase_of}
 use Rattle.gx_phases.proofs.Keeping.{low}
 use Rattle.gx_phases.proofs.Moved.{set_map}
@@ -53,8 +48,8 @@ use Rattle.gx_phases.proofs.Slots.{slots_at}
 use Rattle.gx_phases.proofs.Undoing.{IsNoted, each_noted}
 use Rattle.gx_engine.specs.declared.work.Work.{Work}
 use Rattle.gx_engine.specs.declared.work.Work.TheVariants.{Descends, Looks, Rests, Seeks}
-use Rattle.gx_engine.specs.Holds.{AreAt, AreDone, IsAt, Sits, UndoIsAt}
-use Rattle.gx_engine.specs.Noted.{AreTold, has_transaction, touch_by, touched_by}
+use Rattle.gx_engine.specs.Holds.{AreDone, IsAt, Sits, UndoIsAt}
+use Rattle.gx_engine.specs.Noted.{has_transaction, touch_by, touched_by}
 use Rattle.gx_engine.specs.Undoing.{leaf_of}
 use Rattle.gx_engine.proofs.Noting.{busy_slot, told_set, without_others}
 use Rattle.gx_engine.proofs.Restored.{all_done, moved_done, not_done, one_more_done, written_again}
@@ -252,11 +247,11 @@ module _ {B : Type 0} (c : Class B) (l : IsLawful c) (old : State B (Work B)) (k
           }
 
     -- It is in the leaf, whose write is logged.
-    module _ (before : Bool) (leaf : ℕ) (content : Page B) (of_class : c.is_key n.entry.key ≡ true) (own : content.own ≡ leaf)
+    module _ (before : Bool) (leaf : ℕ) (told : Said (Page B)) (of_class : c.is_key n.entry.key ≡ true) (own : IsSaid k leaf told (all_records i.log))
         (lived : is_live c (tree_now c i) n.entry ≡ not before) (some : 0 < how_many (is_of c n.entry) ((tree_now c i).node leaf).pairs)
-        (step : IsMarking c.rules (tree_now c i) (tree_after c (appended (Write t n.entry before n.before leaf (Whole content)) i.log)) leaf n.entry.row n.entry.key n.before) where
+        (step : IsMarking c.rules (tree_now c i) (tree_after c (appended (Write t n.entry before n.before leaf told) i.log)) leaf n.entry.row n.entry.key n.before) where
       abbrev writes : ℕ → Bool → Record (Entry B) (Page B)
-      writes number mark = Write number n.entry before mark leaf (Whole content)
+      writes number mark = Write number n.entry before mark leaf told
 
       abbrev x : Record (Entry B) (Page B)
       x = writes t n.before
@@ -270,7 +265,7 @@ module _ {B : Type 0} (c : Class B) (l : IsLawful c) (old : State B (Work B)) (k
           → MayCome k i.log.area (all_records i.log) (writes number mark) × Happens c i (Undoes s n.entry) (with_restored s n.entry (with_record (writes number mark) i)) in
           subst (λ number. P number n.before) its_number
           (subst (λ mark. P (i.transaction s) mark) (twice_not n.before)
-          (λ marks. (let comes = undo_restores c l i whole (h.of.failed ∙ works) s held.locks (map note_of held.notes) n.entry (not n.before) before leaf (Whole content)
+          (λ marks. (let comes = undo_restores c l i whole (h.of.failed ∙ works) s held.locks (map note_of held.notes) n.entry (not n.before) before leaf told
           slot_now note_is.was of_class own lived some marks in (comes.may_come, comes.happens)))) step
 
       -- and less is left

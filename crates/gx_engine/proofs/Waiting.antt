@@ -1,35 +1,28 @@
 -- A session's move whose pages were only read: it waits for another event, or a fault has ended the engine.
-use Rattle.std.proofs.Common.{◌≡◌, ◌∙◌, ap, sym, subst, refl, ℕ, Bool, true, false, List, [], ◌∷◌}
+use Rattle.std.proofs.Common.{◌≡◌, ◌∙◌, refl, ℕ, Bool, true, false, List, [], ◌∷◌}
 use Rattle.gx_geom.specs.declared.refusal.Refusal.TheVariants.{Device as DeviceRefusal}
 use Rattle.gx_machine.specs.declared.entry.Entry.{Entry}
 use Rattle.gx_disk.specs.Device.{Device}
 use Rattle.gx_page.specs.Contents.{Contents}
 use Rattle.gx_pool.specs.Bringing.{OnlyRead}
 use Rattle.gx_node.specs.Reading.{Format}
-use Rattle.gx_glog.specs.State.{Log}
 use Rattle.gx_recovery.specs.Records.{Record}
-use Rattle.gx_recovery.specs.Logged.{Logged}
-use Rattle.gx_recovery.specs.Logged as logged
-use Rattle.gx_engine_laws.specs.Events.{Event, RefusesCall}
-use Rattle.gx_engine_laws.specs.Slots.{is_unanswered, slot_at}
+use Rattle.gx_events.specs.Events.{RefusesCall}
+use Rattle.gx_events.specs.Slots.{is_unanswered, slot_at}
 use Rattle.gx_index_laws.specs.Classes.{Class, IsLawful, Page, known_of}
 use Rattle.gx_index_laws.specs.Happening as happening
 use Rattle.gx_index_laws.specs.Happening.{AreHappening}
 use Rattle.gx_index_laws.specs.States as index
-use Rattle.gx_index_laws.specs.Whole.{IsWhole}
 use Rattle.gx_index_laws.proofs.AskedCalls.{faulted}
 use Rattle.gx_index_laws.proofs.Quiet.{as_it_is}
 use Rattle.gx_durable.specs.Spelled.{Reading}
-use Rattle.gx_durable.specs.Standing.{MayRenew}
 use Rattle.gx_phases.specs.Moves.{failed_state}
-use Rattle.gx_phases.specs.States.{State}
-use Rattle.gx_storage.specs.Keeps.{Keeps, StaysSame}
+use Rattle.gx_storage.specs.Keeps.{StaysSame}
 use Rattle.gx_storage.specs.State.{Volume}
-use Rattle.gx_engine.specs.declared.work.Work.{Work}
-use Rattle.gx_engine.specs.Holds.{Holds, KnowsFlight, Led, Sits}
+use Rattle.gx_engine.specs.Holds.{Holds, Led, Sits}
 use Rattle.gx_engine.specs.States.{Parts}
 use Rattle.gx_engine.proofs.Growing.{stayed_led}
-use Rattle.gx_engine.proofs.Serving.{StaysSettled, may_renew_still, of_reads}
+use Rattle.gx_engine.proofs.Serving.{StaysSettled, of_reads}
 
 -- the sessions of an engine that holds an index
 pub sits_of : {B D : Type 0} (c : Class B) (r : Reading (Entry B) (Page B)) (f : Format B) (passes : ℕ → Contents → Bool) (d : Device) (old : Parts B D)

@@ -37,7 +37,7 @@ use Rattle.gx_index_laws.specs.Happening.{AreHappening}
 use Rattle.gx_index_laws.specs.States as index
 use Rattle.gx_index_laws.specs.Measures.{work_left}
 use Rattle.gx_index_laws.specs.declared.TheConstants.{CHECKPOINT_AT}
-use Rattle.gx_readings.specs.Classes.{class_of, known_at, reading_of}
+use Rattle.gx_durable.specs.Classes.{class_of, known_at, reading_of}
 use Rattle.gx_store.specs.declared.fault.StoreFault.{StoreFault}
 use Rattle.gx_store.specs.declared.fault.StoreFault.TheVariants as fault
 use Rattle.gx_store.specs.Faults as faults
@@ -46,7 +46,9 @@ use Rattle.gx_storage.specs.Bringing.{bringing}
 use Rattle.gx_storage.specs.Changes.{begun, has_room}
 use Rattle.gx_storage.specs.declared.flusher.Help as storage
 use Rattle.gx_storage.specs.Flushing.{HasNoRoom, Helps, IsLeastWritable, frame_by}
+use Rattle.gx_storage.specs.Imaged.{is_imaged}
 use Rattle.gx_storage.specs.Keeps.{Keeps}
+use Rattle.gx_storage.specs.Small.{mark_room}
 use Rattle.gx_storage.specs.State.{Volume}
 use Rattle.gx_events.specs.declared.event.Event.TheVariants.{Move}
 use Rattle.gx_events.specs.declared.outcome.Need.{Need}
@@ -55,7 +57,7 @@ use Rattle.gx_events.specs.declared.outcome.Outcome.TheVariants.{Help}
 use Rattle.gx_phases.specs.declared.phase.Phase.{Phase}
 use Rattle.gx_phases.specs.declared.phase.Phase.TheVariants as phase
 use Rattle.gx_phases.specs.Moves.{next_of, transaction_of}
-use Rattle.gx_engine_laws.specs.Events.{Event}
+use Rattle.gx_events.specs.Events.{Event}
 use Rattle.gx_phases.specs.States.{State as Sessions, WaitsForSealed, phase_at}
 use Rattle.gx_engine.specs.declared.checkpoint.Checkpoint.{Checkpoint}
 use Rattle.gx_engine.specs.declared.checkpoint.Checkpoint.TheVariants.{Off, Running, Turning}
@@ -67,7 +69,7 @@ use Rattle.gx_engine.specs.Refusals.{CanBeHelped, IsEarly, IsHelp, StampsStay, l
 use Rattle.gx_engine.specs.Commits.{AcknowledgeBy, SealComes, commit_of}
 use Rattle.gx_engine.specs.States.{AreFrames, IsOrderly, Parts, StandsIn, is_due, runs}
 use Rattle.gx_engine.specs.Stepping.{has_call}
-use Rattle.gx_engine.specs.Undoing.{EndComes, UndoBy, end_of}
+use Rattle.gx_engine.specs.Undoing.{EndComes, UndoBy, end_of, next_leaf}
 use Rattle.gx_engine.specs.Writes.{IsDelayed, brought}
 use Rattle.gx_engine.specs.Backlog.{backlog, checkpoint_left, fillings, flight_left, log_left}
 use Rattle.gx_engine.specs.Helping.{HasWork, NamesWork, PageNamesWork, WaitingLeavesAll}
@@ -233,6 +235,11 @@ module _ {B D : Type 0} where
 
 -- ---- what a move comes to that waits
 
+-- where the record of a write fits a batch, that of a mark does
+mark_fills : (small : Bool) (key : ℕ) → write_record key ≤ BODY_ROOM → mark_room small key ≤ BODY_ROOM
+mark_fills true key short = omega (arith, short)
+mark_fills false key short = short
+
 module _ {B : Type 0} (k : Keys B) (known : Limits → Known (Entry B) (Page B)) (r : Reading (Entry B) (Page B)) (f : Format B) (passes : ℕ → Contents → Bool) (IsKey : B → Type 0)
     (spells : B → List ℕ) (key : ℕ) (short : write_record key ≤ BODY_ROOM) {D : Type 0} (d e : Device) where
   undo_waits : (s : ℕ) (old new : Parts B D) (n : Need) (due : Bool) (next : Option ℕ) → is_due old ≡ due → StandsIn old.checkpoint old.volume
@@ -244,6 +251,8 @@ module _ {B : Type 0} (k : Keys B) (known : Limits → Known (Entry B) (Page B))
   undo_waits s old new n false None is stands comes = end_waits s old new n is stands comes
   undo_waits s old new n false (Some restored) is stands comes =
       let h = comes.2.1 in
+      let small = is_imaged old.volume.imaged (next_leaf s old.sessions comes.0) in
+      let size = mark_room small key in
       record {
         sessions = ap (λ (x : Parts B D). x.sessions) comes.2.2;
         checkpoint = ap (λ (x : Parts B D). x.checkpoint) comes.2.2;
@@ -251,7 +260,7 @@ module _ {B : Type 0} (k : Keys B) (known : Limits → Known (Entry B) (Page B))
         stamps = h.stamps;
         why =
             why_helped s old new n
-            (helped passes d e old new n (begun old.volume (write_record key)) (λ any. Unit {0}) h.fault h.help (λ any none. fills old (write_record key) short is none) h.can h.why tt h.helps h.is);
+            (helped passes d e old new n (begun old.volume size) (λ any. Unit {0}) h.fault h.help (λ any none. fills old size (mark_fills small key short) is none) h.can h.why tt h.helps h.is);
       }
 
   call_waits : (s : ℕ) (old new : Parts B D) (n : Need) (call : Call B) → StandsIn old.checkpoint old.volume

@@ -15,13 +15,13 @@ use Rattle.gx_disk.specs.Device.{Device}
 use Rattle.gx_page.specs.Contents.{Contents}
 use Rattle.gx_node.specs.Reading.{Format}
 use Rattle.gx_pool.specs.Bringing.{OnlyRead}
-use Rattle.gx_tree_laws.specs.Lists.{Each, how_many, one_if}
-use Rattle.gx_tree_laws.specs.Trees.{Pair, Tree, Used}
-use Rattle.gx_tree_laws.specs.Legal.{Legal}
-use Rattle.gx_tree_laws.specs.Reach.{TraversalItem}
-use Rattle.gx_tree_laws.specs.Looks.{ItemFits, from_root}
-use Rattle.gx_tree_laws.proofs.OwnLook.{item_used}
-use Rattle.gx_tree_laws.proofs.Sums.{each_parts}
+use Rattle.gx_node.specs.Lists.{Each, how_many, one_if}
+use Rattle.gx_node.specs.Trees.{Pair, Tree, Used}
+use Rattle.gx_node.specs.Legal.{Legal}
+use Rattle.gx_node.specs.Reach.{TraversalItem}
+use Rattle.gx_node.specs.Looks.{ItemFits, from_root}
+use Rattle.gx_node.proofs.OwnLook.{item_used}
+use Rattle.gx_node.proofs.Sums.{each_parts}
 use Rattle.gx_tree.specs.declared.found.Found.{Found}
 use Rattle.gx_tree.specs.declared.look.Look.{Look}
 use Rattle.gx_tree.specs.Found.{found_at, pairs_found}
@@ -29,9 +29,9 @@ use Rattle.gx_tree.specs.Looking.{LookStep}
 use Rattle.gx_tree.proofs.Turned.{last_of}
 use Rattle.gx_recovery.specs.Records.{Record}
 use Rattle.gx_recovery.proofs.Tests.{true_or_false, and_second}
-use Rattle.gx_engine_laws.specs.Events.{Closes, FindsAbsent, RefusesCall, Works}
-use Rattle.gx_engine_laws.specs.Slots.{Slot, Working, slot_at}
-use Rattle.gx_engine_laws.specs.Wants as laws
+use Rattle.gx_events.specs.Events.{Closes, FindsAbsent, RefusesCall, Works}
+use Rattle.gx_events.specs.Slots.{Slot, Working, slot_at}
+use Rattle.gx_events.specs.Wants as laws
 use Rattle.gx_index_laws.specs.Classes.{Class, IsLawful, Page, entry_of, is_of, known_of, pair_of}
 use Rattle.gx_index_laws.specs.States as index
 use Rattle.gx_index_laws.specs.States.{tree_now}
@@ -122,14 +122,14 @@ at_look k e kept s is call rest at begun look =
 module _ {B D : Type 0} (k : Keys B) (f : Format B) (passes : ℕ → Contents → Bool) (key : ℕ) (d e : Device) (s : ℕ) (call : Call B) (old new : Parts B D) where
   -- what helps a look asks for no room in the log
   -- it asks for none
-  looks_asks : (work : Work B) → is_looking work ≡ true → AsksAt f key d old work 0
+  looks_asks : (work : Work B) → is_looking work ≡ true → AsksAt k f key d old work 0
   looks_asks Rests looks = refl
   looks_asks (Looks look) looks = refl
   looks_asks (Descends parent item) looks = absurd (let both : true ≡ false = sym looks in cc)
   looks_asks (Seeks leaf) looks = absurd (let both : true ≡ false = sym looks in cc)
 
   help_delays : IsAtLook s call old → (n : Need) → IsHelp passes d e (runs old.checkpoint) (bringing old.volume) new.volume.shelf n
-      → IsDelayed (AsksRoom f key d s call old) passes d e old new n
+      → IsDelayed (AsksRoom k f key d s call old) passes d e old new n
   help_delays looks n help =
       (0, record { work = looks.work; at = looks.at; asks = looks_asks looks.work looks.looks }, omega arith, inr (by help.fault refl))
     where

@@ -1,5 +1,5 @@
 -- The moves of a write, one as another tells them.
-use Rattle.std.proofs.Common.{◌≡◌, refl, inl, inr, ℕ, Bool, List}
+use Rattle.std.proofs.Common.{refl, inl, ℕ, Bool, List}
 use Rattle.gx_geom.specs.declared.refusal.Refusal.{Refusal}
 use Rattle.gx_geom.specs.declared.refusal.Refusal.TheVariants as refusal
 use Rattle.gx_machine.specs.declared.entry.Entry.{Entry}
@@ -9,14 +9,11 @@ use Rattle.gx_machine.specs.declared.reply.Reply.TheVariants as reply
 use Rattle.gx_disk.specs.Device.{Device}
 use Rattle.gx_page.specs.Contents.{Contents}
 use Rattle.gx_node.specs.Reading.{Format}
-use Rattle.gx_recovery.specs.Records.{Record}
-use Rattle.gx_engine_laws.specs.Events.{Event}
+use Rattle.gx_events.specs.Events.{Event}
 use Rattle.gx_index_laws.specs.Classes.{Class, Page}
-use Rattle.gx_index_laws.specs.States as index
 use Rattle.gx_durable.specs.Spelled.{Reading}
 use Rattle.gx_events.specs.declared.outcome.Outcome.{Outcome}
-use Rattle.gx_events.specs.declared.outcome.Outcome.TheVariants.{Replied, More, Help, Nothing, Refused}
-use Rattle.gx_engine.specs.Holds.{Holds}
+use Rattle.gx_events.specs.declared.outcome.Outcome.TheVariants.{Replied}
 use Rattle.gx_engine.specs.Moves.{Moves, MovesSo}
 use Rattle.gx_engine.specs.States.{Parts}
 use Rattle.gx_engine.specs.Writes.{AreWriting, write_events}

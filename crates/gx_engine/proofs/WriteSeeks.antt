@@ -1,5 +1,5 @@
 -- What the moves of a write come to whose pair stands: of its parts, and joined.
-use Rattle.std.proofs.Common.{◌≡◌, ◌≢◌, ◌∙◌, sym, ap, refl, subst, inl, inr, ℕ, ◌-◌, ◌≤◌, ◌⊎◌, ◌==◌, ◌||◌, ◌&&◌, Bool, true, false, List, arith}
+use Rattle.std.proofs.Common.{◌≡◌, ◌≢◌, ◌∙◌, sym, ap, refl, subst, inl, inr, ℕ, ◌-◌, ◌<◌, ◌≤◌, ◌⊎◌, ◌==◌, ◌||◌, ◌&&◌, Bool, true, false, List, arith}
 use Rattle.std.specs.Prelude.{nat_le, Result, Ok, Err, IfOk, IfErr}
 use Rattle.std.specs.Ordering.{is_eq}
 use Rattle.gx_geom.specs.declared.refusal.Refusal.{Refusal}
@@ -12,7 +12,7 @@ use Rattle.gx_disk.specs.Device.{Device}
 use Rattle.gx_page.specs.Contents.{Contents}
 use Rattle.gx_node.specs.Reading.{Format}
 use Rattle.gx_glog.specs.State.{Log}
-use Rattle.gx_tree_laws.specs.Trees.{Pair, Used}
+use Rattle.gx_node.specs.Trees.{Pair, Used}
 use Rattle.gx_node.specs.declared.fault.StepFault.{StepFault}
 use Rattle.gx_node.specs.declared.fault.StepFault.TheVariants as step
 use Rattle.gx_tree.specs.declared.seek.Sought.{Sought}
@@ -31,8 +31,8 @@ use Rattle.gx_store.specs.declared.fault.StoreFault.{StoreFault}
 use Rattle.gx_store.specs.declared.fault.StoreFault.TheVariants as fault
 use Rattle.gx_store.specs.Faults as faults
 use Rattle.gx_store.specs.Standing.{store_of}
+use Rattle.gx_class.specs.declared.class.TheConstants.{MAX_KEY}
 use Rattle.gx_record.specs.declared.sizes.TheConstants.{SPLIT_RECORD}
-use Rattle.gx_record.specs.Writing.{write_record}
 use Rattle.gx_storage.specs.Bringing.{bringing}
 use Rattle.gx_recovery.specs.Known.{Known, Limits}
 use Rattle.gx_index_laws.specs.Classes.{Page}
@@ -40,6 +40,8 @@ use Rattle.gx_index_laws.specs.declared.TheConstants.{CHECKPOINT_AT}
 use Rattle.gx_durable.specs.Spelled.{Reading}
 use Rattle.gx_txn.specs.declared.note.Note.{Note}
 use Rattle.gx_storage.specs.Changes.{begun, has_room}
+use Rattle.gx_storage.specs.Imaged.{is_imaged}
+use Rattle.gx_storage.specs.Small.{mark_room}
 use Rattle.gx_storage.specs.Flushing.{Helps}
 use Rattle.gx_storage.specs.State.{Volume}
 use Rattle.gx_engine.specs.declared.work.Work.{Work}
@@ -70,11 +72,11 @@ module _ {B D : Type 0} (f : Format B) (IsKey : B → Type 0) (k : Keys B) (e : 
 
   pub unfound : (passes : ℕ → Contents → Bool) (d : Device) (v : Volume D) (result : Result Sought (StepFault StoreFault)) → IfErr result (IsWhy (faults.IsWhy passes d e (bringing v) w.shelf))
       → (result ≡ Err step.Damaged → Used (tree_of (store_of f e.seen w.shelf)) leaf → ((tree_of (store_of f e.seen w.shelf)).node leaf).level ≢ 0)
-      → result ≢ Err step.Memory → result ≢ Err step.PagesFull → IfErr result (IsUnsought f IsKey k passes d e v w leaf)
-  unfound passes d v (Ok sought) why damaged memory full = tt
-  unfound passes d v (Err fault) why damaged memory full =
+      → IfErr result (IsUnsought f IsKey k passes d e v w leaf)
+  unfound passes d v (Ok sought) why damaged = tt
+  unfound passes d v (Err fault) why damaged =
       let result : StepFault StoreFault → Result Sought (StepFault StoreFault) = λ x. Err x in
-      record { why = why; damaged = λ is. damaged (ap result is); memory = λ is. memory (ap result is); full = λ is. full (ap result is) }
+      record { why = why; damaged = λ is. damaged (ap result is) }
 
 -- a step that reads asks for no room, so it may ask for a record's
 pub why_begun : {D : Type 0} (passes : ℕ → Contents → Bool) (d e : Device) (v w : Volume D) (refused : StoreFault) → faults.IsWhy passes d e (bringing v) w.shelf refused
@@ -90,15 +92,21 @@ pub no_room : {D : Type 0} {P : Type 0} (passes : ℕ → Contents → Bool) (d 
 no_room passes d e v w refused why is = absurd (let no : true ≡ false = subst (λ (x : StoreFault). faults.IsWhy passes d e (bringing v) w.shelf x) is why in cc)
 
 -- Pages may have been brought.
-module _ {B D : Type 0} (old : Parts B D) (w : Volume D) (log : w.log ≡ old.volume.log) (most : w.most ≡ old.volume.most) where
+module _ {B D : Type 0} (old : Parts B D) (w : Volume D) (log : w.log ≡ old.volume.log) (most : w.most ≡ old.volume.most)
+    (imaged : w.imaged ≡ old.volume.imaged) where
   abbrev mid : Parts B D
   mid = record old { volume = w }
 
   pub brought_with : (sessions : State B (Work B)) → record mid { sessions = sessions } ≡ record (brought old mid) { sessions = sessions }
-  brought_with sessions = ap (λ (v : Volume D). record old { volume = v; sessions = sessions }) (only_shelf old.volume w log most)
+  brought_with sessions = ap (λ (v : Volume D). record old { volume = v; sessions = sessions }) (only_shelf old.volume w log most imaged)
 
   brought_on : (new : Parts B D) (sessions : State B (Work B)) → record (brought mid new) { sessions = sessions } ≡ record (brought old new) { sessions = sessions }
-  brought_on new sessions = λ j. record { volume = record { log = log j; shelf = new.volume.shelf; most = most j }; sessions = sessions; in_flight = old.in_flight; checkpoint = old.checkpoint }
+  brought_on new sessions = λ j. record {
+    volume = record { log = log j; shelf = new.volume.shelf; most = most j; imaged = imaged j };
+    sessions = sessions;
+    in_flight = old.in_flight;
+    checkpoint = old.checkpoint;
+  }
 
   module _ (f : Format B) (IsKey : B → Type 0) (k : Keys B) (key : ℕ) (passes : ℕ → Contents → Bool) (state : D → Device) (d : Device) (s : ℕ) (entry : Entry B) (leaf : ℕ) (marked : Bool) where
     abbrev Comes : Parts B D → Outcome B → Type 0
@@ -108,7 +116,7 @@ module _ {B D : Type 0} (old : Parts B D) (w : Volume D) (log : w.log ≡ old.vo
     at new there o given one other comes = subst (λ (y : Outcome B). Comes new y) (sym one) (subst (λ (x : Parts B D). Comes x given) (sym other) comes)
 
     -- what a move comes to that was refused pages
-    pub refused_comes : StampsStay old.volume.shelf w.shelf → (size : ℕ) → (size ≡ 0) ⊎ (size ≡ write_record key) → size ≤ SPLIT_RECORD → (refused : StoreFault) → (refused ≡ fault.NoRoom → is_due old ≡ false) → faults.IsWhy passes d (state w.shelf.disk) (begun old.volume size) w.shelf refused
+    pub refused_comes : StampsStay old.volume.shelf w.shelf → (size : ℕ) → (size ≡ 0) ⊎ (size ≡ mark_room (is_imaged old.volume.imaged leaf) key) → size ≤ SPLIT_RECORD → (refused : StoreFault) → (refused ≡ fault.NoRoom → is_due old ≡ false) → faults.IsWhy passes d (state w.shelf.disk) (begun old.volume size) w.shelf refused
         → (new : Parts B D) (o : Outcome B) → IsRefused refused mid new o → Comes new o
     refused_comes stay size asks small fault.NoRoom early why new o is =
         at new mid o _ is.2 is.3 (inr (size, asks, small, (record { fault = fault.NoRoom; can = tt; why = why; help = is.0; helps = is.1; is = refl; stamps = stay }, early refl)), brought_with old.sessions)
@@ -167,7 +175,11 @@ module _ {B D : Type 0} (old : Parts B D) (w : Volume D) (log : w.log ≡ old.vo
 
     delayed_on : (n : Need) → IsPutOff f IsKey k key passes e later entry leaf marked mid new n → IsPutOff f IsKey k key passes d later entry leaf marked old new n
     delayed_on n (inl due) = inl (due.0, sym due_same ∙ due.1, (λ page. due.2 page ∙ stay page), due.3)
-    delayed_on n (inr room) = inr (room.0, room.1, room.2, help_on room.0 n room.3.0 room.3.1)
+    delayed_on n (inr room) = inr (room.0, asks_on room.0 room.1, room.2, help_on room.0 n room.3.0 room.3.1)
+      where
+        asks_on : (size : ℕ) → (size ≡ 0) ⊎ (size ≡ mark_room (is_imaged w.imaged leaf) key) → (size ≡ 0) ⊎ (size ≡ mark_room (is_imaged old.volume.imaged leaf) key)
+        asks_on size (inl none) = inl none
+        asks_on size (inr one) = inr (one ∙ ap (λ (bits : List Bool). mark_room (is_imaged bits leaf) key) imaged)
 
     noted_on : IsNoted k s entry leaf mid new → IsNoted k s entry leaf old new
     noted_on noted = record { before = noted.before; is = noted.is; most = noted.most ∙ most }
@@ -192,8 +204,17 @@ module _ {B D : Type 0} (old : Parts B D) (w : Volume D) (log : w.log ≡ old.vo
     comes_on (Help n) comes = (delayed_on n comes.0, comes.1 ∙ brought_on new _)
     comes_on o comes = absurd comes
 
+-- the record of a mark has some bytes, and no more than a split's
+mark_is_some : (small : Bool) (key : ℕ) → 0 < mark_room small key
+mark_is_some true key = omega arith
+mark_is_some false key = omega arith
+
+pub mark_is_short : (small : Bool) (key : ℕ) → key ≤ MAX_KEY → mark_room small key ≤ SPLIT_RECORD
+mark_is_short true key short = omega (arith, short)
+mark_is_short false key short = omega (arith, short)
+
 -- Such a move is a write's.
-module _ {B D : Type 0} (f : Format B) (IsKey : B → Type 0) (k : Keys B) (key : ℕ) (short : write_record key ≤ SPLIT_RECORD) (passes : ℕ → Contents → Bool) (d e : Device) (s : ℕ)
+module _ {B D : Type 0} (f : Format B) (IsKey : B → Type 0) (k : Keys B) (key : ℕ) (short : key ≤ MAX_KEY) (passes : ℕ → Contents → Bool) (d e : Device) (s : ℕ)
     (entry : Entry B) (leaf : ℕ) (marked : Bool) (old new : Parts B D) (at : phase_at (s - 1) old.sessions.phases ≡ phase.Open (write_call marked entry) (Seeks leaf)) where
   its_call : (m : Bool) → marked ≡ m → write_call marked entry ≡ write_call m entry
   its_call m is = ap (λ b. write_call b entry) is
@@ -212,12 +233,12 @@ module _ {B D : Type 0} (f : Format B) (IsKey : B → Type 0) (k : Keys B) (key 
   replied_write (reply.Refused why) comes = refused_write why comes
   replied_write r comes = absurd comes
 
-  delayed : (n : Need) → IsPutOff f IsKey k key passes d e entry leaf marked old new n → IsDelayed (AsksRoom f key d s (write_call marked entry) old) passes d e old new n
+  delayed : (n : Need) → IsPutOff f IsKey k key passes d e entry leaf marked old new n → IsDelayed (AsksRoom k f key d s (write_call marked entry) old) passes d e old new n
   delayed n (inl due) = (
-    write_record key,
+    mark_room (is_imaged old.volume.imaged leaf) key,
     record { work = Seeks leaf; at = at; asks = inr refl },
-    short,
-    inl (due.0, due.1, omega arith, due.2),
+    mark_is_short (is_imaged old.volume.imaged leaf) key short,
+    inl (due.0, due.1, mark_is_some (is_imaged old.volume.imaged leaf) key, due.2),
   )
   delayed n (inr room) = (room.0, record { work = Seeks leaf; at = at; asks = room.1 }, room.2, inr room.3)
 
@@ -248,7 +269,7 @@ module _ {B D : Type 0} (f : Format B) (IsKey : B → Type 0) (k : Keys B) (pass
       by : (m : Bool) → marked ≡ m → SeekComes f IsKey k key passes d e s entry leaf marked old (its_end (Here slot before)) (Replied (written_reply m))
       by true is = (is, noted)
       by false is = (is, noted)
-  set_comes (Right next) set = (next, brought_with old w set.logged.log set.logged.most (with_phase_of s (phase.Open (write_call marked entry) (Seeks next)) old.sessions))
+  set_comes (Right next) set = (next, brought_with old w set.logged.log set.logged.most set.logged.imaged (with_phase_of s (phase.Open (write_call marked entry) (Seeks next)) old.sessions))
 
 -- What was noted of a mark that was set, or not.
 module _ {B D : Type 0} (k : Keys B) (s : ℕ) (entry : Entry B) (leaf : ℕ) (marked : Bool) (sought : Sought) (old mid new : Parts B D) (only : mid ≡ record old { volume = mid.volume })

@@ -1,5 +1,5 @@
 -- The calls that events make of the device.
-use Rattle.std.specs.Prelude.{ℕ, ◌≤◌, ◌+◌}
+use Rattle.std.specs.Prelude.{◌≤◌, ◌+◌}
 use Rattle.gx_disk.specs.Device.{Device}
 use Rattle.gx_pool.specs.Bringing.{OnlyRead}
 use Rattle.gx_events.specs.declared.event.Event.{Event}

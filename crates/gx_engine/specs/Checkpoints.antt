@@ -13,6 +13,7 @@ use Rattle.gx_durable.specs.Turns.{told_result}
 use Rattle.gx_store.specs.declared.fault.StoreFault.{StoreFault}
 use Rattle.gx_index_laws.specs.declared.TheConstants.{CHECKPOINT_AT}
 use Rattle.gx_storage.specs.Flushing.{IsLeastWritable}
+use Rattle.gx_storage.specs.Imaged.{imaged_after}
 use Rattle.gx_storage.specs.State.{Volume}
 use Rattle.gx_events.specs.declared.outcome.Outcome.{Outcome}
 use Rattle.gx_events.specs.declared.outcome.Outcome.TheVariants.{More, Nothing, Refused}
@@ -103,7 +104,7 @@ pub record TurnsNext {B D : Type 0} (d e : Device) (old new : Parts B D) (outcom
   pub result : Result Turn Refusal
   pub counts : Counts 1 d e result
   pub turns : Turns old.volume.log new.volume.log result
-  pub only : new.volume ≡ record old.volume { log = new.volume.log; shelf = record old.volume.shelf { disk = new.volume.shelf.disk; frames = told_result result old.volume.shelf.frames } }
+  pub only : new.volume ≡ record old.volume { log = new.volume.log; shelf = record old.volume.shelf { disk = new.volume.shelf.disk; frames = told_result result old.volume.shelf.frames }; imaged = imaged_after result old.volume.imaged }
   pub comes : TurnComes old new outcome result
 
 -- where none runs, one is begun once 24 places of the extent are taken, and goes on at once

@@ -1,9 +1,9 @@
 -- What the moves of a commit come to.
-use Rattle.std.specs.Prelude.{ℕ, ◌≡◌, ◌≤◌, ◌+◌, Bool, true, false, Option, None, Some, nat_le, List, [], ◌∷◌}
+use Rattle.std.specs.Prelude.{ℕ, ◌≡◌, ◌+◌, Bool, true, false, Option, None, Some, nat_le, List, [], ◌∷◌}
 use Rattle.gx_machine.specs.declared.entry.Entry.{Entry}
 use Rattle.gx_machine.specs.declared.reply.Reply.TheVariants.{Committed}
 use Rattle.gx_record.specs.Rec as rec
-use Rattle.gx_engine_laws.specs.Events.{Event, Acknowledges, Seals}
+use Rattle.gx_events.specs.Events.{Event, Acknowledges, Seals}
 use Rattle.gx_events.specs.declared.outcome.Need.TheVariants as need
 use Rattle.gx_events.specs.declared.outcome.Outcome.{Outcome}
 use Rattle.gx_events.specs.declared.outcome.Outcome.TheVariants.{Replied, More, Help, Nothing, Refused}

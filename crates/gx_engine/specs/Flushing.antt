@@ -9,7 +9,7 @@ use Rattle.gx_glog.specs.State.{Goes, calls_of}
 use Rattle.gx_pool.specs.Marks.{is_gated}
 use Rattle.gx_pool.specs.State.{Kept, kept, stamp_of}
 use Rattle.gx_pool.specs.Writing.{WritesPage}
-use Rattle.gx_engine_laws.specs.Events.{Event, Works, Durable, Fails}
+use Rattle.gx_events.specs.Events.{Event, Works, Durable, Fails}
 use Rattle.gx_durable.specs.Steps.{told_frames}
 use Rattle.gx_events.specs.declared.outcome.Outcome.{Outcome}
 use Rattle.gx_events.specs.declared.outcome.Outcome.TheVariants.{More, Nothing, Refused}

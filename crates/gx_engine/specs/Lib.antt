@@ -1,4 +1,5 @@
 pub mod States
+pub mod Slots
 pub mod Calls
 pub mod Holds
 pub mod Asks

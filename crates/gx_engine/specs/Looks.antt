@@ -11,7 +11,7 @@ use Rattle.gx_index_laws.specs.Classes.{Class, Page}
 use Rattle.gx_durable.specs.Spelled.{Reading}
 use Rattle.gx_tree.specs.declared.found.Found.{Found}
 use Rattle.gx_tree.specs.declared.look.Look.{Look}
-use Rattle.gx_engine_laws.specs.Events.{Event, Works, Closes, RefusesCall}
+use Rattle.gx_events.specs.Events.{Event, Works, Closes, RefusesCall}
 use Rattle.gx_events.specs.declared.outcome.Outcome.{Outcome}
 use Rattle.gx_events.specs.declared.outcome.Outcome.TheVariants.{Replied, More, Help}
 use Rattle.gx_phases.specs.declared.phase.Phase.{Phase}

@@ -8,13 +8,13 @@ use Rattle.gx_machine.specs.declared.entry.Entry.{Entry}
 use Rattle.gx_machine.specs.Keys.{Keys, entry_cmp, same_entry}
 use Rattle.gx_machine.specs.Machine.{is_session}
 use Rattle.gx_machine.specs.declared.limits.TheConstants.{MAX_CLAIMS, SESSIONS}
-use Rattle.gx_engine_laws.specs.Losers.{loser_slot}
+use Rattle.gx_events.specs.Losers.{loser_slot}
 use Rattle.gx_recovery.specs.Records.{Touch}
 use Rattle.gx_index_laws.specs.Openings.{losers_of, numbers_of}
 use Rattle.gx_phases.specs.declared.phase.Phase.{Phase}
 use Rattle.gx_phases.specs.declared.phase.Phase.TheVariants.{Free, Working, Open, Undoing, Waiting}
 use Rattle.gx_phases.specs.Moves.{transaction_of}
-use Rattle.gx_phases.specs.States.{State, phase_at, slots_of}
+use Rattle.gx_phases.specs.States.{State, slots_of}
 use Rattle.gx_engine.specs.declared.losers.Loser.{Loser}
 use Rattle.gx_engine.specs.declared.work.Work.{Work}
 use Rattle.gx_engine.specs.declared.work.Work.TheVariants.{Rests, Looks, Descends, Seeks}

@@ -6,7 +6,7 @@ use Rattle.gx_disk.specs.Device.{Device}
 use Rattle.gx_page.specs.Contents.{Contents}
 use Rattle.gx_node.specs.Reading.{Format}
 use Rattle.gx_recovery.specs.Records.{Record}
-use Rattle.gx_engine_laws.specs.Events.{Event, Works}
+use Rattle.gx_events.specs.Events.{Event, Works}
 use Rattle.gx_index_laws.specs.Classes.{Class, Page}
 use Rattle.gx_index_laws.specs.Measures.{work_left}
 use Rattle.gx_index_laws.specs.States as index

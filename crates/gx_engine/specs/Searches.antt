@@ -7,10 +7,10 @@ use Rattle.gx_machine.specs.declared.reply.Reply.TheVariants.{Found, Refused as 
 use Rattle.gx_disk.specs.Device.{Device}
 use Rattle.gx_page.specs.Contents.{Contents}
 use Rattle.gx_tree.specs.declared.look.Look.{Look}
-use Rattle.gx_engine_laws.specs.Events.{Event, Works, Finds, Closes, RefusesCall}
+use Rattle.gx_events.specs.Events.{Event, Works, Finds, Closes, RefusesCall}
 use Rattle.gx_events.specs.declared.outcome.Outcome.{Outcome}
 use Rattle.gx_events.specs.declared.outcome.Outcome.TheVariants.{Replied, More, Help}
-use Rattle.gx_events.specs.Engines.{IsJust}
+use Rattle.gx_events.specs.Steps.{IsJust}
 use Rattle.gx_phases.specs.Moves.{answered_state, failed_state}
 use Rattle.gx_storage.specs.Bringing.{bringing}
 use Rattle.gx_engine.specs.declared.work.Work.TheVariants.{Looks}

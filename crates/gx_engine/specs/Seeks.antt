@@ -13,7 +13,7 @@ use Rattle.gx_disk.specs.Device.{Device}
 use Rattle.gx_page.specs.Contents.{Contents}
 use Rattle.gx_node.specs.Reading.{Format, format_of, is_node}
 use Rattle.gx_class.specs.declared.class.KeyClass.{Ghosts}
-use Rattle.gx_tree_laws.specs.Trees.{Pair, Used}
+use Rattle.gx_node.specs.Trees.{Pair, Used}
 use Rattle.gx_node.specs.declared.fault.StepFault.{StepFault}
 use Rattle.gx_node.specs.declared.fault.StepFault.TheVariants as step
 use Rattle.gx_tree.specs.declared.seek.Sought.{Sought}
@@ -32,9 +32,10 @@ use Rattle.gx_store.specs.declared.fault.StoreFault.{StoreFault}
 use Rattle.gx_store.specs.Faults as faults
 use Rattle.gx_store.specs.Standing.{store_of}
 use Rattle.gx_record.specs.declared.sizes.TheConstants.{SPLIT_RECORD}
-use Rattle.gx_record.specs.Writing.{write_record}
 use Rattle.gx_storage.specs.Bringing.{bringing}
 use Rattle.gx_storage.specs.Changes.{begun}
+use Rattle.gx_storage.specs.Imaged.{is_imaged}
+use Rattle.gx_storage.specs.Small.{mark_room}
 use Rattle.gx_storage.specs.State.{Volume}
 use Rattle.gx_engine.specs.declared.work.Work.{Work}
 use Rattle.gx_engine.specs.declared.work.Work.TheVariants.{Seeks}
@@ -84,17 +85,15 @@ module _ {B : Type 0} (f : Format B) (IsKey : B → Type 0) (k : Keys B) where
   pub record IsUnsought {D : Type 0} (passes : ℕ → Contents → Bool) (d e : Device) (v w : Volume D) (leaf : ℕ) (fault : StepFault StoreFault) : Type 0 where
     pub why : IsWhy (faults.IsWhy passes d e (bringing v) w.shelf) fault
     pub damaged : fault ≡ step.Damaged → Used (tree_of (store_of f e.seen w.shelf)) leaf → ((tree_of (store_of f e.seen w.shelf)).node leaf).level ≢ 0
-    pub memory : fault ≢ step.Memory
-    pub full : fault ≢ step.PagesFull
 
 -- What such a move comes to, of a class whose keys are spelled in so many bytes.
 module _ {B : Type 0} (f : Format B) (IsKey : B → Type 0) (k : Keys B) (key : ℕ) where
   -- Another event has to come first: a checkpoint, since one is due, and the pair stands in the leaf with the other mark; or what makes
-  -- room in the log, for the record of a mark that is set, where none is due, or among the frames. No page got a change.
+  -- room in the log, for the record of a mark that is set, by the leaf's bit, where none is due, or among the frames. No page got a change.
   abbrev pub IsPutOff : {D : Type 0} → (ℕ → Contents → Bool) → Device → Device → Entry B → ℕ → Bool → Parts B D → Parts B D → Need → Type 0
   IsPutOff passes d e entry leaf marked old new n =
       ((n ≡ need.Checkpoint) × (is_due old ≡ true) × StampsStay old.volume.shelf new.volume.shelf × ((slot : ℕ) × IsSought f IsKey k e new.volume entry leaf (Here slot (not marked))))
-      ⊎ ((size : ℕ) × ((size ≡ 0) ⊎ (size ≡ write_record key)) × (size ≤ SPLIT_RECORD) × ((help : IsHelp passes d e (runs old.checkpoint) (begun old.volume size) new.volume.shelf n) × IsEarly help.fault (is_due old)))
+      ⊎ ((size : ℕ) × ((size ≡ 0) ⊎ (size ≡ mark_room (is_imaged old.volume.imaged leaf) key)) × (size ≤ SPLIT_RECORD) × ((help : IsHelp passes d e (runs old.checkpoint) (begun old.volume size) new.volume.shelf n) × IsEarly help.fault (is_due old)))
 
   -- The pair is sought further to the right, and nothing is logged; or its mark was set, and the write is noted; or it has the mark
   -- already, and nothing is logged; or the engine has failed; or another event has to come first, and the call is at what it was.

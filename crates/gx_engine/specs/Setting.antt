@@ -10,18 +10,19 @@ use Rattle.gx_class.specs.declared.class.KeyClass.{Ghosts}
 use Rattle.gx_disk.specs.Device.{Device}
 use Rattle.gx_page.specs.Contents.{Contents}
 use Rattle.gx_node.specs.declared.fault.StepFault.{StepFault}
+use Rattle.gx_node.specs.declared.fault.SplitFault.{SplitFault}
 use Rattle.gx_node.specs.Keyed.{rules_of}
 use Rattle.gx_node.specs.Reading.{Format, format_of, is_node}
-use Rattle.gx_tree_laws.specs.Reach.{TraversalItem}
+use Rattle.gx_node.specs.Reach.{TraversalItem}
 use Rattle.gx_tree.specs.declared.descent.Descended.{Descended}
 use Rattle.gx_tree.specs.declared.seek.Sought.{Sought}
 use Rattle.gx_tree.specs.declared.split.Split.{Split}
 use Rattle.gx_tree.specs.declared.split_root.RootSplit.{RootSplit}
-use Rattle.gx_engine_laws.specs.Events as laws
+use Rattle.gx_events.specs.Events as laws
 use Rattle.gx_recovery.specs.Known.{Known, Limits}
 use Rattle.gx_index_laws.specs.Classes.{Class, Page}
 use Rattle.gx_durable.specs.Spelled.{Reading}
-use Rattle.gx_readings.specs.Classes.{class_of, known_at, reading_of}
+use Rattle.gx_durable.specs.Classes.{class_of, known_at, reading_of}
 use Rattle.gx_store.specs.declared.fault.StoreFault.{StoreFault}
 use Rattle.gx_storage.specs.Bringing.{has_removable}
 use Rattle.gx_storage.specs.State.{Volume}
@@ -213,7 +214,8 @@ module _ {C B D : Type 0} (shape : Members B) (proper : B → Bool) (said : List
   -- split and the root's
   abbrev pub SteppingAs : Volume D → Volume D → TraversalItem → B → Result (Descended B) (StepFault StoreFault) → Type 0
   SteppingAs v w item coming result =
-      Stepping known reading form passes traits.cost traits.joined (on v) (on w) v w item coming result
+      Stepping known reading form passes traits.cost traits.joined traits.spelling traits.KEY (on v) (on w) v w item coming
+      result
 
   abbrev pub AddingAs : Volume D → Volume D → ℕ → Entry B → ℕ → Result (Unit {0}) (StepFault StoreFault) → Type 0
   AddingAs v w transaction entry page result =
@@ -222,10 +224,10 @@ module _ {C B D : Type 0} (shape : Members B) (proper : B → Bool) (said : List
   abbrev pub LeafSweepingAs : (Entry B → Bool) → Volume D → Volume D → ℕ → Result Bool (StepFault StoreFault) → Type 0
   LeafSweepingAs claimed v w page result = LeafSweeping known reading form passes claimed (on v) (on w) v w page result
 
-  abbrev pub SplittingAs : Volume D → Volume D → ℕ → ℕ → Result (Option (Split B)) (StepFault StoreFault) → Type 0
+  abbrev pub SplittingAs : Volume D → Volume D → ℕ → ℕ → Result (Option (Split B)) (SplitFault StoreFault) → Type 0
   SplittingAs v w page parent result =
       Splitting known reading form passes (rules_of shape) traits.sides_of (on v) (on w) v w page parent result
 
-  abbrev pub RootSplittingAs : Volume D → Volume D → Result (RootSplit B) (StepFault StoreFault) → Type 0
+  abbrev pub RootSplittingAs : Volume D → Volume D → Result (RootSplit B) (SplitFault StoreFault) → Type 0
   RootSplittingAs v w result =
       RootSplitting known reading form passes (rules_of shape) traits.sides_of (on v) (on w) v w result

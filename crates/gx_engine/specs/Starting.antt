@@ -1,5 +1,5 @@
 -- What an engine is that starts, and that it holds the index that is opened over what was found on its device.
-use Rattle.std.specs.Prelude.{ℕ, ◌≡◌, ◌⊎◌, ◌-◌, ◌<◌, ◌≤◌, Bool, true, false, None, List, [], map, length}
+use Rattle.std.specs.Prelude.{ℕ, ◌≡◌, ◌⊎◌, ◌-◌, ◌≤◌, Bool, true, false, None, List, [], map, length, replicate}
 use Rattle.gx_geom.specs.declared.refusal.Refusal.{Refusal}
 use Rattle.gx_geom.specs.declared.refusal.Refusal.TheVariants.{Damaged, Memory}
 use Rattle.gx_machine.specs.declared.entry.Entry.{Entry}
@@ -56,12 +56,14 @@ pub record TakenUp {B : Type 0} (k : Keys B) (start : Start B) (sessions : State
 abbrev pub WhyNot : {B : Type 0} → Keys B → Start B → Refusal → Type 0
 WhyNot k start why = (why ≡ Memory) ⊎ ((why ≡ Damaged) × (AreCutOff k (cut_off start) → ⊥))
 
--- An engine starts so: its log rests, its frames are empty, its sessions undo what was cut off, and a checkpoint runs.
+-- An engine starts so: its log rests, no page has an image since, its frames are empty, its sessions undo what was cut off, and a
+-- checkpoint runs.
 pub record Started {B D : Type 0} (k : Keys B) (start : Start B) (disk : D) (e : Parts B D) : Type 0 where
   pub volume : e.volume ≡ record {
     log = rested start;
     shelf = record { disk = disk; frames = e.volume.shelf.frames; used = start.used; counter = start.counter; pages = start.pages; batch = 0; has_room = false };
     most = start.fanout;
+    imaged = replicate start.pages false;
   }
   pub frames : AreFresh start.frames (start.bodies - 1) e.volume.shelf.frames
   pub sessions : TakenUp k start e.sessions

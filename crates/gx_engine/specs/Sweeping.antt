@@ -1,5 +1,5 @@
 -- What comes of a page that is brought in an event of no session, and of the sweep of a leaf.
-use Rattle.std.specs.Prelude.{ℕ, ◌≡◌, ◌≤◌, ◌<◌, ◌⊎◌, nat_le, nat_lt, Bool, true, false, ◌&&◌, Result, Ok, Err, length, List, [], ◌∷◌}
+use Rattle.std.specs.Prelude.{ℕ, ◌≡◌, ◌<◌, ◌⊎◌, nat_le, nat_lt, Bool, true, false, ◌&&◌, Result, Ok, Err, length, List, [], ◌∷◌}
 use Rattle.gx_geom.specs.declared.refusal.Refusal.{Refusal}
 use Rattle.gx_geom.specs.declared.refusal.Refusal.TheVariants.{Damaged as DamagedRefusal, Device as DeviceRefusal}
 use Rattle.gx_machine.specs.declared.entry.Entry.{Entry}
@@ -8,10 +8,8 @@ use Rattle.gx_disk.specs.Device.{Device}
 use Rattle.gx_page.specs.Contents.{Contents}
 use Rattle.gx_node.specs.Reading.{Format}
 use Rattle.gx_node.specs.declared.items.TheConstants.{MAX_ENTRIES}
-use Rattle.gx_tree_laws.specs.Trees.{Node}
-use Rattle.gx_node.specs.Store.{tree_of}
 use Rattle.gx_tree.specs.Writing.{Swept}
-use Rattle.gx_engine_laws.specs.Events.{Event, Works, Fails}
+use Rattle.gx_events.specs.Events.{Event, Works, Fails}
 use Rattle.gx_recovery.specs.Known.{Known, Limits}
 use Rattle.gx_index_laws.specs.Classes.{Page}
 use Rattle.gx_durable.specs.Spelled.{Reading}
@@ -19,16 +17,15 @@ use Rattle.gx_events.specs.declared.outcome.Need.{Need}
 use Rattle.gx_events.specs.declared.outcome.Need.TheVariants as need
 use Rattle.gx_events.specs.declared.outcome.Outcome.{Outcome}
 use Rattle.gx_events.specs.declared.outcome.Outcome.TheVariants.{More, Help, Nothing, Refused}
-use Rattle.gx_txn.specs.Tables.{claimed_in}
 use Rattle.gx_phases.specs.Moves.{failed_state}
 use Rattle.gx_store.specs.Faults.{CanBeRead}
 use Rattle.gx_store.specs.Standing.{store_of}
 use Rattle.gx_store.specs.State.{IsSteady}
-use Rattle.gx_record.specs.declared.sizes.TheConstants.{PAGE_RECORD}
 use Rattle.gx_storage.specs.Bringing.{bringing, has_removable}
-use Rattle.gx_storage.specs.Changes.{IsLogged, begun, page_given}
+use Rattle.gx_storage.specs.Changes.{IsLogged, begun}
 use Rattle.gx_engine.specs.Flushing.{IsEnded}
 use Rattle.gx_engine.specs.Refusals.{IsHelp}
+pub use Rattle.gx_engine.specs.Slots.{AreTaken, is_held, node_shown, slots_room, slots_said}
 use Rattle.gx_engine.specs.States.{Parts, is_due, runs}
 use Rattle.gx_engine.specs.Writes.{brought}
 
@@ -55,14 +52,6 @@ abbrev pub bring_events : {A B : Type 0} → Result A (Outcome B) → List (Even
 bring_events (Ok done) = []
 bring_events (Err outcome) = sweep_events outcome
 
--- the node that a page shows
-abbrev pub node_shown : {B D : Type 0} → Format B → Device → ℕ → Parts B D → Node B
-node_shown f d page e = (tree_of (store_of f d.seen e.volume.shelf)).node page
-
--- whether some session claims an entry
-abbrev pub is_held : {B D : Type 0} → Keys B → Parts B D → Entry B → Bool
-is_held k e entry = claimed_in k entry e.sessions.table
-
 -- whether a page is in use
 abbrev pub is_page : {B D : Type 0} → ℕ → Parts B D → Bool
 is_page page e = nat_lt 0 page && nat_le page e.volume.shelf.used
@@ -72,20 +61,28 @@ abbrev pub takes_any : {B D : Type 0} → Keys B → Format B → Device → ℕ
 takes_any k f d page e = is_page page e && has_removable (is_held k e) (node_shown f d page e)
 
 module _ {B : Type 0} (k : Keys B) (known : Limits → Known (Entry B) (Page B)) (r : Reading (Entry B) (Page B)) (f : Format B) (passes : ℕ → Contents → Bool) where
-  -- The leaf's marked pairs that no session claims are gone, and the record of its page is logged.
+  -- The leaf's marked pairs that no session claims are gone, and the record of that is logged.
   pub record IsSwept {D : Type 0} (page : ℕ) (d e : Device) (old new : Parts B D) : Type 0 where
     pub early : is_due old ≡ false
-    pub logged : IsLogged known r f passes PAGE_RECORD d e old.volume new.volume (page_given page e.seen new.volume.shelf)
+    pub slots : List ℕ
+    pub taken : AreTaken (is_held k old) f d old.volume page slots
+    pub logged : IsLogged known r f passes (slots_room old.volume page slots) d e old.volume new.volume (slots_said old.volume page slots e new.volume)
     pub swept : IsSteady d old.volume.shelf.frames → Swept (is_held k old) (store_of f d.seen old.volume.shelf) (store_of f e.seen new.volume.shelf) page true
     pub only : new ≡ record old { volume = new.volume }
 
+  -- Something is to be taken of a leaf, and there is no room for the record of just that, or among the frames.
+  pub record SweepLacks {D : Type 0} (page : ℕ) (d e : Device) (old new : Parts B D) (n : Need) : Type 0 where
+    pub slots : List ℕ
+    pub taken : AreTaken (is_held k old) f d old.volume page slots
+    pub help : IsHelp passes d e (runs old.checkpoint) (begun old.volume (slots_room old.volume page slots)) new.volume.shelf n
+
   -- Another event has to come first: the page isn't in a frame yet; or something is to be taken of it, and a checkpoint is due, or
-  -- there is no room for the record or among the frames.
+  -- there is no room.
   abbrev pub SweepWaits : {D : Type 0} → ℕ → Device → Device → Parts B D → Parts B D → Need → Type 0
   SweepWaits page d e old new n =
       IsHelp passes d e (runs old.checkpoint) (bringing old.volume) new.volume.shelf n
       ⊎ ((IsSteady d old.volume.shelf.frames → takes_any k f d page old ≡ true)
-      × (((n ≡ need.Checkpoint) × (is_due old ≡ true)) ⊎ ((is_due old ≡ false) × IsHelp passes d e (runs old.checkpoint) (begun old.volume PAGE_RECORD) new.volume.shelf n)))
+      × (((n ≡ need.Checkpoint) × (is_due old ≡ true)) ⊎ ((is_due old ≡ false) × SweepLacks page d e old new n)))
 
   -- What the sweep of a page in use comes to. Something was taken; or there was nothing to take; or it waits; or the engine has failed: the device failed, or it lies, or had no
   -- right page there, or one with more pairs than fit. But for what was taken pages may have been brought, and nothing else has changed.

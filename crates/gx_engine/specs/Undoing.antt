@@ -8,9 +8,8 @@ use Rattle.gx_machine.specs.Keys.{Keys}
 use Rattle.gx_disk.specs.Device.{Device}
 use Rattle.gx_page.specs.Contents.{Contents}
 use Rattle.gx_record.specs.Rec as rec
-use Rattle.gx_record.specs.Writing.{write_record}
 use Rattle.gx_node.specs.Reading.{Format}
-use Rattle.gx_tree_laws.specs.Trees.{Pair, Used}
+use Rattle.gx_node.specs.Trees.{Pair, Used}
 use Rattle.gx_node.specs.declared.fault.StepFault.{StepFault}
 use Rattle.gx_node.specs.declared.fault.StepFault.TheVariants as step
 use Rattle.gx_tree.specs.declared.seek.Sought.{Sought}
@@ -19,7 +18,7 @@ use Rattle.gx_node.specs.Owner.{IsWhy}
 use Rattle.gx_node.specs.Store.{tree_of}
 use Rattle.gx_tree.specs.Writing.{SetsMark}
 use Rattle.gx_recovery.specs.Known.{Known, Limits}
-use Rattle.gx_engine_laws.specs.Events.{Event, EndsUndo, RefusesCall, Undoes, Works}
+use Rattle.gx_events.specs.Events.{Event, EndsUndo, RefusesCall, Undoes, Works}
 use Rattle.gx_index_laws.specs.Classes.{Page}
 use Rattle.gx_durable.specs.Spelled.{Reading}
 use Rattle.gx_events.specs.declared.outcome.Need.TheVariants as need
@@ -37,8 +36,10 @@ use Rattle.gx_store.specs.Standing.{store_of}
 use Rattle.gx_store.specs.State.{IsSteady}
 use Rattle.gx_storage.specs.Changes.{IsUnlogged, MarkIsLogged, begun}
 use Rattle.gx_storage.specs.Flushing.{HasNoRoom}
+use Rattle.gx_storage.specs.Imaged.{is_imaged}
 use Rattle.gx_storage.specs.Keeps.{Logs}
 use Rattle.gx_storage.specs.Numbers.{OwnWhereSet}
+use Rattle.gx_storage.specs.Small.{mark_room}
 use Rattle.gx_storage.specs.State.{Volume}
 use Rattle.gx_engine.specs.declared.work.Work.{Work}
 use Rattle.gx_engine.specs.declared.work.Work.TheVariants.{Descends, Looks, Rests, Seeks}
@@ -93,8 +94,8 @@ sought_state s restored n leaf (Right next) sessions = with_phase_of s (phase.Un
 
 module _ {B : Type 0} (known : Limits → Known (Entry B) (Page B)) (r : Reading (Entry B) (Page B)) (f : Format B) (passes : ℕ → Contents → Bool) (IsKey : B → Type 0) (k : Keys B)
     (spelling : B → List ℕ) (key : ℕ) where
-  -- The pair of a note's entry was sought in a leaf: it has the note's mark, and that is logged as a write of this transaction, with the
-  -- mark that was found; or it isn't in the leaf, and nothing is logged.
+  -- The pair of a note's entry was sought in a leaf: it has the note's mark, and that is logged as this transaction's, with the mark that
+  -- was found, small where the log's extent has an image of the leaf; or it isn't in the leaf, and nothing is logged.
   pub record PairIsSought {D : Type 0} (d e : Device) (v w : Volume D) (transaction : ℕ) (n : Note B) (leaf : ℕ) (sought : Sought) : Type 0 where
     pub wants : Pair B → Bool
     pub wanted : (x : Pair B) → IsKey x.key → wants x ≡ ((x.row == n.entry.row) && is_eq (k.cmp x.key n.entry.key))
@@ -106,13 +107,11 @@ module _ {B : Type 0} (known : Limits → Known (Entry B) (Page B)) (r : Reading
   abbrev pub IsNoLeaf : {D : Type 0} → Device → Volume D → ℕ → Type 0
   IsNoLeaf d v leaf = Used (tree_of (store_of f d.seen v.shelf)) leaf → ((tree_of (store_of f d.seen v.shelf)).node leaf).level ≢ 0
 
-  -- The pair wasn't sought: nothing is logged. It takes no memory and no pages.
+  -- The pair wasn't sought: nothing is logged.
   pub record IsNotSought {D : Type 0} (d e : Device) (v w : Volume D) (leaf : ℕ) (fault : StepFault StoreFault) : Type 0 where
-    pub unlogged : IsUnlogged known r f passes (begun v (write_record key)) d e v w
-    pub why : IsWhy (faults.IsWhy passes d e (begun v (write_record key)) w.shelf) fault
+    pub unlogged : IsUnlogged known r f passes (begun v (mark_room (is_imaged v.imaged leaf) key)) d e v w
+    pub why : IsWhy (faults.IsWhy passes d e (begun v (mark_room (is_imaged v.imaged leaf) key)) w.shelf) fault
     pub damaged : IsSteady d v.shelf.frames → fault ≡ step.Damaged → IsNoLeaf d v leaf
-    pub memory : fault ≢ step.Memory
-    pub full : fault ≢ step.PagesFull
 
   abbrev pub Seeking : {D : Type 0} → Device → Device → Volume D → Volume D → ℕ → Note B → ℕ → Result Sought (StepFault StoreFault) → Type 0
   Seeking d e v w transaction n leaf (Ok sought) = PairIsSought d e v w transaction n leaf sought
@@ -125,13 +124,13 @@ module _ {B : Type 0} (known : Limits → Known (Entry B) (Page B)) (r : Reading
       (sought : Sought) × PairIsSought d e old.volume new.volume (transaction_of s old.sessions) n leaf sought
       × (new ≡ record old { volume = new.volume; sessions = sought_state s restored n leaf sought old.sessions })
   RestoreComes d e s restored n leaf old new (Help n_) =
-      IsUnlogged known r f passes (begun old.volume (write_record key)) d e old.volume new.volume × IsHelp passes d e (runs old.checkpoint) (begun old.volume (write_record key)) new.volume.shelf n_
+      IsUnlogged known r f passes (begun old.volume (mark_room (is_imaged old.volume.imaged leaf) key)) d e old.volume new.volume × IsHelp passes d e (runs old.checkpoint) (begun old.volume (mark_room (is_imaged old.volume.imaged leaf) key)) new.volume.shelf n_
       × (new ≡ record old { volume = new.volume })
   RestoreComes d e s restored n leaf old new (Replied (RefusedCall DeviceRefusal)) =
-      IsUnlogged known r f passes (begun old.volume (write_record key)) d e old.volume new.volume × (d.faults < e.faults)
+      IsUnlogged known r f passes (begun old.volume (mark_room (is_imaged old.volume.imaged leaf) key)) d e old.volume new.volume × (d.faults < e.faults)
       × (new ≡ record old { volume = new.volume; sessions = failed_state old.sessions })
   RestoreComes d e s restored n leaf old new (Replied (RefusedCall DamagedRefusal)) =
-      IsUnlogged known r f passes (begun old.volume (write_record key)) d e old.volume new.volume
+      IsUnlogged known r f passes (begun old.volume (mark_room (is_imaged old.volume.imaged leaf) key)) d e old.volume new.volume
       × (IsSteady d old.volume.shelf.frames → faults.CanBeRead passes d old.volume.shelf → IsNoLeaf d old.volume leaf)
       × (new ≡ record old { volume = new.volume; sessions = failed_state old.sessions })
   RestoreComes d e s restored n leaf old new other = ⊥

@@ -11,28 +11,29 @@ use Rattle.gx_disk.specs.Device.{Device}
 use Rattle.gx_page.specs.Contents.{Contents}
 use Rattle.gx_node.specs.Reading.{Format, format_of, is_node}
 use Rattle.gx_node.specs.Store.{tree_of}
-use Rattle.gx_tree_laws.specs.Reach.{TraversalItem}
-use Rattle.gx_tree_laws.specs.Trees.{size}
-use Rattle.gx_tree.specs.declared.look.Look.{Look}
-use Rattle.gx_engine_laws.specs.Events.{Event, Closes, Deletes, FindsAbsent, FindsPresent, Inserts, RefusesCall, Works}
+use Rattle.gx_node.specs.Reach.{TraversalItem}
+use Rattle.gx_node.specs.Trees.{size}
+use Rattle.gx_events.specs.Events.{Event, Closes, Deletes, FindsAbsent, FindsPresent, Inserts, RefusesCall, Works}
 use Rattle.gx_events.specs.declared.outcome.Need.{Need}
 use Rattle.gx_events.specs.declared.outcome.Need.TheVariants as need
 use Rattle.gx_events.specs.declared.outcome.Outcome.{Outcome}
 use Rattle.gx_events.specs.declared.outcome.Outcome.TheVariants.{Replied, More, Help}
-use Rattle.gx_events.specs.Engines.{IsJust}
+use Rattle.gx_events.specs.Steps.{IsJust}
 use Rattle.gx_txn.specs.declared.note.Note.{Note}
 use Rattle.gx_phases.specs.declared.phase.Phase.TheVariants as phase
 use Rattle.gx_phases.specs.Moves.{answered_state, failed_state, written_state}
 use Rattle.gx_phases.specs.States.{phase_at}
 use Rattle.gx_store.specs.Standing.{store_of}
 use Rattle.gx_store.specs.State.{IsSteady}
-use Rattle.gx_record.specs.declared.sizes.TheConstants.{PAGE_RECORD, SPLIT_RECORD}
-use Rattle.gx_record.specs.Writing.{write_record}
+use Rattle.gx_record.specs.declared.sizes.TheConstants.{SPLIT_RECORD}
 use Rattle.gx_storage.specs.Changes.{begun}
+use Rattle.gx_storage.specs.Imaged.{is_imaged}
+use Rattle.gx_storage.specs.Small.{add_room, mark_room, widen_room}
 use Rattle.gx_engine.specs.declared.work.Work.{Work}
 use Rattle.gx_engine.specs.declared.work.Work.TheVariants.{Descends, Looks, Rests, Seeks}
 use Rattle.gx_engine.specs.Moves.{calling}
 use Rattle.gx_engine.specs.Refusals.{IsEarly, IsHelp, StampsStay}
+use Rattle.gx_engine.specs.Slots.{IsSweepRoom}
 use Rattle.gx_engine.specs.States.{Parts, is_due, runs}
 
 -- pages may have been brought: the log and all else is as it was
@@ -86,19 +87,26 @@ HasPlace f d e page =
     IsSteady d e.volume.shelf.frames → (((tree_of (store_of f d.seen e.volume.shelf)).node page).level ≡ 0)
     × (length ((tree_of (store_of f d.seen e.volume.shelf)).node page).pairs < e.volume.most)
 
--- The room for which a write's move may ask, by its work: a look asks for none; a seek for that of a mark that is set; and a descent for
--- that of a page's change, of a pair that is added to a leaf with room, or of the split of a full node.
-abbrev pub AsksAt : {B D : Type 0} → Format B → ℕ → Device → Parts B D → Work B → ℕ → Type 0
-AsksAt f key d e Rests size = size ≡ 0
-AsksAt f key d e (Looks look) size = size ≡ 0
-AsksAt f key d e (Seeks leaf) size = (size ≡ 0) ⊎ (size ≡ write_record key)
-AsksAt f key d e (Descends parent item) size =
-    (size ≡ PAGE_RECORD) ⊎ (((size ≡ write_record key) × HasPlace f d e item.page) ⊎ ((size ≡ SPLIT_RECORD) × IsFull f d e item.page))
+-- the room for which a full node asks: that of its split, or of its sweep
+abbrev pub AsksHere : {B D : Type 0} → Keys B → Format B → Device → Parts B D → ℕ → ℕ → Type 0
+AsksHere k f d e page size = IsSweepRoom k f d e page size ⊎ (size ≡ SPLIT_RECORD)
 
-pub record AsksRoom {B D : Type 0} (f : Format B) (key : ℕ) (d : Device) (s : ℕ) (call : Call B) (e : Parts B D) (size : ℕ) : Type 0 where
+-- The room for which a write's move may ask, by its work: a look asks for none; a seek for that of a mark that is set; and a descent for
+-- that of a bound that is widened, or of a pair that is added to a leaf with room, or of a full node's sweep or split. Each but a split's
+-- is by whether the log's extent has an image of the page.
+abbrev pub AsksAt : {B D : Type 0} → Keys B → Format B → ℕ → Device → Parts B D → Work B → ℕ → Type 0
+AsksAt k f key d e Rests size = size ≡ 0
+AsksAt k f key d e (Looks look) size = size ≡ 0
+AsksAt k f key d e (Seeks leaf) size = (size ≡ 0) ⊎ (size ≡ mark_room (is_imaged e.volume.imaged leaf) key)
+AsksAt k f key d e (Descends parent item) size =
+    (size ≡ widen_room (is_imaged e.volume.imaged item.page) key)
+    ⊎ (((size ≡ add_room (is_imaged e.volume.imaged item.page) key) × HasPlace f d e item.page)
+    ⊎ (AsksHere k f d e item.page size × IsFull f d e item.page))
+
+pub record AsksRoom {B D : Type 0} (k : Keys B) (f : Format B) (key : ℕ) (d : Device) (s : ℕ) (call : Call B) (e : Parts B D) (size : ℕ) : Type 0 where
   pub work : Work B
   pub at : phase_at (s - 1) e.sessions.phases ≡ phase.Open call work
-  pub asks : AsksAt f key d e work size
+  pub asks : AsksAt k f key d e work size
 
 -- A session's insert has descended to a full node, whose split takes more pages than are left.
 pub record LacksPages {B D : Type 0} (f : Format B) (d : Device) (s : ℕ) (call : Call B) (e : Parts B D) : Type 0 where
@@ -136,7 +144,7 @@ WriteBy Asks Lacks k passes d e s call old new other = ⊥
 -- The same of the work at hand.
 abbrev pub WriteComes : {B D : Type 0} → Keys B → Format B → (ℕ → Contents → Bool) → ℕ → Device → Device → ℕ → Call B → Parts B D → Parts B D → Outcome B → Type 0
 WriteComes k f passes key d e s call old new outcome =
-    WriteBy (AsksRoom f key d s call old) (LacksPages f d s call old) k passes d e s call old new outcome
+    WriteBy (AsksRoom k f key d s call old) (LacksPages f d s call old) k passes d e s call old new outcome
 
 -- The same over a class of keys, and devices that are seen so.
 module _ {C B D : Type 0} (shape : Members B) (class : Ghosts C B) (state : D → Device) (s : ℕ) (call : Call B) where
@@ -149,9 +157,10 @@ module _ {C B D : Type 0} (shape : Members B) (class : Ghosts C B) (state : D �
       WriteComes (keys_of shape) (format_of class) (is_node (format_of class)) class.KEY (state old.volume.shelf.disk) (state new.volume.shelf.disk)
       s call old new outcome
 
-  -- a pair is added
-  abbrev pub AddsAs : Parts B D → Parts B D → Outcome B → Type 0
-  AddsAs old new outcome = ComesBy (λ size. size ≡ write_record class.KEY) (λ e. ⊥) old new outcome
+  -- a pair is added to the leaf on a page
+  abbrev pub AddsAs : ℕ → Parts B D → Parts B D → Outcome B → Type 0
+  AddsAs page old new outcome =
+      ComesBy (λ size. size ≡ add_room (is_imaged old.volume.imaged page) class.KEY) (λ e. ⊥) old new outcome
 
   -- a page is split, of which it isn't said that it is full
   abbrev pub SplitsAs : ℕ → Parts B D → Parts B D → Outcome B → Type 0
@@ -160,7 +169,8 @@ module _ {C B D : Type 0} (shape : Members B) (class : Ghosts C B) (state : D �
   -- or swept
   abbrev pub MakesRoomAs : ℕ → Parts B D → Parts B D → Outcome B → Type 0
   MakesRoomAs page old new outcome =
-      ComesBy (λ size. (size ≡ PAGE_RECORD) ⊎ (size ≡ SPLIT_RECORD)) (λ e. LeftFew (state e.volume.shelf.disk) e page) old new outcome
+      ComesBy (AsksHere (keys_of shape) (format_of class) (state old.volume.shelf.disk) old page)
+      (λ e. LeftFew (state e.volume.shelf.disk) e page) old new outcome
 
 -- the index's event that it is
 abbrev pub write_events : {B : Type 0} → ℕ → Call B → Outcome B → List (Event B)

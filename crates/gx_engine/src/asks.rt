@@ -8,9 +8,9 @@ use crate::Engine;
 use crate::laws::a_class_is_lawful;
 use crate::work::Work;
 use gx_disk::SectorDisk;
+use gx_durable::ReadKeys;
 use gx_events::Outcome;
 use gx_machine::{Asked, Call};
-use gx_readings::ReadKeys;
 
 /// What an ask is given, as an event's outcome.
 fn outcome_of<B>(given: Asked<B>) -> Outcome<B>

@@ -4,8 +4,8 @@ ghost use Rattle.gx_engine.specs.States.{is_due, runs};
 
 use crate::Engine;
 use gx_disk::SectorDisk;
+use gx_durable::ReadKeys;
 use gx_index_laws::CHECKPOINT_AT;
-use gx_readings::ReadKeys;
 
 /// How far a checkpoint is.
 #[derive(Clone, Copy, Debug, PartialEq, Eq, Drop)]

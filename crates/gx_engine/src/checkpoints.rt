@@ -1,7 +1,7 @@
 //! A checkpoint's events: what is logged is gated, the dirty pages are written and settled, and the log turns to the
 //! other extent.
 ghost use Rattle.std.specs.Prelude.{◌≡◌, nat_le, false};
-ghost use Rattle.gx_events.specs.Engines.{IsSync};
+ghost use Rattle.gx_events.specs.Steps.{IsSync};
 ghost use Rattle.gx_pool.specs.State.{NoneDirty};
 ghost use Rattle.gx_index_laws.specs.declared.TheConstants.{CHECKPOINT_AT};
 ghost use Rattle.gx_engine.specs.declared.checkpoint.Checkpoint.TheVariants.{Off, Running, Turning};
@@ -14,11 +14,11 @@ use crate::checkpoint::Checkpoint;
 use crate::heads::put_head;
 use crate::laws::a_class_is_lawful;
 use gx_disk::SectorDisk;
+use gx_durable::ReadKeys;
 use gx_events::Outcome;
 use gx_geom::Refusal;
 use gx_glog::Turn;
 use gx_index_laws::CHECKPOINT_AT;
-use gx_readings::ReadKeys;
 
 /// How far a checkpoint is after this call of its turn: over after the last one.
 fn after_call(call: Turn) -> Checkpoint

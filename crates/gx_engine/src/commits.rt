@@ -10,9 +10,9 @@ use crate::Engine;
 use crate::laws::a_class_is_lawful;
 use crate::refusals::log_need;
 use gx_disk::SectorDisk;
+use gx_durable::ReadKeys;
 use gx_events::{Need, Outcome};
 use gx_machine::Reply;
-use gx_readings::ReadKeys;
 
 /// The answer of a commit whose number is durable; another one waits for the log, by whether a checkpoint runs.
 fn commit_outcome<B>(running: bool, number: Option<u64>) -> Outcome<B>

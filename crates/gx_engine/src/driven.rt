@@ -9,10 +9,10 @@ use crate::engine::Engine;
 use crate::laws::a_class_is_lawful;
 use gx_class::Probing;
 use gx_disk::SectorDisk;
+use gx_durable::ReadKeys;
 use gx_events::{Driver, Event, Next};
 use gx_index_laws::measures::what_a_call_has_left_is_bounded;
 use gx_machine::Reply;
-use gx_readings::ReadKeys;
 
 /// How many events are made in a row at most, for one call or of one kind: 2^56.
 pub const EVENTS: u64 = 1 << 56;

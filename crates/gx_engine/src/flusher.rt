@@ -7,10 +7,10 @@ ghost use Rattle.gx_engine.specs.Setting.{Between, SparesAs};
 use crate::Engine;
 use crate::laws::a_class_is_lawful;
 use gx_disk::SectorDisk;
+use gx_durable::ReadKeys;
 use gx_events::Outcome;
 use gx_geom::Refusal;
 use gx_glog::Stage;
-use gx_readings::ReadKeys;
 
 impl<D: SectorDisk, K: ReadKeys> Engine<D, K> {
     // What is noted of a log's call: with a batch's first one, the last commit that is in it; with its gate's sync,

@@ -3,10 +3,10 @@ ghost use Rattle.std.specs.Prelude.{◌≤◌, ℕ, Bool, List};
 ghost use Rattle.gx_machine.specs.declared.entry.Entry.{Entry};
 ghost use Rattle.gx_page.specs.Contents.{Contents};
 ghost use Rattle.gx_node.specs.Reading.{Format};
-ghost use Rattle.gx_engine_laws.specs.Events as laws;
+ghost use Rattle.gx_events.specs.Events as laws;
 ghost use Rattle.gx_events.specs.declared.event.Event.{Event};
 ghost use Rattle.gx_events.specs.declared.outcome.Outcome.{Outcome};
-ghost use Rattle.gx_events.specs.Engines.{AreOf, Leads};
+ghost use Rattle.gx_events.specs.Steps.{AreOf, Leads};
 ghost use Rattle.gx_recovery.specs.Analysis.{analysis};
 ghost use Rattle.gx_recovery.specs.Damage.{IsLog};
 ghost use Rattle.gx_recovery.specs.Known.{Limits};
@@ -15,7 +15,7 @@ ghost use Rattle.gx_index_laws.specs.Classes.{Class, IsLawful, Page, known_of};
 ghost use Rattle.gx_index_laws.specs.Happening.{AreHappening};
 ghost use Rattle.gx_index_laws.specs.States.{State, engine_of};
 ghost use Rattle.gx_index_laws.specs.Whole.{IsWhole};
-ghost use Rattle.gx_readings.specs.Classes.{class_of, reading_of};
+ghost use Rattle.gx_durable.specs.Classes.{class_of, reading_of};
 ghost use Rattle.gx_engine.specs.Holds.{Holds};
 ghost use Rattle.gx_engine.specs.Losing.{AreCutOff};
 ghost use Rattle.gx_engine.specs.Running.{AreSteps, Ran};
@@ -24,7 +24,7 @@ ghost use Rattle.gx_engine.specs.States.{Parts};
 pub mod progress;
 
 use gx_disk::SectorDisk;
-use gx_readings::ReadKeys;
+use gx_durable::ReadKeys;
 
 /// Where a node may have four entries, a class of keys is as the laws of the whole index want it.
 pub fn a_class_is_lawful<K: ReadKeys>()

@@ -21,11 +21,11 @@ use crate::laws::a_class_is_lawful;
 use crate::work::Work;
 use gx_class::Probing;
 use gx_disk::SectorDisk;
+use gx_durable::ReadKeys;
 use gx_events::Outcome;
 use gx_geom::{Refusal, Shape};
-use gx_readings::ReadKeys;
 use gx_storage::laws::a_volume_shows_the_logs_tree;
-use gx_tree::{Look, StepFault, TraversalItem, Wanted};
+use gx_tree::{Look, LookFault, StepFault, TraversalItem, Wanted};
 use std::alloc::AllocError;
 
 /// What a call is at where its look was refused a page: the look, or nothing where that hadn't begun.
@@ -85,12 +85,12 @@ impl<D: SectorDisk, K: ReadKeys + Probing> Engine<D, K> {
         let mut look = look;
         match self.storage.look_step(wanted, &mut look) {
             Ok(()) => Ok(look),
-            Err(StepFault::Memory) => Err(self.close(session, Refusal::Memory)),
-            Err(StepFault::Pages(fault)) => {
+            Err(LookFault::Memory) => Err(self.close(session, Refusal::Memory)),
+            Err(LookFault::Step(StepFault::Pages(fault))) => {
                 self.sessions.replace_work(session, held_work(begun, look));
                 Err(self.refuse(fault))
             }
-            Err(StepFault::Damaged | StepFault::PagesFull) => {
+            Err(LookFault::Step(StepFault::Damaged)) => {
                 self.sessions.replace_work(session, held_work(begun, look));
                 Err(self.break_off(Refusal::Damaged))
             }

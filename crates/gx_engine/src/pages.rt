@@ -13,10 +13,10 @@ ghost use Rattle.gx_engine.specs.Setting.{BringComesAs, BringPageComesAs, IsLent
 use crate::Engine;
 use crate::laws::a_class_is_lawful;
 use gx_disk::SectorDisk;
+use gx_durable::ReadKeys;
 use gx_events::{Need, Outcome};
 use gx_geom::Refusal;
 use gx_page::Page;
-use gx_readings::ReadKeys;
 
 /// Why a page isn't lent, as an event says it.
 #[derive(Clone, Copy, Debug, PartialEq, Eq)]

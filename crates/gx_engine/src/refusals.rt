@@ -8,10 +8,10 @@ ghost use Rattle.gx_engine.specs.Setting.{phase_in};
 
 use crate::Engine;
 use gx_disk::SectorDisk;
+use gx_durable::ReadKeys;
 use gx_events::{Need, Outcome};
 use gx_geom::Refusal;
 use gx_machine::Reply;
-use gx_readings::ReadKeys;
 use gx_storage::Help;
 use gx_store::StoreFault;
 

@@ -8,9 +8,9 @@ use crate::driven::EVENTS;
 use crate::engine::Engine;
 use gx_class::Probing;
 use gx_disk::SectorDisk;
+use gx_durable::ReadKeys;
 use gx_events::{Event, Outcome};
 use gx_geom::Refusal;
-use gx_readings::ReadKeys;
 
 /// Makes an event over and over, until there is nothing to do (`Ok`) or it is refused (`Err`, with why). None where
 /// there was still more to do after `EVENTS` events, which of steps of the log or of a checkpoint never comes. It

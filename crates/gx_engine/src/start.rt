@@ -1,5 +1,5 @@
 //! An engine's start over a device, from what was found there.
-ghost use Rattle.std.specs.Prelude.{◌≡◌, ◌≤◌, ◌<◌, ◌+◌, ◌*◌, ◌-◌, length, IfOk, IfErr};
+ghost use Rattle.std.specs.Prelude.{◌≡◌, ◌≤◌, ◌<◌, ◌+◌, ◌*◌, ◌-◌, length, replicate, false, IfOk, IfErr};
 ghost use Rattle.gx_node.specs.declared.items.TheConstants.{MAX_ENTRIES};
 ghost use Rattle.gx_pool.specs.declared.frames.TheConstants.{FRAMES};
 ghost use Rattle.gx_machine.specs.Keys.{keys_of};
@@ -15,12 +15,12 @@ use crate::losers::{Loser, hold_losers};
 use crate::work::Work;
 use gx_class::KeyClass;
 use gx_disk::SectorDisk;
+use gx_durable::ReadKeys;
 use gx_geom::{Refusal, Shape};
 use gx_glog::{Extent, Glog};
 use gx_node::MAX_ENTRIES;
 use gx_phases::Sessions;
 use gx_pool::Pool;
-use gx_readings::ReadKeys;
 use gx_storage::Storage;
 use gx_store::{NodeTest, PageStore};
 use std::alloc::{AllocError, Global};
@@ -64,6 +64,7 @@ pub struct NotOpened<D> {
 struct Room<K: KeyClass> {
     pool: Pool<NodeTest<K>>,
     key: Vec<u8>,
+    imaged: Vec<bool>,
     keys: Vec<K::Key>,
 }
 
@@ -72,6 +73,13 @@ fn key_room(alloc: Global, size: usize) -> Result<Vec<u8>, AllocError>
     ensures { IfOk result (λ bytes. length bytes.items ≡ size) }
 {
     vec![in alloc; 0; size]
+}
+
+/// A bit for each of so many pages, none of them set.
+fn imaged_room(alloc: Global, pages: u32) -> Result<Vec<bool>, AllocError>
+    ensures { IfOk result (λ imaged. imaged.items ≡ replicate pages false) }
+{
+    vec![in alloc; false; pages as usize]
 }
 
 /// Room for the keys of a node that is split.
@@ -96,7 +104,7 @@ fn frames<K: KeyClass>(
     Ok(pool)
 }
 
-/// Takes the memory for pages and keys.
+/// Takes the memory for pages, their bits, and keys.
 fn take_room<K: KeyClass>(
     alloc: Global,
     count: usize,
@@ -106,11 +114,13 @@ fn take_room<K: KeyClass>(
     requires few { count ≤ FRAMES }
     ensures pool { IfOk result (λ room. AreFresh count batch room.pool.frames × (room.pool.test.pages ≡ pages)) }
     ensures key { IfOk result (λ room. length room.key.items ≡ K.KEY) }
+    ensures imaged { IfOk result (λ room. room.imaged.items ≡ replicate pages false) }
     ensures keys { IfOk result (λ room. MAX_ENTRIES ≤ length room.keys.items) }
 {
     Ok(Room {
         pool: frames(alloc, count, pages, batch)?,
         key: key_room(alloc, K::KEY)?,
+        imaged: imaged_room(alloc, pages)?,
         keys: keys_room::<K>(alloc)?,
     })
 }
@@ -147,14 +157,20 @@ impl<D: SectorDisk, K: ReadKeys> Engine<D, K> {
         requires pool { AreFresh start.now.frames (start.now.bodies - 1) room.pool.frames
             × (room.pool.test.pages ≡ start.now.pages) }
         requires key { length room.key.items ≡ K.KEY }
+        requires imaged { room.imaged.items ≡ replicate start.now.pages false }
         requires keys { MAX_ENTRIES ≤ length room.keys.items }
         requires sessions { TakenUp (keys_of K.Key.Shape) start.now sessions }
         ensures { Started (keys_of K.Key.Shape) start.now disk result }
     {
-        let Room { pool, key, keys } = room;
+        let Room {
+            pool,
+            key,
+            imaged,
+            keys,
+        } = room;
         let store = PageStore::new(disk, pool, start.used, start.counter, start.pages);
         let mut engine = Engine::new(
-            Storage::new(log, store, usize::from(start.fanout), key),
+            Storage::new(log, store, usize::from(start.fanout), key, imaged),
             sessions,
             keys,
             alloc,

@@ -14,11 +14,11 @@ use crate::laws::a_class_is_lawful;
 use crate::work::Work;
 use gx_class::Probing;
 use gx_disk::SectorDisk;
+use gx_durable::ReadKeys;
 use gx_events::{Event, Outcome};
 use gx_geom::{Refusal, Shape};
 use gx_machine::{Call, Reply};
 use gx_phases::Phase;
-use gx_readings::ReadKeys;
 
 /// Whether there is a session of this number.
 fn is_session(session: u8) -> bool

@@ -10,9 +10,10 @@ ghost use Rattle.gx_engine.specs.Setting.{LeadsAs, SweepComesAs, SweepsPageAs, m
 use crate::Engine;
 use crate::laws::a_class_is_lawful;
 use gx_disk::SectorDisk;
+use gx_durable::ReadKeys;
 use gx_events::{Need, Outcome};
 use gx_geom::Refusal;
-use gx_readings::ReadKeys;
+use gx_node::laws::small_removals;
 use gx_tree::StepFault;
 
 impl<D: SectorDisk, K: ReadKeys> Engine<D, K> {
@@ -46,8 +47,10 @@ impl<D: SectorDisk, K: ReadKeys> Engine<D, K> {
         ensures device { IsRead D.state self.old self.new }
     {
         a_class_is_lawful::<K>();
+        small_removals::<K>();
         self.sessions.stands();
         self.storage.most();
+        self.storage.in_order();
         let sessions = &self.sessions;
         match self
             .storage
@@ -56,9 +59,7 @@ impl<D: SectorDisk, K: ReadKeys> Engine<D, K> {
             Ok(true) => Outcome::More,
             Ok(false) => Outcome::Nothing,
             Err(StepFault::Pages(fault)) => self.turn_away(fault),
-            Err(StepFault::Damaged | StepFault::Memory | StepFault::PagesFull) => {
-                self.fail_event(Refusal::Damaged)
-            }
+            Err(StepFault::Damaged) => self.fail_event(Refusal::Damaged),
         }
     }
 
@@ -80,7 +81,7 @@ impl<D: SectorDisk, K: ReadKeys> Engine<D, K> {
         self.take_out(page)
     }
 
-    /// Takes the marked pairs that no session claims out of the leaf on a page, and logs the page: `More`. `Nothing`
+    /// Takes the marked pairs that no session claims out of the leaf on a page, and logs that: `More`. `Nothing`
     /// where no such page is in use, before any is brought; or it isn't a leaf, or has no such pair.
     ///
     /// `Help` where the page couldn't be brought, or something is to be taken and a checkpoint is due, or the log has

@@ -12,14 +12,15 @@ use crate::laws::a_class_is_lawful;
 use crate::work::Work;
 use gx_class::Probing;
 use gx_disk::SectorDisk;
+use gx_durable::ReadKeys;
 use gx_events::{Need, Outcome};
 use gx_geom::{Refusal, Shape};
 use gx_machine::Reply;
+use gx_node::laws::{leaves, small_marks};
 use gx_phases::Phase;
-use gx_readings::ReadKeys;
 use gx_storage::laws::{a_volume_shows_keys, a_volume_shows_the_logs_tree};
 use gx_store::StoreFault;
-use gx_tree::{Sought, StepFault, Wanted};
+use gx_tree::{Sought, StepFault};
 use gx_txn::Note;
 
 /// The leaf that an undo seeks its next note's pair in: where that hasn't begun, the one where the transaction last
@@ -73,10 +74,9 @@ impl<D: SectorDisk, K: ReadKeys + Probing> Engine<D, K> {
             (transaction_of session self.old.sessions) note.now leaf result }
         ensures only { self.new ≡ record self.old { volume = self.new.volume } }
     {
-        let wanted = Wanted::<K>::entry(&note.entry);
         let transaction = self.sessions.transaction(session);
         self.storage
-            .set_mark(transaction, &wanted, leaf, &note.entry, note.before)
+            .set_mark(transaction, leaf, &note.entry, note.before)
     }
 
     // What is noted of a seek of the next note's pair: it was in this leaf, and the note is restored; or it is sought
@@ -115,15 +115,15 @@ impl<D: SectorDisk, K: ReadKeys + Probing> Engine<D, K> {
         a_class_is_lawful::<K>();
         a_volume_shows_the_logs_tree::<D, K>();
         a_volume_shows_keys::<D, K>();
+        leaves::<K>();
+        small_marks::<K>(self.storage.most());
         K::known(&note.entry.key);
         self.sessions.stands();
         self.storage.in_order();
         match self.set_noted(session, &note, leaf) {
             Ok(sought) => self.note_sought(session, leaf, sought),
             Err(StepFault::Pages(fault)) => self.refuse(fault),
-            Err(StepFault::Memory | StepFault::Damaged | StepFault::PagesFull) => self.break_off(
-                Refusal::Damaged,
-            ),
+            Err(StepFault::Damaged) => self.break_off(Refusal::Damaged),
         }
     }
 

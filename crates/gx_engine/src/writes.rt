@@ -16,11 +16,11 @@ use crate::Engine;
 use crate::work::Work;
 use gx_class::Probing;
 use gx_disk::SectorDisk;
+use gx_durable::ReadKeys;
 use gx_events::Outcome;
 use gx_geom::{Refusal, Shape};
 use gx_machine::Entry;
 use gx_phases::Phase;
-use gx_readings::ReadKeys;
 
 impl<D: SectorDisk, K: ReadKeys + Probing> Engine<D, K> {
     /// A move of a session's insert, which is open. It looks for its pair, a page a move; where that stands, it seeks

@@ -8,9 +8,9 @@ use Rattle.gx_machine.proofs.SetsByTests.{set_of_a_test_that_agrees}
 use Rattle.gx_disk.specs.Device.{Device, MayLeave}
 use Rattle.gx_disk.specs.Moments.{Leaves}
 use Rattle.gx_node.specs.Reading.{Format, is_node}
-use Rattle.gx_engine_laws.specs.Engines as engines
-use Rattle.gx_engine_laws.specs.Engines.{SeenAs}
-use Rattle.gx_engine_laws.proofs.Faults.{kept_set}
+use Rattle.gx_events.specs.Engines as engines
+use Rattle.gx_events.specs.Engines.{SeenAs}
+use Rattle.gx_events.proofs.Faults.{kept_set}
 use Rattle.gx_recovery.specs.Analysis.{number_of}
 use Rattle.gx_recovery.specs.Damage.{records_of}
 use Rattle.gx_recovery.specs.Known.{Limits}
@@ -23,8 +23,8 @@ use Rattle.gx_durable.specs.Area.{area_of}
 use Rattle.gx_durable.specs.Spelled.{Reading}
 use Rattle.gx_durable.specs.Standing.{Stands}
 use Rattle.gx_durable.proofs.Crashes.{crash_leaves}
-use Rattle.gx_readings.specs.Classes.{class_of, reading_of}
-use Rattle.gx_readings.proofs.Used.{known_lawful}
+use Rattle.gx_durable.specs.Classes.{class_of, reading_of}
+use Rattle.gx_durable.proofs.Used.{known_lawful}
 use Rattle.gx_events.specs.declared.event.Event.{Event}
 use Rattle.gx_events.specs.declared.outcome.Outcome.{Outcome}
 use Rattle.gx_engine.specs.States.{Parts}

@@ -9,7 +9,7 @@ use Rattle.gx_disk.proofs.Leaving.{nothing_leaves}
 use Rattle.gx_node.specs.Reading.{format_of}
 use Rattle.gx_recovery.specs.Known.{Limits}
 use Rattle.gx_index_laws.specs.Classes.{IsLawful}
-use Rattle.gx_readings.specs.Classes.{class_of, reading_of}
+use Rattle.gx_durable.specs.Classes.{class_of, reading_of}
 use Rattle.gx_events.specs.declared.event.Event.{Event}
 use Rattle.gx_events.specs.declared.outcome.Outcome.{Outcome}
 use Rattle.gx_events.specs.declared.outcome.Outcome.TheVariants.{Replied}

@@ -10,9 +10,9 @@ use Rattle.gx_disk.specs.Device.{Device, IsSettled}
 use Rattle.gx_page.specs.Format.{IsWellFormed}
 use Rattle.gx_node.specs.Laws.{HeldPairsAreRead, HeldChildrenAreRead}
 use Rattle.gx_node.specs.Reading.{Format, is_node}
-use Rattle.gx_tree_laws.specs.Trees.{fresh_tree}
-use Rattle.gx_tree_laws.proofs.Fresh.{fresh_legal}
-use Rattle.gx_engine_laws.specs.Engines.{SeenAs}
+use Rattle.gx_node.specs.Trees.{fresh_tree}
+use Rattle.gx_node.proofs.Fresh.{fresh_legal}
+use Rattle.gx_events.specs.Engines.{SeenAs}
 use Rattle.gx_pool.specs.Area.{bytes_of}
 use Rattle.gx_pool.specs.State.{State, IsEmpty, Kept, kept, stamp_of}
 use Rattle.gx_recovery.specs.Known.{Known, Limits}
@@ -35,8 +35,8 @@ use Rattle.gx_durable.specs.Spelled.{Reading}
 use Rattle.gx_durable.specs.Standing.{Up}
 use Rattle.gx_durable.specs.Stored.{bytes_by, stored}
 use Rattle.gx_durable.proofs.Beginning.{first_up}
-use Rattle.gx_readings.specs.Classes.{class_of, reading_of}
-use Rattle.gx_readings.proofs.Used.{reads_used}
+use Rattle.gx_durable.specs.Classes.{class_of, reading_of}
+use Rattle.gx_durable.proofs.Used.{reads_used}
 use Rattle.gx_phases.specs.declared.phase.Phase.{Phase}
 use Rattle.gx_phases.specs.declared.phase.Phase.TheVariants.{Free}
 use Rattle.gx_phases.specs.Indexes.{AreOf}
@@ -44,6 +44,7 @@ use Rattle.gx_phases.specs.States as phases
 use Rattle.gx_phases.specs.States.{fresh_state, held_at, phase_at}
 use Rattle.gx_storage.specs.Keeps.{Keeps}
 use Rattle.gx_storage.specs.State.{Volume}
+use Rattle.gx_storage.proofs.Imaging.{nothing_imaged}
 use Rattle.gx_store.specs.State.{Shelf}
 use Rattle.gx_glog.specs.State.{Log}
 use Rattle.gx_format.specs.Fresh.{fresh_root, IsFresh}
@@ -155,6 +156,7 @@ module _ {B D : Type 0} (shape : Members B) (proper : B → Bool) (IsKey : B →
     counter = refl;
     pages = refl;
     formed = λ page x is. absurd (none_kept page x is);
+    imaged = nothing_imaged p.pages i.log;
   }
 
   whole : IsWhole c i
@@ -213,10 +215,10 @@ run_sectors state (call ∷ calls) a b run = run_sectors state calls run.0 b run
 pub over_new : {B D : Type 0} (pages most count wide : ℕ) (frames : State) (disk : D) (glog : Log) (sessions : phases.State B (Work B)) (shelf : Shelf D) (volume : Volume D) (e : Parts B D)
     → IsEmpty count frames → glog ≡ first_glog → sessions ≡ fresh_state (Work B) 0 0 1
     → shelf ≡ record { disk = disk; frames = frames; used = 2; counter = 0; pages = pages; batch = 0; has_room = false } → wide ≡ most
-    → volume ≡ record { log = glog; shelf = shelf; most = wide } → e ≡ record { volume = volume; sessions = sessions; in_flight = sessions.durable; checkpoint = Off }
+    → volume ≡ record { log = glog; shelf = shelf; most = wide; imaged = replicate shelf.pages false } → e ≡ record { volume = volume; sessions = sessions; in_flight = sessions.durable; checkpoint = Off }
     → (e ≡ new_parts pages most frames disk) × IsNew pages most count e
 over_new {B} {D} pages most count wide frames disk glog sessions shelf volume e empty is_log is_sessions is_shelf is_wide is_volume is_e =
-    let of : Log → Shelf D → ℕ → Volume D = λ a b n. record { log = a; shelf = b; most = n } in
+    let of : Log → Shelf D → ℕ → Volume D = λ a b n. record { log = a; shelf = b; most = n; imaged = replicate b.pages false } in
     let on : Volume D → phases.State B (Work B) → Parts B D = λ v x. record { volume = v; sessions = x; in_flight = x.durable; checkpoint = Off } in
     let whole : volume ≡ (new_parts {B = B} pages most frames disk).volume = is_volume ∙ (λ t. of (is_log t) (is_shelf t) (is_wide t)) in
     let is : e ≡ new_parts pages most frames disk = is_e ∙ (λ t. on (whole t) (is_sessions t)) in

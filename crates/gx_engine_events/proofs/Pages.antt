@@ -7,7 +7,7 @@ use Rattle.gx_page.specs.Contents.{Contents}
 use Rattle.gx_page.specs.Edits.{blank}
 use Rattle.gx_page.specs.Format.{IsItem, IsWellFormed}
 use Rattle.gx_page.proofs.Images.{made}
-use Rattle.gx_tree_laws.specs.Trees.{Child, fresh_node}
+use Rattle.gx_node.specs.Trees.{Child, fresh_node}
 use Rattle.gx_node.specs.Entries.{HoldsNode, IsChild, IsPair}
 use Rattle.gx_node.specs.Laws.{HeldPairsAreRead, HeldChildrenAreRead}
 use Rattle.gx_node.specs.Reading.{Format, is_node}
@@ -18,8 +18,8 @@ use Rattle.gx_store.specs.Faults.{is_taken}
 use Rattle.gx_index_laws.specs.Classes.{Page}
 use Rattle.gx_index_laws.specs.States.{fresh_page}
 use Rattle.gx_durable.specs.Area.{area_of}
-use Rattle.gx_readings.specs.Classes.{page_of, reading_of}
-use Rattle.gx_readings.proofs.Nodes.{node_is}
+use Rattle.gx_durable.specs.Classes.{page_of, reading_of}
+use Rattle.gx_durable.proofs.Nodes.{node_is}
 use Rattle.gx_format.specs.Fresh.{fresh_root, IsLaid}
 use Rattle.gx_glog.specs.declared.parameters.Parameters.{Parameters}
 

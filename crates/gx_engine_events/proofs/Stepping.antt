@@ -6,13 +6,13 @@ use Rattle.gx_machine.specs.Machine.{Machine}
 use Rattle.gx_disk.specs.Device.{Device}
 use Rattle.gx_node.specs.Reading.{Format, is_node}
 use Rattle.gx_durable.specs.Head.{head_in}
-use Rattle.gx_engine_laws.specs.Engines.{SeenAs}
+use Rattle.gx_events.specs.Engines.{SeenAs}
 use Rattle.gx_recovery.specs.Known.{Limits}
 use Rattle.gx_recovery.specs.Records.{Record}
 use Rattle.gx_index_laws.specs.Classes.{IsLawful, Page}
 use Rattle.gx_index_laws.specs.States as index
 use Rattle.gx_index_laws.specs.States.{engine_of}
-use Rattle.gx_readings.specs.Classes.{class_of, reading_of}
+use Rattle.gx_durable.specs.Classes.{class_of, reading_of}
 use Rattle.gx_events.specs.declared.event.Event.{Event}
 use Rattle.gx_events.specs.declared.outcome.Outcome.{Outcome}
 use Rattle.gx_events.specs.Happens.{Happens}

@@ -9,7 +9,7 @@ use Rattle.gx_machine.specs.Keys.{Members, keys_of}
 use Rattle.gx_machine.specs.Machine.{Machine}
 use Rattle.gx_disk.specs.Device.{Device, MayLeave}
 use Rattle.gx_node.specs.Reading.{Format}
-use Rattle.gx_readings.specs.Classes.{reading_of}
+use Rattle.gx_durable.specs.Classes.{reading_of}
 use Rattle.gx_events.specs.Replay.{ReplaysAs}
 use Rattle.gx_engine.specs.States.{Parts}
 use Rattle.gx_shared.specs.Books.{StartsAt}

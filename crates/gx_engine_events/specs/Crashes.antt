@@ -14,7 +14,7 @@ use Rattle.gx_index_laws.specs.Openings.{IsKeptBy}
 use Rattle.gx_durable.specs.Area.{area_of}
 use Rattle.gx_durable.specs.Bodies.{AreBodies}
 use Rattle.gx_durable.specs.Spelled.{Reading}
-use Rattle.gx_readings.specs.Classes.{reading_of}
+use Rattle.gx_durable.specs.Classes.{reading_of}
 use Rattle.gx_engine.specs.States.{Parts}
 use Rattle.gx_engine_events.specs.Seen.{class_in}
 

@@ -1,5 +1,5 @@
 -- A new index on a device, with an engine that begins on it.
-use Rattle.std.specs.Prelude.{ℕ, ◌≡◌, ◌⊎◌, ◌≤◌, false, Err}
+use Rattle.std.specs.Prelude.{ℕ, ◌≡◌, ◌⊎◌, ◌≤◌, false, Err, replicate}
 use Rattle.gx_geom.specs.declared.refusal.Refusal.{Refusal}
 use Rattle.gx_geom.specs.declared.refusal.Refusal.TheVariants.{BadParameter, Memory}
 use Rattle.gx_page.specs.Contents.{Contents}
@@ -14,14 +14,15 @@ use Rattle.gx_engine.specs.declared.checkpoint.Checkpoint.TheVariants.{Off}
 use Rattle.gx_engine.specs.declared.work.Work.{Work}
 use Rattle.gx_engine.specs.States.{Parts}
 
--- An engine over a device with a new index: its log goes on behind the first batch, which is gated; pages 1 and 2 are taken, and none is in
--- a frame; no session has a transaction, nothing is committed, and no checkpoint runs.
+-- An engine over a device with a new index: its log goes on behind the first batch, which is gated and has no image; pages 1 and 2 are
+-- taken, and none is in a frame; no session has a transaction, nothing is committed, and no checkpoint runs.
 abbrev pub new_parts : {B D : Type 0} → (pages most : ℕ) → State → D → Parts B D
 new_parts {B} pages most frames disk = record {
   volume = record {
     log = first_glog;
     shelf = record { disk = disk; frames = frames; used = 2; counter = 0; pages = pages; batch = 0; has_room = false };
     most = most;
+    imaged = replicate pages false;
   };
   sessions = fresh_state (Work B) 0 0 1;
   in_flight = 0;

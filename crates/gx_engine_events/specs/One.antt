@@ -14,8 +14,8 @@ use Rattle.gx_recovery.specs.Damage.{records_of}
 use Rattle.gx_recovery.specs.Known.{Known}
 use Rattle.gx_recovery.specs.Logged.{Logged, kept, latest}
 use Rattle.gx_recovery.specs.Records.{Record}
-use Rattle.gx_engine_laws.specs.Engines.{Engine, SeenAs}
-use Rattle.gx_engine_laws.proofs.Views.{one_machine}
+use Rattle.gx_events.specs.Engines.{Engine, SeenAs}
+use Rattle.gx_events.proofs.Views.{one_machine}
 use Rattle.gx_index_laws.specs.Classes.{Class, Page, is_live, known_of}
 use Rattle.gx_index_laws.specs.States as index
 use Rattle.gx_index_laws.specs.States.{engine_of, tree_after}

@@ -1,5 +1,5 @@
 //! A device is formatted, and an engine begins on it.
-ghost use Rattle.std.specs.Prelude.{◌≡◌, ◌⊎◌, ◌≤◌, ◌↔◌, length, true, IfOk, IfErr, IsTrue};
+ghost use Rattle.std.specs.Prelude.{◌≡◌, ◌⊎◌, ◌≤◌, ◌↔◌, length, replicate, true, false, IfOk, IfErr, IsTrue};
 ghost use Rattle.gx_machine.specs.Machine.{fresh_machine};
 ghost use Rattle.gx_disk.specs.Device.{IsSettled};
 ghost use Rattle.gx_page.specs.Format.{IsWellFormed};
@@ -17,6 +17,7 @@ ghost use Rattle.gx_engine_events.specs.New.{IsFrames, IsNew, WhyNone, new_parts
 use crate::engine::EngineEvents;
 use gx_class::KeyClass;
 use gx_disk::SectorDisk;
+use gx_durable::ReadKeys;
 use gx_engine::laws::a_class_is_lawful;
 use gx_engine::{Engine, NotOpened, Work};
 use gx_format::format;
@@ -26,7 +27,6 @@ use gx_node::MAX_ENTRIES;
 use gx_node::laws::{inners, leaves};
 use gx_phases::Sessions;
 use gx_pool::{FRAMES, Pool};
-use gx_readings::ReadKeys;
 use gx_storage::Storage;
 use gx_store::laws::a_store_starts;
 use gx_store::{NodeTest, PageStore};
@@ -46,6 +46,13 @@ fn key_room(alloc: Global, size: usize) -> Result<Vec<u8>, AllocError>
     vec![in alloc; 0; size]
 }
 
+// A bit for each of so many pages, none of them set.
+fn imaged_room(alloc: Global, pages: u32) -> Result<Vec<bool>, AllocError>
+    ensures { IfOk result (λ imaged. imaged.items ≡ replicate pages false) }
+{
+    vec![in alloc; false; pages as usize]
+}
+
 // Room for the keys of a node that is split.
 fn keys_room<K: KeyClass>(alloc: Global) -> Result<Vec<K::Key>, AllocError>
     ensures { IfOk result (λ keys. MAX_ENTRIES ≤ length keys.items) }
@@ -58,19 +65,22 @@ fn keys_room<K: KeyClass>(alloc: Global) -> Result<Vec<K::Key>, AllocError>
 struct Room<K: KeyClass> {
     pool: Pool<NodeTest<K>>,
     key: Vec<u8>,
+    imaged: Vec<bool>,
     keys: Vec<K::Key>,
 }
 
-// Takes the memory for pages and keys.
+// Takes the memory for pages, their bits, and keys.
 fn take_room<K: KeyClass>(alloc: Global, frames: usize, pages: u32) -> Result<Room<K>, AllocError>
     requires { IsFrames frames }
     ensures pool { IfOk result (λ room. IsEmpty frames room.pool.frames × (room.pool.test.pages ≡ pages)) }
     ensures key { IfOk result (λ room. length room.key.items ≡ K.KEY) }
+    ensures imaged { IfOk result (λ room. room.imaged.items ≡ replicate pages false) }
     ensures keys { IfOk result (λ room. MAX_ENTRIES ≤ length room.keys.items) }
 {
     Ok(Room {
         pool: Pool::with_capacity(alloc, frames, NodeTest::new(pages))?,
         key: key_room(alloc, K::KEY)?,
+        imaged: imaged_room(alloc, pages)?,
         keys: keys_room::<K>(alloc)?,
     })
 }
@@ -90,14 +100,20 @@ fn over<D: SectorDisk, K: ReadKeys>(
     requires log { log ≡ first_glog }
     requires pool { IsEmpty size.2 room.pool.frames × (room.pool.test.pages ≡ size.0) }
     requires key { length room.key.items ≡ K.KEY }
+    requires imaged { room.imaged.items ≡ replicate size.0 false }
     requires keys { MAX_ENTRIES ≤ length room.keys.items }
     requires sessions { sessions ≡ fresh_state (work.Work K.Key) 0 0 1 }
     ensures { (result ≡ new_parts size.0 size.1 room.pool.frames disk) × IsNew size.0 size.1 size.2 result }
 {
     a_store_starts::<D, K>();
-    let Room { pool, key, keys } = room;
+    let Room {
+        pool,
+        key,
+        imaged,
+        keys,
+    } = room;
     let store = PageStore::new(disk, pool, 2, 0, size.0);
-    let storage = Storage::new(log, store, usize::from(size.1), key);
+    let storage = Storage::new(log, store, usize::from(size.1), key, imaged);
     Engine::new(storage, sessions, keys, alloc)
 }
 

@@ -7,7 +7,7 @@ use crate::EngineEvents;
 use crate::laws::a_crash_leaves_a_set_of_the_machine;
 use gx_class::Probing;
 use gx_disk::SectorDisk;
-use gx_readings::ReadKeys;
+use gx_durable::ReadKeys;
 use gx_shared::{Book, Run};
 
 /// What a book over the engine keeps, whenever it is looked at, where devices of its kind keep what they are told:

@@ -3,10 +3,10 @@ ghost use Rattle.std.specs.Prelude.{◌≡◌};
 
 use gx_class::Probing;
 use gx_disk::SectorDisk;
+use gx_durable::ReadKeys;
 use gx_engine::Engine;
 use gx_engine::laws::a_class_is_lawful;
 use gx_events::{Event, Events, Outcome};
-use gx_readings::ReadKeys;
 use std::marker::Model;
 
 /// An engine over pages and a log that is run by events. Contracts see it as the engine's parts.
@@ -29,13 +29,13 @@ impl<D: SectorDisk, K: ReadKeys> EngineEvents<D, K> {
     ghost use Rattle.gx_machine.specs.Keys.{keys_of};
     ghost use Rattle.gx_machine.specs.Machine.{Machine};
     ghost use Rattle.gx_node.specs.Reading.{format_of};
-    ghost use Rattle.gx_engine_laws.specs.Engines.{SeenAs};
+    ghost use Rattle.gx_events.specs.Engines.{SeenAs};
     ghost use Rattle.gx_recovery.specs.Known.{Limits};
     ghost use Rattle.gx_recovery.specs.Records.{Record};
     ghost use Rattle.gx_index_laws.specs.Classes.{Page};
     ghost use Rattle.gx_index_laws.specs.States as index;
     ghost use Rattle.gx_index_laws.specs.States.{engine_of};
-    ghost use Rattle.gx_readings.specs.Classes.{class_of};
+    ghost use Rattle.gx_durable.specs.Classes.{class_of};
     ghost use Rattle.gx_engine.specs.Helping.{HoldsIndex};
     ghost use Rattle.gx_engine_events.specs.Seen.{Sees};
 

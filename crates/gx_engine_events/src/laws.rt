@@ -4,7 +4,7 @@ ghost use Rattle.gx_machine.specs.declared.item.Item.{Item};
 ghost use Rattle.gx_machine.specs.Machine.{Machine};
 ghost use Rattle.gx_disk.specs.Device.{MayLeave};
 ghost use Rattle.gx_node.specs.Reading.{format_of};
-ghost use Rattle.gx_readings.specs.Classes.{reading_of};
+ghost use Rattle.gx_durable.specs.Classes.{reading_of};
 ghost use Rattle.gx_events.specs.declared.event.Event as event;
 ghost use Rattle.gx_events.specs.declared.outcome.Outcome as outcome;
 ghost use Rattle.gx_machine.specs.Keys.{keys_of};
@@ -17,9 +17,9 @@ ghost use Rattle.gx_engine_events.specs.Seen.{Sees, class_in};
 use crate::EngineEvents;
 use gx_class::Probing;
 use gx_disk::{MemDisk, SectorDisk};
+use gx_durable::ReadKeys;
 use gx_engine::laws::a_class_is_lawful;
 use gx_events::Events;
-use gx_readings::ReadKeys;
 use gx_shared::{Book, Run};
 
 /// Whatever a crash may leave of the device of an engine that is seen as a machine stands for a set that this machine

@@ -1,8 +1,8 @@
 //! Keys that are drawn, of both classes.
 use gx_class::{Box2Class, IntervalClass, KeyClass, Probing};
+use gx_durable::ReadKeys;
 use gx_geom::{Box2, Interval};
 use gx_plain_reader::Key;
-use gx_readings::ReadKeys;
 use rand_core::utils::NextWord;
 use rand_pcg::Pcg32;
 

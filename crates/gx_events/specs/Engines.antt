@@ -1,89 +1,102 @@
--- Which events of an engine, as its laws have them, an event with its outcome is.
-use Rattle.std.specs.Prelude.{ℕ, ◌≡◌, ◌⊎◌, Bool, true, false, List, [], ◌∷◌}
-use Rattle.gx_geom.specs.declared.refusal.Refusal.TheVariants as refusal
-use Rattle.gx_machine.specs.declared.call.Call.{Call}
-use Rattle.gx_machine.specs.declared.reply.Reply.{Reply}
-use Rattle.gx_machine.specs.declared.reply.Reply.TheVariants as reply
-use Rattle.gx_machine.specs.declared.reply.Asked.TheVariants as asked
+-- What decides an engine's answers, and the set machine that it is seen as.
+use Rattle.std.specs.Prelude.{ℕ, ◌≡◌, ◌≢◌, ◌+◌, ◌-◌, Bool, false, not, nat_lt, if◌then◌else◌, None, Some, length, map, filter, unwrap_or, replicate, All, List, []}
+use Rattle.std.specs.List.{slice_index_or}
+use Rattle.gx_machine.specs.declared.limits.TheConstants.{SESSIONS}
+use Rattle.gx_machine.specs.declared.entry.Entry.{Entry}
 use Rattle.gx_machine.specs.Keys.{Keys}
-use Rattle.gx_machine.specs.Machine.{Machine, is_session}
-use Rattle.gx_engine_laws.specs.Slots.{is_unanswered, slot_at}
-use Rattle.gx_engine_laws.specs.Engines.{Engine, SeenAs}
-use Rattle.gx_engine_laws.specs.Events as laws
-use Rattle.gx_events.specs.declared.event.Event.{Event}
-use Rattle.gx_events.specs.declared.event.Event.TheVariants.{Ask, Move, LogStep, WritePage, CheckpointStep, Sweep}
-use Rattle.gx_events.specs.declared.outcome.Outcome.{Outcome}
-use Rattle.gx_events.specs.declared.outcome.Outcome.TheVariants.{Replied, More, Help, Nothing, Refused}
-use Rattle.gx_events.specs.Happens.{Happens, may_lack}
+use Rattle.gx_machine.specs.Sets.{has, including_all, InOrder, IsSetOf}
+use Rattle.gx_machine.specs.Sessions.{Session, Idle, Open, Aborting, Committing, Changes}
+use Rattle.gx_machine.specs.Machine.{Machine}
+use Rattle.gx_machine.specs.Invariants.{Apart, Covered, HoldsFor}
+use Rattle.gx_events.specs.Slots.{Note, Slot, Free, Working, Undoing, Waiting, locks_held, slot_at, entries_of, noted_in}
 
--- An ask is given a reply at once, or is open; or it is refused, since a fault had ended the engine, or since a Begin finds the numbers
--- used up.
-abbrev pub IsAsk : {B : Type 0} → ℕ → Call B → Bool → Outcome B → List (laws.Event B) → Type 0
-IsAsk s call failed (Replied r) events =
-    (events ≡ laws.Asks s call (asked.Now r) ∷ [])
-    ⊎ (((failed ≡ true) × (r ≡ reply.Refused refusal.Failed) × (events ≡ laws.RefusesAsk s call refusal.Failed ∷ []))
-    ⊎ ((r ≡ reply.Refused refusal.HistoryFull) × (events ≡ laws.RefusesAsk s call refusal.HistoryFull ∷ [])))
-IsAsk s call failed More events = events ≡ laws.Asks s call asked.Open ∷ []
-IsAsk s call failed other events = ⊥
+-- What decides: which entries are live in the tree; the eight slots; the kept sets but the last, oldest first, and the
+-- number of the oldest; whether a fault has made it fail.
+pub record Engine (B : Type 0) : Type 0 where
+  pub live : Entry B → Bool
+  pub slots : List (Slot B)
+  pub older : List (List (Entry B))
+  pub oldest : ℕ
+  pub failed : Bool
 
--- the end of a session's call, with this reply; or it meets a fault
-abbrev pub IsEnd : {B : Type 0} → ℕ → Bool → Reply B → laws.Event B → Type 0
-IsEnd s failed r (laws.Inserts t e) = (t ≡ s) × (r ≡ reply.Inserted)
-IsEnd s failed r (laws.Deletes t e) = (t ≡ s) × (r ≡ reply.Deleted)
-IsEnd s failed r (laws.FindsPresent t e) = (t ≡ s) × (r ≡ reply.Refused refusal.Present)
-IsEnd s failed r (laws.FindsAbsent t e) = (t ≡ s) × (r ≡ reply.Refused refusal.Absent)
-IsEnd s failed r (laws.Finds t query entries) = (t ≡ s) × (r ≡ reply.Found entries)
-IsEnd s failed r (laws.Closes t call why) = (t ≡ s) × (r ≡ reply.Refused why) × (may_lack why call ≡ true)
-IsEnd s failed r (laws.Acknowledges t number) = (t ≡ s) × (r ≡ reply.Committed number)
-IsEnd s failed r (laws.EndsUndo t) = (t ≡ s) × (r ≡ reply.Aborted)
-IsEnd s failed r (laws.RefusesCall t why) = (t ≡ s) × (r ≡ reply.Refused why) × (why ≡ refusal.Failed → failed ≡ true)
-IsEnd s failed r other = ⊥
+-- an engine over these entries, which are the committed set of this number: no session has a transaction
+abbrev pub opened_engine : {B : Type 0} → Keys B → ℕ → List (Entry B) → Engine B
+opened_engine k number set = record {
+  live = λ e. has k e set;
+  slots = replicate SESSIONS Free;
+  older = [];
+  oldest = number;
+  failed = false;
+}
 
--- a call goes on: its commit is sealed, an entry is undone, or nothing that decides changes
-abbrev pub GoesOn : {B : Type 0} → ℕ → laws.Event B → Type 0
-GoesOn s (laws.Seals t set number) = t ≡ s
-GoesOn s (laws.Undoes t e) = t ≡ s
-GoesOn s laws.Works = Unit {0}
-GoesOn s other = ⊥
+-- the machine with this one set and idle sessions
+abbrev pub opened_machine : {B : Type 0} → ℕ → List (Entry B) → Machine B
+opened_machine number set = record { older = []; latest = set; oldest = number; sessions = replicate SESSIONS Idle; failed = false }
 
--- just this event; or this one after work that decides nothing
-abbrev pub IsJust : {B : Type 0} → laws.Event B → List (laws.Event B) → Type 0
-IsJust event events = (events ≡ event ∷ []) ⊎ (events ≡ laws.Works ∷ event ∷ [])
+-- the number of the last committed set
+abbrev pub last_number : {B : Type 0} → Engine B → ℕ
+last_number engine = engine.oldest + length engine.older
 
--- A move ends its session's call, or goes on with it, or waits for another event; or it is refused for want of a session or of a call.
-abbrev pub IsMove : {B : Type 0} → ℕ → Engine B → Outcome B → List (laws.Event B) → Type 0
-IsMove {B} s old (Replied r) events = (event : laws.Event B) × IsJust event events × IsEnd s old.failed r event
-IsMove {B} s old More events = (old.failed ≡ false) × ((event : laws.Event B) × (events ≡ event ∷ []) × GoesOn s event)
-IsMove s old (Help need) events = (old.failed ≡ false) × (events ≡ [])
-IsMove s old Nothing events = ⊥
-IsMove s old (Refused refusal.BadSession) events = (is_session s ≡ false) × (events ≡ [])
-IsMove s old (Refused refusal.NoCall) events = (is_session s ≡ true) × (is_unanswered (slot_at s old.slots) ≡ false) × (events ≡ [])
-IsMove s old (Refused why) events = ⊥
+-- What stood, the last committed set: an entry that some transaction has written is in it where it was live before,
+-- any other where it is live.
+abbrev pub stood : {B : Type 0} → Keys B → Engine B → Entry B → Bool
+stood k engine e = unwrap_or (noted_in k e engine.slots) (engine.live e)
 
--- An event that is no session's works, waits for another, finds nothing to do, or meets a fault, perhaps with its work half done.
-abbrev pub IsWork : {B : Type 0} → Bool → Outcome B → List (laws.Event B) → Type 0
-IsWork failed (Replied r) events = ⊥
-IsWork failed More events = (failed ≡ false) × (events ≡ laws.Works ∷ [])
-IsWork failed (Help need) events = (failed ≡ false) × (events ≡ [])
-IsWork failed Nothing events = (failed ≡ false) × (events ≡ [])
-IsWork failed (Refused refusal.Device) events = (failed ≡ false) × IsJust laws.Fails events
-IsWork failed (Refused refusal.Failed) events = (failed ≡ true) × (events ≡ [])
-IsWork failed (Refused why) events = ⊥
+-- the kept set of this number
+abbrev pub kept : {B : Type 0} → Keys B → ℕ → Engine B → Entry B → Bool
+kept k number engine e =
+    if nat_lt number (last_number engine) then has k e (slice_index_or engine.older (number - engine.oldest) [])
+    else stood k engine e
 
--- one by which commits may become durable
-abbrev pub IsSync : {B : Type 0} → Bool → Outcome B → List (laws.Event B) → Type 0
-IsSync failed More events = (failed ≡ false) × ((events ≡ []) ⊎ ((events ≡ laws.Works ∷ []) ⊎ ((number : ℕ) × (events ≡ laws.Durable number ∷ []))))
-IsSync failed other events = IsWork failed other events
+-- these entries, in order and each once
+abbrev pub gathered : {B : Type 0} → Keys B → List (Entry B) → List (Entry B)
+gathered k entries = including_all k entries []
 
--- over this engine, this event with this outcome is these events
-abbrev pub AreOf : {B : Type 0} → Engine B → Event B → Outcome B → List (laws.Event B) → Type 0
-AreOf old (Ask s call) outcome events = IsAsk s call old.failed outcome events
-AreOf old (Move s) outcome events = IsMove s old outcome events
-AreOf old LogStep outcome events = IsSync old.failed outcome events
-AreOf old (WritePage page) outcome events = IsWork old.failed outcome events
-AreOf old CheckpointStep outcome events = IsSync old.failed outcome events
-AreOf old (Sweep page) outcome events = IsWork old.failed outcome events
+-- what a transaction has added, of what it noted that which is live, and taken away, that which isn't
+abbrev pub changes_of : {B : Type 0} → Keys B → (Entry B → Bool) → List (Note B) → Changes B
+changes_of k live notes = record {
+  added = gathered k (filter live (entries_of notes));
+  taken = gathered k (filter (λ e. not (live e)) (entries_of notes));
+}
 
--- whatever machine an engine is seen as, it is seen then as the one that the event and its outcome lead to
-abbrev pub Leads : {B : Type 0} → Keys B → Engine B → Event B → Outcome B → Engine B → Type 0
-Leads {B} k old event outcome new = (m : Machine B) → SeenAs k old m → (n : Machine B) × Happens k m event outcome n × SeenAs k new n
+-- a slot as a session of the machine: what is undone is no change any more
+abbrev pub session_of : {B : Type 0} → Keys B → (Entry B → Bool) → Slot B → Session B
+session_of k live Free = Idle
+session_of k live (Working locks notes call) = Open locks (changes_of k live notes) call
+session_of k live (Undoing locks notes) = Aborting locks
+session_of k live (Waiting number) = Committing number
+
+abbrev pub sessions_of : {B : Type 0} → Keys B → (Entry B → Bool) → List (Slot B) → List (Session B)
+sessions_of k live slots = map (session_of k live) slots
+
+-- An engine is seen as a machine: the slots as its sessions, what stood as its last set, and the rest alike.
+pub record SeenAs {B : Type 0} (k : Keys B) (engine : Engine B) (m : Machine B) : Type 0 where
+  pub sessions : m.sessions ≡ sessions_of k engine.live engine.slots
+  pub latest : IsSetOf k (stood k engine) m.latest
+  pub older : m.older ≡ engine.older
+  pub oldest : m.oldest ≡ engine.oldest
+  pub failed : m.failed ≡ engine.failed
+
+-- a transaction claims what it noted, and holds what its open call needs
+abbrev pub HoldsItsLocks : {B : Type 0} → Keys B → Slot B → Type 0
+HoldsItsLocks k Free = Unit {0}
+HoldsItsLocks k (Working locks notes None) = Covered k (entries_of notes) locks.claims
+HoldsItsLocks k (Working locks notes (Some call)) = Covered k (entries_of notes) locks.claims × HoldsFor k call locks
+HoldsItsLocks k (Undoing locks notes) = Covered k (entries_of notes) locks.claims
+HoldsItsLocks k (Waiting number) = Unit {0}
+
+-- What every engine keeps: there are eight slots; each holds its locks; what one claims, another neither claims nor
+-- watches; kept sets are in order. Nothing of a tree, its marks or a log is in it.
+pub record IsSound {B : Type 0} (k : Keys B) (engine : Engine B) : Type 0 where
+  pub eight : length engine.slots ≡ 8
+  pub holds : (s : ℕ) → HoldsItsLocks k (slot_at s engine.slots)
+  pub apart : (a b : ℕ) → a ≢ b → Apart k (locks_held (slot_at a engine.slots)) (locks_held (slot_at b engine.slots))
+  pub in_order : All (InOrder k) engine.older
+
+-- Two engines decide alike.
+pub record IsSame {B : Type 0} (one other : Engine B) : Type 0 where
+  pub live : (e : Entry B) → one.live e ≡ other.live e
+  pub slots : one.slots ≡ other.slots
+  pub older : one.older ≡ other.older
+  pub oldest : one.oldest ≡ other.oldest
+  pub failed : one.failed ≡ other.failed

@@ -1,6 +1,15 @@
+pub mod Slots
+pub mod Engines
+pub mod Asking
+pub mod Events
+pub mod Runs
+pub mod Wants
+pub mod Kinds
+pub mod Worked
+pub mod Losers
 pub mod Work
 pub mod Driven
 pub mod Happens
 pub mod Items
 pub mod Replay
-pub mod Engines
+pub mod Steps

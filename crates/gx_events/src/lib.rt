@@ -1,4 +1,7 @@
-//! The events of an engine, as a session or a flusher meets them, and the record of them.
+//! An engine as the set machine sees it; its events, as a session or a flusher meets them, and the record of them.
+//!
+//! Why its answers are the machine's while calls stay open for many events, and others split, widen, add, mark, sweep,
+//! commit and abort, the laws say: public functions with empty bodies, whose contracts are the laws (`engine_laws`).
 //!
 //! An engine works in events, each one step: a session asks, its open call goes on, the log or a page is written, a
 //! page is swept. The trait `Events` says of each event what it does to the set machine that the engine is seen as, so
@@ -8,6 +11,7 @@
 
 mod driver;
 mod engine;
+pub mod engine_laws;
 mod event;
 pub mod laws;
 mod outcome;

@@ -2,7 +2,7 @@
 use Rattle.std.proofs.Common.{◌≡◌, ◌∙◌, ap, refl, ℕ, List, map, Option, true}
 use Rattle.gx_page.specs.Contents.{Contents}
 use Rattle.gx_page.specs.Format.{IsWellFormed}
-use Rattle.gx_tree_laws.specs.Trees.{Node, fresh_node}
+use Rattle.gx_node.specs.Trees.{Node, fresh_node}
 use Rattle.gx_node.specs.Entries.{child_bytes}
 use Rattle.gx_node.specs.Laws.{InnersHold}
 use Rattle.gx_node.specs.Reading.{format, is_inner, inner_of}

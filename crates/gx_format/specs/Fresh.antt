@@ -11,7 +11,7 @@ use Rattle.gx_glog.specs.declared.extent.TheConstants.{BODIES_B, GATES_B}
 use Rattle.gx_glog.specs.First.{HasFirstLog}
 use Rattle.gx_glog.specs.Parameters.{parameters_bytes}
 use Rattle.gx_glog.specs.declared.parameters.Parameters.{Parameters}
-use Rattle.gx_tree_laws.specs.Trees.{Child}
+use Rattle.gx_node.specs.Trees.{Child}
 use Rattle.gx_node.specs.Entries.{child_bytes}
 
 -- the eight letters GISTRT01

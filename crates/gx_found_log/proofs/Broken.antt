@@ -10,10 +10,10 @@ use Rattle.gx_recovery.specs.Known.{Known, IsLawful}
 use Rattle.gx_recovery.specs.Records.{Record, Touch}
 use Rattle.gx_durable.specs.Small.{PageChange}
 use Rattle.gx_durable.specs.Spelled.{Reading, record_read}
-use Rattle.gx_analysis.specs.Kept.{Kept}
-use Rattle.gx_analysis.specs.Broken.{breaks_touch, breaks_write}
-use Rattle.gx_analysis.specs.declared.rule.LogRule.{LogRule}
-use Rattle.gx_analysis.specs.declared.rule.LogRule.TheVariants.{Spelling, NoCounters, Misplaced, NoKey}
+use Rattle.gx_recovery.specs.Kept.{Kept}
+use Rattle.gx_recovery.specs.Broken.{breaks_touch, breaks_write}
+use Rattle.gx_recovery.specs.declared.rule.LogRule.{LogRule}
+use Rattle.gx_recovery.specs.declared.rule.LogRule.TheVariants.{Spelling, NoCounters, Misplaced, NoKey}
 use Rattle.gx_found_log.specs.declared.fault.Misfit.{Misfit}
 use Rattle.gx_found_log.specs.declared.gathered.Gathered.{Gathered}
 use Rattle.gx_found_log.specs.declared.part.Part.{Part}

@@ -9,7 +9,7 @@ use Rattle.gx_record.specs.Bytes.{u16_of}
 use Rattle.gx_record.specs.Slots as slots
 use Rattle.gx_node.specs.Reading.{Format}
 use Rattle.gx_node.specs.Small.{slots_in}
-use Rattle.gx_readings.specs.Classes.{page_of, change_by}
+use Rattle.gx_durable.specs.Classes.{page_of, change_by}
 
 module _ {B : Type 0} (f : Format B) (fits : ℕ → Contents → Bool) (made : List (List ℕ) → List (List ℕ)) (page : Contents) (formed : IsWellFormed page) where
   -- it fits where its test passes

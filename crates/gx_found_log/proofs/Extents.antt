@@ -21,7 +21,7 @@ use Rattle.gx_recovery.proofs.DamageItems.{bodies_log, records_append}
 use Rattle.gx_durable.specs.Spelled.{Reading, AreRecords}
 use Rattle.gx_durable.specs.Bodies.{AreBodies}
 use Rattle.gx_durable.proofs.BodyLists.{bodies_more, bodies_one_way, body_adds}
-use Rattle.gx_analysis.specs.Kept.{is_closed}
+use Rattle.gx_recovery.specs.Kept.{is_closed}
 use Rattle.gx_found_log.specs.declared.gathered.Gathered.{Gathered}
 use Rattle.gx_found_log.specs.declared.part.Part.{Part}
 use Rattle.gx_found_log.specs.Given.{Imaged, image_in}

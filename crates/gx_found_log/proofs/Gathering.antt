@@ -10,9 +10,9 @@ use Rattle.gx_recovery.specs.Given.{given, given_with, change_given, change_fits
 use Rattle.gx_recovery.proofs.InUse.{given-snoc}
 use Rattle.gx_durable.specs.Small.{PageChange}
 use Rattle.gx_durable.specs.Spelled.{Reading, record_read}
-use Rattle.gx_analysis.specs.Kept.{Kept}
-use Rattle.gx_analysis.specs.Broken.{refused}
-use Rattle.gx_analysis.specs.declared.rule.LogRule.{LogRule}
+use Rattle.gx_recovery.specs.Kept.{Kept}
+use Rattle.gx_recovery.specs.Broken.{refused}
+use Rattle.gx_recovery.specs.declared.rule.LogRule.{LogRule}
 use Rattle.gx_found_log.specs.declared.gathered.Gathered.{Gathered}
 use Rattle.gx_found_log.specs.declared.part.Part.{Part}
 use Rattle.gx_found_log.specs.Given.{Imaged, image_in, IsGiven}

@@ -9,3 +9,8 @@ pub mod Reading
 pub mod Broken
 pub mod Extents
 pub mod Shown
+pub mod Laid
+pub mod OnDevice
+pub mod Redone
+pub mod FoundRedone
+pub mod GoingOn

@@ -5,7 +5,7 @@ use Rattle.gx_recovery.specs.Records.{Record, Pages, Adjust, Write, Commit, End,
 use Rattle.gx_recovery.specs.Damage.{follows, follow, is_head}
 use Rattle.gx_recovery.proofs.Tests.{and_first, clash}
 use Rattle.gx_recovery.proofs.Logs.{log_goes_on}
-use Rattle.gx_analysis.proofs.Heads.{heads_begin}
+use Rattle.gx_recovery.proofs.Heads.{heads_begin}
 use Rattle.gx_found_log.specs.declared.part.Part.{Part}
 use Rattle.gx_found_log.specs.declared.part.Part.TheVariants.{Start, Head, Later}
 use Rattle.gx_found_log.specs.Parts.{part_behind, IsBegun, may_go_on}

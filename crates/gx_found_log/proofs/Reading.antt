@@ -17,7 +17,7 @@ use Rattle.gx_recovery.specs.Known.{Known, IsLawful}
 use Rattle.gx_recovery.specs.Records.{Record}
 use Rattle.gx_recovery.specs.Damage.{is_head}
 use Rattle.gx_durable.specs.Spelled.{Reading, record_read, records_read, AreRecords}
-use Rattle.gx_analysis.specs.declared.closed.TheConstants.{CLOSINGS}
+use Rattle.gx_recovery.specs.declared.closed.TheConstants.{CLOSINGS}
 use Rattle.gx_found_log.specs.declared.gathered.Gathered.{Gathered}
 use Rattle.gx_found_log.specs.declared.part.Part.{Part}
 use Rattle.gx_found_log.specs.declared.part.Part.TheVariants.{Start, Head, Later}

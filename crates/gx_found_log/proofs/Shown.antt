@@ -12,8 +12,8 @@ use Rattle.gx_recovery.specs.Known.{Known, IsLawful}
 use Rattle.gx_recovery.specs.Damage.{records_of}
 use Rattle.gx_durable.specs.Spelled.{Reading}
 use Rattle.gx_found_log.specs.declared.gathered.Gathered.{Gathered}
-use Rattle.gx_analysis.specs.declared.rule.LogRule.{LogRule}
-use Rattle.gx_analysis.specs.declared.rule.LogRule.TheVariants.{FirstGate, BodySize}
+use Rattle.gx_recovery.specs.declared.rule.LogRule.{LogRule}
+use Rattle.gx_recovery.specs.declared.rule.LogRule.TheVariants.{FirstGate, BodySize}
 use Rattle.gx_found_log.specs.declared.fault.LogDamage.{LogDamage}
 use Rattle.gx_found_log.specs.declared.fault.LogFault.{LogFault}
 use Rattle.gx_found_log.specs.declared.fault.LogFault.TheVariants.{Memory, Device, Damaged}

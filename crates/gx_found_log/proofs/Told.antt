@@ -14,14 +14,14 @@ use Rattle.gx_recovery.specs.Records.{Image, Change, Said, Whole, Small, Record,
 use Rattle.gx_recovery.specs.Analysis.{Analysis, analysis}
 use Rattle.gx_recovery.specs.Damage.{IsLog, follows, said_fits, fits, is_note, note_fits, is_head}
 use Rattle.gx_durable.specs.Spelled.{Reading, record_read, images_read}
-use Rattle.gx_analysis.specs.Kept.{Kept, may_touch, may_write, may_give, may_end, may_commit, with_counters, with_touch, with_pages, with_end, with_commit, Takes, Closes}
-use Rattle.gx_analysis.specs.Telling.{IsKept, Tells, TellsClosing, TellsHead, AreOwn}
-use Rattle.gx_analysis.proofs.Telling.{writes_tell, changes_tell, no_entry_refused, all_pages_tell, commits_tell, ends_tell, all_counters_tell, notes_tell}
-use Rattle.gx_analysis.proofs.Heads.{no_entry_is_no_note}
+use Rattle.gx_recovery.specs.Kept.{Kept, may_touch, may_write, may_give, may_end, may_commit, with_counters, with_touch, with_pages, with_end, with_commit, Takes, Closes}
+use Rattle.gx_recovery.specs.Telling.{IsKept, Tells, TellsClosing, TellsHead, AreOwn}
+use Rattle.gx_recovery.proofs.Telling.{writes_tell, changes_tell, no_entry_refused, all_pages_tell, commits_tell, ends_tell, all_counters_tell, notes_tell}
+use Rattle.gx_recovery.proofs.Heads.{no_entry_is_no_note}
 use Rattle.gx_found_log.specs.declared.part.Part.TheVariants.{Start, Head, Later}
-use Rattle.gx_analysis.specs.Broken.{refused}
-use Rattle.gx_analysis.specs.declared.rule.LogRule.{LogRule}
-use Rattle.gx_analysis.specs.declared.rule.LogRule.TheVariants.{NoKey}
+use Rattle.gx_recovery.specs.Broken.{refused}
+use Rattle.gx_recovery.specs.declared.rule.LogRule.{LogRule}
+use Rattle.gx_recovery.specs.declared.rule.LogRule.TheVariants.{NoKey}
 use Rattle.gx_durable.specs.Small.{SetMark, AddPair, SetKey, RemoveSlots}
 use Rattle.gx_found_log.specs.Small.{page_fits}
 use Rattle.gx_found_log.specs.Told.{page_numbers, touched, TakesWrite, Told, RecordTold}

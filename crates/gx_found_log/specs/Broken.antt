@@ -8,10 +8,10 @@ use Rattle.std.specs.declared.cmp.Ordering.{Ordering}
 use Rattle.gx_recovery.specs.Records.{Record, Change, Touch}
 use Rattle.gx_durable.specs.Small.{PageChange}
 use Rattle.gx_durable.specs.Spelled.{Reading, AreRecords}
-use Rattle.gx_analysis.specs.Kept.{Kept}
-use Rattle.gx_analysis.specs.Broken.{breaks_counters, breaks_touch, breaks_write, breaks_pages, breaks_end, breaks_commit}
-use Rattle.gx_analysis.specs.declared.rule.LogRule.{LogRule}
-use Rattle.gx_analysis.specs.declared.rule.LogRule.TheVariants.{Spelling, NoCounters, Misplaced, NoKey, NoImage, Unfit}
+use Rattle.gx_recovery.specs.Kept.{Kept}
+use Rattle.gx_recovery.specs.Broken.{breaks_counters, breaks_touch, breaks_write, breaks_pages, breaks_end, breaks_commit}
+use Rattle.gx_recovery.specs.declared.rule.LogRule.{LogRule}
+use Rattle.gx_recovery.specs.declared.rule.LogRule.TheVariants.{Spelling, NoCounters, Misplaced, NoKey, NoImage, Unfit}
 use Rattle.gx_found_log.specs.declared.gathered.Gathered.{Gathered}
 use Rattle.gx_found_log.specs.declared.part.Part.{Part}
 use Rattle.gx_found_log.specs.declared.part.Part.TheVariants.{Start, Head, Later}

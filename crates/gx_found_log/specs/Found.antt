@@ -14,7 +14,7 @@ use Rattle.gx_recovery.specs.Analysis.{unread}
 use Rattle.gx_recovery.specs.Damage.{records_of, is_undamaged}
 use Rattle.gx_durable.specs.Spelled.{Reading}
 use Rattle.gx_durable.specs.Bodies.{AreBodies}
-use Rattle.gx_analysis.specs.Telling.{IsKept}
+use Rattle.gx_recovery.specs.Telling.{IsKept}
 use Rattle.gx_found_log.specs.declared.found.FoundLog.{FoundLog}
 use Rattle.gx_found_log.specs.declared.gathered.Gathered.{Gathered}
 use Rattle.gx_found_log.specs.declared.part.Part.{Part}

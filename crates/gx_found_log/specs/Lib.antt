@@ -7,3 +7,7 @@ pub mod Faults
 pub mod Shown
 pub mod Small
 pub mod Texts
+pub mod Laid
+pub mod Redone
+pub mod Restart
+pub mod GoingOn

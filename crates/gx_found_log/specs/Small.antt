@@ -8,8 +8,8 @@ use Rattle.gx_recovery.specs.Records.{Change, Record, Whole, Small, Pages, Adjus
 use Rattle.gx_recovery.specs.Given.{given, change_fits}
 use Rattle.gx_durable.specs.Small.{PageChange, SetMark, AddPair, SetKey, RemoveSlots}
 use Rattle.gx_durable.specs.Spelled.{Reading}
-use Rattle.gx_analysis.specs.declared.rule.LogRule.{LogRule}
-use Rattle.gx_analysis.specs.declared.rule.LogRule.TheVariants.{NoImage, Unfit}
+use Rattle.gx_recovery.specs.declared.rule.LogRule.{LogRule}
+use Rattle.gx_recovery.specs.declared.rule.LogRule.TheVariants.{NoImage, Unfit}
 use Rattle.gx_found_log.specs.declared.small.Small as small
 use Rattle.gx_found_log.specs.declared.small.Small.TheVariants as variants
 use Rattle.gx_found_log.specs.Given.{Imaged, with_image}

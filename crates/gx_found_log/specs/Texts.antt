@@ -2,7 +2,7 @@
 use Rattle.std.specs.Prelude.{ℕ, List, ◌++◌, codes, decimal}
 use Rattle.gx_glog.specs.declared.extent.Extent.{Extent}
 use Rattle.gx_glog.specs.declared.extent.Extent.TheVariants.{A, B}
-use Rattle.gx_analysis.specs.Texts.{text_of}
+use Rattle.gx_recovery.specs.Texts.{text_of}
 use Rattle.gx_found_log.specs.declared.fault.LogDamage.{LogDamage}
 
 abbrev pub log_text : Extent → List ℕ

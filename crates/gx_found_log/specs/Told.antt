@@ -9,10 +9,10 @@ use Rattle.std.specs.declared.cmp.Ordering.{Ordering}
 use Rattle.gx_recovery.specs.Records.{Record, Touch}
 use Rattle.gx_durable.specs.Small.{PageChange}
 use Rattle.gx_durable.specs.Spelled.{Reading, record_read, AreRecords}
-use Rattle.gx_analysis.specs.Kept.{Kept, may_write, with_touch, Takes}
-use Rattle.gx_analysis.specs.Broken.{refused}
-use Rattle.gx_analysis.specs.declared.rule.LogRule.{LogRule}
-use Rattle.gx_analysis.specs.Telling.{IsKept}
+use Rattle.gx_recovery.specs.Kept.{Kept, may_write, with_touch, Takes}
+use Rattle.gx_recovery.specs.Broken.{refused}
+use Rattle.gx_recovery.specs.declared.rule.LogRule.{LogRule}
+use Rattle.gx_recovery.specs.Telling.{IsKept}
 use Rattle.gx_found_log.specs.declared.gathered.Gathered.{Gathered}
 use Rattle.gx_found_log.specs.declared.part.Part.{Part}
 use Rattle.gx_found_log.specs.Given.{Imaged, IsGiven, image_in, images_of, with_all}

@@ -4,15 +4,15 @@ ghost use Rattle.gx_record.specs.declared.sizes.TheConstants.{END_RECORD};
 ghost use Rattle.gx_glog.specs.declared.extent.TheConstants.{BODY_ROOM, PLACES};
 ghost use Rattle.gx_found_log.specs.declared.given.TheConstants.{LEAST_SHARE, MOST_GIVEN, MOST_IN_BODY};
 ghost use Rattle.gx_recovery.specs.Known.{Limits};
-ghost use Rattle.gx_analysis.specs.Broken.{refused};
+ghost use Rattle.gx_recovery.specs.Broken.{refused};
 ghost use Rattle.gx_found_log.specs.Parts.{part_behind};
 ghost use Rattle.gx_found_log.specs.Told.{BytesTold, FirstTold};
 ghost use Rattle.gx_found_log.specs.Broken.{BytesBroken, BrokenOn};
 
 use crate::gathered::gather;
 use crate::{Gathered, Misfit, Part, Readable};
-use gx_analysis::LogRule;
 use gx_record::Record;
+use gx_recovery::LogRule;
 
 /// Reads the record at the front of the bytes and gathers it. Answers how many bytes it has.
 fn on_first<M: Readable>(

@@ -4,7 +4,7 @@ ghost use Rattle.gx_node.specs.declared.items.TheConstants.{MAX_ENTRIES};
 ghost use Rattle.gx_disk.specs.declared.layout.TheConstants.{PAGES_AT};
 ghost use Rattle.gx_disk.specs.Looks.{Looks};
 ghost use Rattle.gx_recovery.specs.Known.{Limits};
-ghost use Rattle.gx_readings.specs.Classes.{known_at, reading_by};
+ghost use Rattle.gx_durable.specs.Classes.{known_at, reading_by};
 ghost use Rattle.gx_found_log.specs.Found.{LogRead, ReadsAlone};
 ghost use Rattle.gx_found_log.specs.Faults.{refusing};
 ghost use Rattle.gx_found_log.specs.Shown.{LogShows};
@@ -12,15 +12,15 @@ ghost use Rattle.gx_found_log.specs.Shown.{LogShows};
 use crate::{FoundLog, LogFault, Readable, Small, examine_log, read_log};
 use gx_class::KeyClass;
 use gx_disk::SectorDisk;
+use gx_durable::{OfClass, ReadKeys};
 use gx_geom::Refusal;
 use gx_machine::Entry;
 use gx_node::small::{add_pair, mark_pair, remove_slots, set_key};
 use gx_page::Page;
-use gx_readings::{OfClass, ReadKeys};
 use std::alloc::Global;
 
 impl<K: ReadKeys> Readable for OfClass<K> {
-    ghost use Rattle.gx_readings.proofs.Used.{known_lawful};
+    ghost use Rattle.gx_durable.proofs.Used.{known_lawful};
 
     fn key_size() -> usize {
         K::KEY

@@ -2,9 +2,9 @@
 ghost use Rattle.std.specs.Prelude.{◌≡◌};
 ghost use Rattle.gx_found_log.specs.Faults.{refusal_of};
 
-use gx_analysis::LogRule;
 use gx_geom::Refusal;
 use gx_glog::Extent;
+use gx_recovery::LogRule;
 use std::fmt;
 
 /// What is wrong with the bytes of a body.

@@ -13,10 +13,10 @@ ghost use Rattle.gx_found_log.specs.Faults.{refusal_of, refusing};
 ghost use Rattle.gx_found_log.specs.Shown.{PlaceShows, ExtentShows, LogShows};
 
 use crate::{Gathered, Given, LogDamage, LogFault, Part, Readable, on_body};
-use gx_analysis::{Analysis, LogRule};
 use gx_disk::SectorDisk;
 use gx_geom::Refusal;
 use gx_glog::{BODY_ROOM, BODY_SIZE, Extent, PLACES, read_extent, selected};
+use gx_recovery::{Analysis, LogRule};
 use std::alloc::{AllocError, Global};
 
 /// A log as it is found on a device, undamaged.

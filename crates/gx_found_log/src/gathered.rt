@@ -4,8 +4,8 @@ ghost use Rattle.gx_record.specs.Format.{IsRecord};
 ghost use Rattle.gx_record.specs.Seen.{rec_of};
 ghost use Rattle.gx_recovery.specs.Analysis.{unread};
 ghost use Rattle.gx_recovery.specs.Known.{Limits};
-ghost use Rattle.gx_analysis.specs.Broken.{refused};
-ghost use Rattle.gx_analysis.specs.declared.closed.TheConstants.{CLOSINGS};
+ghost use Rattle.gx_recovery.specs.Broken.{refused};
+ghost use Rattle.gx_recovery.specs.declared.closed.TheConstants.{CLOSINGS};
 ghost use Rattle.gx_found_log.specs.declared.given.TheConstants.{MOST_GIVEN};
 ghost use Rattle.gx_found_log.specs.Broken.{RecordIsBroken};
 ghost use Rattle.gx_found_log.specs.Given.{images_of};
@@ -17,9 +17,9 @@ use crate::images::keep_images;
 use crate::record::on_record;
 use crate::small::small_of;
 use crate::{Given, Part, Readable, Scratch};
-use gx_analysis::{Analysis, LogRule};
 use gx_geom::Refusal;
 use gx_record::Record;
+use gx_recovery::{Analysis, LogRule};
 use std::alloc::Global;
 
 /// What the records of a log tell so far, and the pages that they give.

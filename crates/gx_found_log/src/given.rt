@@ -8,10 +8,10 @@ ghost use Rattle.gx_found_log.specs.Small.{said, Changes};
 
 use crate::imaged::Imaged;
 use crate::{Readable, Scratch, Small};
-use gx_analysis::LogRule;
 use gx_geom::Refusal;
 use gx_glog::{BODY_ROOM, PLACES};
 use gx_record::SPLIT_RECORD;
+use gx_recovery::LogRule;
 use std::alloc::Global;
 use std::marker::Model;
 

@@ -3,14 +3,14 @@ ghost use Rattle.std.specs.Prelude.{◌≡◌, IfErr};
 ghost use Rattle.gx_record.specs.Format.{IsRecord};
 ghost use Rattle.gx_record.specs.Seen.{rec_of};
 ghost use Rattle.gx_recovery.specs.Known.{Limits};
-ghost use Rattle.gx_analysis.specs.Broken.{refused};
+ghost use Rattle.gx_recovery.specs.Broken.{refused};
 ghost use Rattle.gx_found_log.specs.Told.{RecordTold};
 ghost use Rattle.gx_found_log.specs.Broken.{RecordBreaks};
 
 use crate::record::touch_of;
 use crate::{Part, Readable};
-use gx_analysis::{Analysis, LogRule};
 use gx_record::Record;
+use gx_recovery::{Analysis, LogRule};
 
 /// Tells the counters that a log starts with.
 pub(crate) fn on_counters<M: Readable>(

@@ -1,5 +1,7 @@
 //! The log that is found on a device, read back: from its bytes to what its records tell.
 //! A log that is damaged is refused.
+//!
+//! Its redo: the last image that it has of each page is laid on that page.
 #![tactic(auto)]
 
 mod body;
@@ -11,9 +13,13 @@ mod given;
 mod head;
 mod imaged;
 mod images;
+pub mod laws;
+mod lay;
 mod part;
 mod readable;
 mod record;
+mod redoing;
+mod restart;
 mod scratch;
 mod small;
 
@@ -26,5 +32,7 @@ pub use given::{Given, LEAST_SHARE, MOST_GIVEN, MOST_IN_BODY};
 pub use imaged::Imaged;
 pub use part::Part;
 pub use readable::Readable;
+pub use redoing::redo;
+pub use restart::redo_log;
 pub use scratch::Scratch;
 pub use small::Small;

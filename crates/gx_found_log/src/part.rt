@@ -1,10 +1,10 @@
 //! The parts of a log.
 ghost use Rattle.std.specs.Prelude.{◌≡◌, IfErr};
-ghost use Rattle.gx_analysis.specs.Broken.{refused};
+ghost use Rattle.gx_recovery.specs.Broken.{refused};
 ghost use Rattle.gx_found_log.specs.Parts.{part_behind, ended};
 
 use crate::Misfit;
-use gx_analysis::LogRule;
+use gx_recovery::LogRule;
 
 /// Where a record of a log stands, by what may stand there.
 #[derive(Clone, Copy)]

@@ -3,16 +3,16 @@ ghost use Rattle.std.specs.Prelude.{◌≡◌, ◌+◌, ◌<◌, ◌≤◌, true
 ghost use Rattle.gx_record.specs.Format.{IsRecord};
 ghost use Rattle.gx_record.specs.Seen.{is_marked, rec_of, images};
 ghost use Rattle.gx_recovery.specs.Known.{Limits};
-ghost use Rattle.gx_analysis.specs.Kept.{may_give, with_pages, Takes};
-ghost use Rattle.gx_analysis.specs.Broken.{refused, breaks_pages};
-ghost use Rattle.gx_analysis.specs.declared.closed.TheConstants.{CLOSINGS};
+ghost use Rattle.gx_recovery.specs.Kept.{may_give, with_pages, Takes};
+ghost use Rattle.gx_recovery.specs.Broken.{refused, breaks_pages};
+ghost use Rattle.gx_recovery.specs.declared.closed.TheConstants.{CLOSINGS};
 ghost use Rattle.gx_found_log.specs.Told.{page_numbers, closings, RecordTold, touched, TakesWrite};
 ghost use Rattle.gx_found_log.specs.Broken.{BreaksWrite, RecordBreaks};
 
 use crate::head::{on_counters, on_note};
 use crate::{Part, Readable};
-use gx_analysis::{Analysis, LogRule, Touch};
 use gx_record::{Mark, PageImages, Record};
+use gx_recovery::{Analysis, LogRule, Touch};
 
 /// Tells the pages of a record.
 fn on_pages<E: Copy + Ord>(

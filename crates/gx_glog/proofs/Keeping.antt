@@ -1,5 +1,5 @@
 -- What is known of a log's sectors stays where they are kept.
-use Rattle.std.proofs.Common.{◌≡◌, ◌∙◌, sym, ap, refl, ◌⊎◌, inl, inr, ℕ, ◌+◌, ◌*◌, ◌<◌, ◌≤◌, List, [], ◌++◌, length, true, false, Bool, subst, length-append, arith}
+use Rattle.std.proofs.Common.{◌≡◌, ◌∙◌, sym, ap, refl, ◌⊎◌, inl, inr, ℕ, ◌+◌, ◌*◌, ◌<◌, ◌≤◌, List, ◌++◌, length, true, false, Bool, subst, length-append, arith}
 use Rattle.gx_disk.specs.declared.layout.TheConstants.{LOG_AT, LOG_SECTORS, PAGES_AT}
 use Rattle.gx_disk.specs.Sectors.{IsWithin, IsOutside}
 use Rattle.gx_disk.specs.Device.{Device, Touches, Rests}

@@ -9,7 +9,7 @@ use Rattle.gx_disk.specs.Device.{Device, MayLeave, Elapses, Touches, Writes, Syn
 use Rattle.gx_disk.specs.Moments.{Leaves}
 use Rattle.gx_disk.proofs.Leaving.{call_leaves, leaves_weaker, nothing_leaves, rested_touches}
 use Rattle.gx_disk.proofs.Spans.{put_back}
-use Rattle.gx_glog.specs.declared.extent.TheConstants.{BODY_SECTORS, BODY_SIZE, PLACES}
+use Rattle.gx_glog.specs.declared.extent.TheConstants.{BODY_SECTORS, PLACES}
 use Rattle.gx_glog.specs.declared.extent.Extent.{Extent}
 use Rattle.gx_glog.specs.declared.stage.Stage.{Stage}
 use Rattle.gx_glog.specs.declared.stage.Stage.TheVariants.{Body, BodySync, Gate, GateSync, Idle}

@@ -9,7 +9,7 @@ use Rattle.gx_disk.specs.Moments.{Leaves}
 use Rattle.gx_disk.proofs.Leaving.{call_leaves, leaves_weaker, rested_touches}
 use Rattle.gx_disk.proofs.Spans.{put_back}
 use Rattle.gx_glog.specs.declared.turn.TheConstants.{GATES_SIZE}
-use Rattle.gx_glog.specs.declared.extent.TheConstants.{BODY_SECTORS, BODY_SIZE, EXTENT_SECTORS, PLACES}
+use Rattle.gx_glog.specs.declared.extent.TheConstants.{BODY_SECTORS, EXTENT_SECTORS, PLACES}
 use Rattle.gx_glog.specs.declared.extent.Extent.{Extent}
 use Rattle.gx_glog.specs.declared.extent.Extent.TheVariants.{A, B}
 use Rattle.gx_glog.specs.declared.stage.Stage.{Stage}

@@ -1,13 +1,13 @@
 -- An inner page that is taken stays one, whatever is done to the tree: so a descent's page of before does.
 use Rattle.std.proofs.Common.{ℕ, ◌≤◌, Bool, inl, inr, List, ◌∷◌, [], ◌++◌, filter, ap, arith}
 use Rattle.std.proofs.lemmas.Bool.{cases_eq}
-use Rattle.gx_tree_laws.specs.Trees.{Pair, Child, Node, Tree, Rules, IsLawful, Used}
-use Rattle.gx_tree_laws.specs.Legal.{Legal}
-use Rattle.gx_tree_laws.specs.Alike.{AgreeOnUsed}
-use Rattle.gx_tree_laws.specs.Steps.{IsRootSplit, ChangesOnly, with_key, with_mark, spares, Step, Splits, SplitsRoot, Widens, Adds, Marks, Sweeps, IsStep}
-use Rattle.gx_tree_laws.proofs.Splits.{level_same, used_more as split_more}
-use Rattle.gx_tree_laws.proofs.Roots.{used_more as root_more, same_node}
-use Rattle.gx_tree_laws.proofs.Changes.{level_kept, used_kept}
+use Rattle.gx_node.specs.Trees.{Pair, Child, Node, Tree, Rules, IsLawful, Used}
+use Rattle.gx_node.specs.Legal.{Legal}
+use Rattle.gx_node.specs.Alike.{AgreeOnUsed}
+use Rattle.gx_node.specs.Steps.{IsRootSplit, ChangesOnly, with_key, with_mark, spares, Step, Splits, SplitsRoot, Widens, Adds, Marks, Sweeps, IsStep}
+use Rattle.gx_node.proofs.Splits.{level_same, used_more as split_more}
+use Rattle.gx_node.proofs.Roots.{used_more as root_more, same_node}
+use Rattle.gx_node.proofs.Changes.{level_kept, used_kept}
 use Rattle.gx_index_laws.specs.Working.{CameFrom}
 
 module _ {K : Type 0} (r : Rules K) (law : IsLawful r) (old new : Tree K) (legal : Legal r old) where

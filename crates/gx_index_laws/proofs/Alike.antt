@@ -2,12 +2,12 @@
 use Rattle.std.proofs.Common.{◌≡◌, [], ap}
 use Rattle.std.specs.Prelude.{nat_lt}
 use Rattle.gx_machine.specs.declared.entry.Entry.{Entry}
-use Rattle.gx_tree_laws.specs.Trees.{Tree}
-use Rattle.gx_tree_laws.specs.Legal.{Legal}
-use Rattle.gx_tree_laws.specs.Alike.{AgreeOnUsed}
-use Rattle.gx_tree_laws.proofs.AlikeTrees.{standing_too, seek_too}
-use Rattle.gx_tree_laws.proofs.AlikeLooks.{look_too, descent_too}
-use Rattle.gx_engine_laws.specs.Slots.{Slot}
+use Rattle.gx_node.specs.Trees.{Tree}
+use Rattle.gx_node.specs.Legal.{Legal}
+use Rattle.gx_node.specs.Alike.{AgreeOnUsed}
+use Rattle.gx_node.proofs.AlikeTrees.{standing_too, seek_too}
+use Rattle.gx_node.proofs.AlikeLooks.{look_too, descent_too}
+use Rattle.gx_events.specs.Slots.{Slot}
 use Rattle.gx_index_laws.specs.Classes.{Class, is_live_of, is_live}
 use Rattle.gx_index_laws.specs.States.{Work, Rests, Looks, Descends, Seeks}
 use Rattle.gx_index_laws.specs.Working.{wants_pair, DoesWork}

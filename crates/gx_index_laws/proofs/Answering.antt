@@ -11,23 +11,23 @@ use Rattle.gx_machine.specs.Sets.{has}
 use Rattle.gx_machine.specs.Sessions.{Locks}
 use Rattle.gx_machine.proofs.SetLaws.{same_is}
 use Rattle.gx_machine.proofs.SetsByTests.{set_of_a_test_that_agrees, set_that_is_gathered}
-use Rattle.gx_tree_laws.specs.Lists.{one_if, how_many, Each}
-use Rattle.gx_tree_laws.specs.Trees.{Pair, Child, Tree, Used, child_pages, times, leaves, passing, standing}
-use Rattle.gx_tree_laws.specs.Legal.{ChildFits, Legal}
-use Rattle.gx_tree_laws.specs.Reach.{TraversalItem}
-use Rattle.gx_tree_laws.specs.Looks.{IsLook, from_root, LeadsTo, stacked, found_with}
-use Rattle.gx_tree_laws.proofs.Sums.{sum_over_le, each_always}
-use Rattle.gx_tree_laws.proofs.OwnLook.{look_goes_on}
-use Rattle.gx_tree_laws.proofs.Chains.{some_child}
-use Rattle.gx_tree_laws.proofs.DescentSteps.{descent_begins, descent_goes_down}
-use Rattle.gx_tree_laws.proofs.SeekSteps.{seek_begins, seek_goes_right, sought_stands}
-use Rattle.gx_engine_laws.specs.Slots.{Note, Slot, Free, Working, Undoing, Waiting, notes_kept, slot_at}
-use Rattle.gx_engine_laws.specs.Engines.{gathered}
-use Rattle.gx_engine_laws.specs.Events as events
-use Rattle.gx_engine_laws.specs.Events.{Event, IsEvent, IsClosed}
-use Rattle.gx_engine_laws.specs.Kinds.{changes_what_stood}
-use Rattle.gx_engine_laws.specs.Wants.{slot_wants}
-use Rattle.gx_engine_laws.proofs.Standing.{working_there}
+use Rattle.gx_node.specs.Lists.{one_if, how_many, Each}
+use Rattle.gx_node.specs.Trees.{Pair, Child, Tree, Used, child_pages, times, leaves, passing, standing}
+use Rattle.gx_node.specs.Legal.{ChildFits, Legal}
+use Rattle.gx_node.specs.Reach.{TraversalItem}
+use Rattle.gx_node.specs.Looks.{IsLook, from_root, LeadsTo, stacked, found_with}
+use Rattle.gx_node.proofs.Sums.{sum_over_le, each_always}
+use Rattle.gx_node.proofs.OwnLook.{look_goes_on}
+use Rattle.gx_node.proofs.Chains.{some_child}
+use Rattle.gx_node.proofs.DescentSteps.{descent_begins, descent_goes_down}
+use Rattle.gx_node.proofs.SeekSteps.{seek_begins, seek_goes_right, sought_stands}
+use Rattle.gx_events.specs.Slots.{Note, Slot, Free, Working, Undoing, Waiting, notes_kept, slot_at}
+use Rattle.gx_events.specs.Engines.{gathered}
+use Rattle.gx_events.specs.Events as events
+use Rattle.gx_events.specs.Events.{Event, IsEvent, IsClosed}
+use Rattle.gx_events.specs.Kinds.{changes_what_stood}
+use Rattle.gx_events.specs.Wants.{slot_wants}
+use Rattle.gx_events.proofs.Standing.{working_there}
 use Rattle.gx_recovery.proofs.Tests.{true_or_false, and_first, and_second, either_of, or_second}
 use Rattle.gx_recovery.proofs.Logs.{and_all}
 use Rattle.gx_index_laws.specs.Classes.{Class, IsLawful, entry_of, is_of, is_live_of, is_live}

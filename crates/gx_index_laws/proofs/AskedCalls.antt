@@ -13,16 +13,16 @@ use Rattle.gx_machine.specs.declared.reply.Asked.TheVariants.{Now, Open}
 use Rattle.gx_machine.specs.Keys.{Keys}
 use Rattle.gx_machine.specs.Sessions.{Locks, no_locks, lock_for}
 use Rattle.gx_machine.specs.Machine.{is_session}
-use Rattle.gx_tree_laws.proofs.OwnLook.{look_begins}
-use Rattle.gx_engine_laws.specs.Slots.{Note, Slot, Free, Working, Undoing, Waiting, notes_kept, slot_at, with_slot, noted}
-use Rattle.gx_engine_laws.specs.Engines.{Engine, IsSame}
-use Rattle.gx_engine_laws.specs.Asking.{least_barring, claims_held, asked_with, ask_working, ask_free, ask_slot, ask_in, ask}
-use Rattle.gx_engine_laws.specs.Events as events
-use Rattle.gx_engine_laws.specs.Events.{Event, IsEvent, MeetsFault, failed_engine}
-use Rattle.gx_engine_laws.specs.Kinds.{changes_what_stood}
-use Rattle.gx_engine_laws.proofs.Places.{set_itself}
-use Rattle.gx_engine_laws.proofs.Asks.{asks_keep_notes}
-use Rattle.gx_engine_laws.proofs.Standing.{waiting_there}
+use Rattle.gx_node.proofs.OwnLook.{look_begins}
+use Rattle.gx_events.specs.Slots.{Note, Slot, Free, Working, Undoing, Waiting, notes_kept, slot_at, with_slot, noted}
+use Rattle.gx_events.specs.Engines.{Engine, IsSame}
+use Rattle.gx_events.specs.Asking.{least_barring, claims_held, asked_with, ask_working, ask_free, ask_slot, ask_in, ask}
+use Rattle.gx_events.specs.Events as events
+use Rattle.gx_events.specs.Events.{Event, IsEvent, MeetsFault, failed_engine}
+use Rattle.gx_events.specs.Kinds.{changes_what_stood}
+use Rattle.gx_events.proofs.Places.{set_itself}
+use Rattle.gx_events.proofs.Asks.{asks_keep_notes}
+use Rattle.gx_events.proofs.Standing.{waiting_there}
 use Rattle.gx_recovery.specs.Known.{Known}
 use Rattle.gx_recovery.specs.Records.{settled, any_number, names}
 use Rattle.gx_recovery.specs.Standing.{own_before}

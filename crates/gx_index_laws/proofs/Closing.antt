@@ -12,13 +12,13 @@ use Rattle.gx_machine.specs.Sets.{has, IsSetOf}
 use Rattle.gx_machine.specs.Sessions.{Locks}
 use Rattle.gx_machine.specs.Machine.{is_session}
 use Rattle.gx_machine.proofs.SetsByTests.{set_of_a_test_that_agrees}
-use Rattle.gx_tree_laws.specs.Trees.{Tree}
-use Rattle.gx_engine_laws.specs.Slots.{Note, Slot, Free, Working, Undoing, Waiting, notes_kept, slot_at, with_slot, noted}
-use Rattle.gx_engine_laws.specs.Engines.{stood}
-use Rattle.gx_engine_laws.specs.Events as events
-use Rattle.gx_engine_laws.specs.Events.{Event, IsEvent, IsSealed, IsRestored}
-use Rattle.gx_engine_laws.proofs.Standing.{working_there, undoing_there}
-use Rattle.gx_engine_laws.proofs.WhatStood.{commit_stood}
+use Rattle.gx_node.specs.Trees.{Tree}
+use Rattle.gx_events.specs.Slots.{Note, Slot, Free, Working, Undoing, Waiting, notes_kept, slot_at, with_slot, noted}
+use Rattle.gx_events.specs.Engines.{stood}
+use Rattle.gx_events.specs.Events as events
+use Rattle.gx_events.specs.Events.{Event, IsEvent, IsSealed, IsRestored}
+use Rattle.gx_events.proofs.Standing.{working_there, undoing_there}
+use Rattle.gx_events.proofs.WhatStood.{commit_stood}
 use Rattle.gx_recovery.specs.Known.{Known}
 use Rattle.gx_recovery.specs.Records.{Record, Commit, End, touch_of, closes, settled, any_number}
 use Rattle.gx_recovery.specs.Analysis.{Analysis, analysis, read}

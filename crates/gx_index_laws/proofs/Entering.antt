@@ -10,19 +10,19 @@ use Rattle.gx_machine.specs.Sets.{has}
 use Rattle.gx_machine.specs.Sessions.{Locks}
 use Rattle.gx_machine.specs.Machine.{is_session}
 use Rattle.gx_machine.proofs.SetLaws.{same_is}
-use Rattle.gx_tree_laws.specs.Lists.{one_if, how_many}
-use Rattle.gx_tree_laws.specs.Trees.{Pair, Tree, Used, is_entry}
-use Rattle.gx_tree_laws.specs.Legal.{Legal}
-use Rattle.gx_tree_laws.specs.Steps.{IsAdding, IsMarking, Adds, Marks, with_mark}
-use Rattle.gx_tree_laws.proofs.AllSteps.{legal_step}
-use Rattle.gx_tree_laws.proofs.SeekSteps.{seek_begins, seek_marked}
-use Rattle.gx_engine_laws.specs.Slots.{Note, Slot, Free, Working, Undoing, Waiting, locks_held, notes_kept, slot_at, with_slot, noted, WithNote}
-use Rattle.gx_engine_laws.specs.Engines.{HoldsItsLocks}
-use Rattle.gx_engine_laws.specs.Events as events
-use Rattle.gx_engine_laws.specs.Events.{Event, IsEvent, marked}
-use Rattle.gx_engine_laws.specs.Kinds.{changes_what_stood}
-use Rattle.gx_engine_laws.proofs.Noted.{has_noted}
-use Rattle.gx_engine_laws.proofs.Standing.{working_there}
+use Rattle.gx_node.specs.Lists.{one_if, how_many}
+use Rattle.gx_node.specs.Trees.{Pair, Tree, Used, is_entry}
+use Rattle.gx_node.specs.Legal.{Legal}
+use Rattle.gx_node.specs.Steps.{IsAdding, IsMarking, Adds, Marks, with_mark}
+use Rattle.gx_node.proofs.AllSteps.{legal_step}
+use Rattle.gx_node.proofs.SeekSteps.{seek_begins, seek_marked}
+use Rattle.gx_events.specs.Slots.{Note, Slot, Free, Working, Undoing, Waiting, locks_held, notes_kept, slot_at, with_slot, noted, WithNote}
+use Rattle.gx_events.specs.Engines.{HoldsItsLocks}
+use Rattle.gx_events.specs.Events as events
+use Rattle.gx_events.specs.Events.{Event, IsEvent, marked}
+use Rattle.gx_events.specs.Kinds.{changes_what_stood}
+use Rattle.gx_events.proofs.Noted.{has_noted}
+use Rattle.gx_events.proofs.Standing.{working_there}
 use Rattle.gx_recovery.specs.Coming.{IsSaid}
 use Rattle.gx_recovery.specs.Logged.{all_records, appended}
 use Rattle.gx_recovery.specs.Records.{Said, Record, Write}

@@ -11,11 +11,11 @@ use Rattle.gx_machine.specs.Sets.{has, IsSetOf}
 use Rattle.gx_machine.proofs.SetLaws.{entry_total, entry_exact}
 use Rattle.gx_machine.proofs.SessionMoves.{same_itself}
 use Rattle.gx_machine.proofs.Places.{session_bounds}
-use Rattle.gx_engine_laws.specs.Slots.{Note, Slot, Undoing, notes_kept, slot_at, entries_of, noted}
-use Rattle.gx_engine_laws.specs.Engines.{stood, SeenAs}
-use Rattle.gx_engine_laws.specs.Losers.{loser_slot, loser_at, AreLosers, losing_machine}
-use Rattle.gx_engine_laws.proofs.Places.{by_place}
-use Rattle.gx_engine_laws.proofs.Reopened.{placed, loser_slot_at, reopened_sound, sessions_of_losers}
+use Rattle.gx_events.specs.Slots.{Note, Slot, Undoing, notes_kept, slot_at, entries_of, noted}
+use Rattle.gx_events.specs.Engines.{stood, SeenAs}
+use Rattle.gx_events.specs.Losers.{loser_slot, loser_at, AreLosers, losing_machine}
+use Rattle.gx_events.proofs.Places.{by_place}
+use Rattle.gx_events.proofs.Reopened.{placed, loser_slot_at, reopened_sound, sessions_of_losers}
 use Rattle.gx_recovery.specs.Known as known
 use Rattle.gx_recovery.specs.Known.{Known, same}
 use Rattle.gx_recovery.specs.Records.{Record, Touch, settled, any_number, names}

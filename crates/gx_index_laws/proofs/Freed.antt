@@ -7,13 +7,13 @@ use Rattle.gx_machine.specs.Keys.{same_entry}
 use Rattle.gx_machine.specs.Sets.{has}
 use Rattle.gx_machine.specs.Machine.{is_session}
 use Rattle.gx_machine.proofs.SetLaws.{same_is}
-use Rattle.gx_tree_laws.specs.Lists.{one_if, how_many}
-use Rattle.gx_tree_laws.specs.Trees.{Pair, Tree, leaves, standing}
-use Rattle.gx_tree_laws.specs.Legal.{Legal}
-use Rattle.gx_tree_laws.specs.Writes.{is_sweepable}
-use Rattle.gx_tree_laws.proofs.Sums.{how_many-flat_map}
-use Rattle.gx_engine_laws.specs.Slots.{Slot, Free, Working, Undoing, Waiting, locks_held, slot_at, with_slot}
-use Rattle.gx_engine_laws.proofs.Places.{slot_other}
+use Rattle.gx_node.specs.Lists.{one_if, how_many}
+use Rattle.gx_node.specs.Trees.{Pair, Tree, leaves, standing}
+use Rattle.gx_node.specs.Legal.{Legal}
+use Rattle.gx_node.specs.Writes.{is_sweepable}
+use Rattle.gx_node.proofs.Sums.{how_many-flat_map}
+use Rattle.gx_events.specs.Slots.{Slot, Free, Working, Undoing, Waiting, locks_held, slot_at, with_slot}
+use Rattle.gx_events.proofs.Places.{slot_other}
 use Rattle.gx_recovery.specs.Records.{Record, Commit, End}
 use Rattle.gx_recovery.specs.Logged.{appended}
 use Rattle.gx_recovery.proofs.Tests.{either_of, or_second, true_or_false}

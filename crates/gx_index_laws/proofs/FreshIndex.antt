@@ -2,13 +2,13 @@
 use Rattle.std.proofs.Common.{◌≡◌, ℕ, ◌≤◌, true, false, ◌&&◌, [], refl, ap, sym, subst, arith, le-leb}
 use Rattle.gx_machine.specs.declared.entry.Entry.{Entry}
 use Rattle.gx_machine.specs.Machine.{fresh_machine}
-use Rattle.gx_tree_laws.specs.Trees.{fresh_tree}
-use Rattle.gx_tree_laws.proofs.Fresh.{fresh_legal}
-use Rattle.gx_engine_laws.specs.Slots.{Slot, slot_at}
-use Rattle.gx_engine_laws.specs.Engines.{Engine, SeenAs, IsSound, opened_engine}
-use Rattle.gx_engine_laws.proofs.Places.{slot_free}
-use Rattle.gx_engine_laws.proofs.Standing.{is_one}
-use Rattle.gx_engine_laws.proofs.Views.{opened_sound, opened_seen}
+use Rattle.gx_node.specs.Trees.{fresh_tree}
+use Rattle.gx_node.proofs.Fresh.{fresh_legal}
+use Rattle.gx_events.specs.Slots.{Slot, slot_at}
+use Rattle.gx_events.specs.Engines.{Engine, SeenAs, IsSound, opened_engine}
+use Rattle.gx_events.proofs.Places.{slot_free}
+use Rattle.gx_events.proofs.Standing.{is_one}
+use Rattle.gx_events.proofs.Views.{opened_sound, opened_seen}
 use Rattle.gx_recovery.proofs.Tests.{clash}
 use Rattle.gx_index_laws.specs.Classes.{Class, IsLawful, is_live}
 use Rattle.gx_index_laws.specs.States.{engine_of, fresh_state}

@@ -4,14 +4,14 @@ use Rattle.std.specs.List.{slice_index_or}
 use Rattle.gx_machine.specs.declared.entry.Entry.{Entry}
 use Rattle.gx_machine.specs.Sets.{IsSetOf}
 use Rattle.gx_machine.proofs.SetsByTests.{set_of_a_test_that_agrees}
-use Rattle.gx_engine_laws.specs.Slots.{slot_at}
-use Rattle.gx_engine_laws.specs.Events.{Event, IsEvent, step_of}
-use Rattle.gx_engine_laws.specs.Kinds.{changes_what_stood}
-use Rattle.gx_engine_laws.proofs.Claims.{claims_stay_few}
-use Rattle.gx_engine_laws.proofs.Follow.{Follows}
-use Rattle.gx_engine_laws.proofs.Faults.{event_follows}
-use Rattle.gx_engine_laws.proofs.EventRuns.{still_sound, run_follows}
-use Rattle.gx_engine_laws.proofs.WhatStood.{event_stood}
+use Rattle.gx_events.specs.Slots.{slot_at}
+use Rattle.gx_events.specs.Events.{Event, IsEvent, step_of}
+use Rattle.gx_events.specs.Kinds.{changes_what_stood}
+use Rattle.gx_events.proofs.Claims.{claims_stay_few}
+use Rattle.gx_events.proofs.Follow.{Follows}
+use Rattle.gx_events.proofs.Faults.{event_follows}
+use Rattle.gx_events.proofs.EventRuns.{still_sound, run_follows}
+use Rattle.gx_events.proofs.WhatStood.{event_stood}
 use Rattle.gx_recovery.specs.Analysis.{analysis}
 use Rattle.gx_recovery.specs.Logged.{all_records, kept, IsHealthy}
 use Rattle.gx_recovery.specs.Life.{kept_of, AreSame}

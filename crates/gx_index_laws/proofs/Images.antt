@@ -6,12 +6,12 @@ use Rattle.gx_machine.specs.Machine as machine
 use Rattle.gx_machine.proofs.Survival.{run_rises}
 use Rattle.gx_machine.proofs.SetsByTests.{set_of_a_test_that_agrees}
 use Rattle.gx_machine.proofs.SetLaws.{entry_total, entry_exact}
-use Rattle.gx_engine_laws.specs.Engines as engines
-use Rattle.gx_engine_laws.specs.Engines.{SeenAs}
-use Rattle.gx_engine_laws.specs.Events.{Event, Acknowledges}
-use Rattle.gx_engine_laws.specs.Runs.{steps_of, RunsAs}
-use Rattle.gx_engine_laws.proofs.Faults.{kept_set}
-use Rattle.gx_engine_laws.proofs.EventRuns.{run_follows}
+use Rattle.gx_events.specs.Engines as engines
+use Rattle.gx_events.specs.Engines.{SeenAs}
+use Rattle.gx_events.specs.Events.{Event, Acknowledges}
+use Rattle.gx_events.specs.Runs.{steps_of, RunsAs}
+use Rattle.gx_events.proofs.Faults.{kept_set}
+use Rattle.gx_events.proofs.EventRuns.{run_follows}
 use Rattle.gx_recovery.specs.Records.{Record}
 use Rattle.gx_recovery.specs.Analysis.{number_of}
 use Rattle.gx_recovery.specs.Standing.{stands_for}

@@ -1,10 +1,10 @@
 -- Events one after another are a run.
 use Rattle.std.proofs.Common.{◌≤◌, List, [], ◌∷◌, ap, sym, subst}
 use Rattle.gx_machine.specs.Machine.{Machine, fresh_machine}
-use Rattle.gx_engine_laws.specs.Engines.{SeenAs}
-use Rattle.gx_engine_laws.specs.Events.{Event}
-use Rattle.gx_engine_laws.specs.Runs.{AreEvents, steps_of, RunsAs}
-use Rattle.gx_engine_laws.proofs.EventRuns.{run_follows}
+use Rattle.gx_events.specs.Engines.{SeenAs}
+use Rattle.gx_events.specs.Events.{Event}
+use Rattle.gx_events.specs.Runs.{AreEvents, steps_of, RunsAs}
+use Rattle.gx_events.proofs.EventRuns.{run_follows}
 use Rattle.gx_index_laws.specs.Classes.{Class, IsLawful}
 use Rattle.gx_index_laws.specs.States.{State, engine_of, fresh_state}
 use Rattle.gx_index_laws.specs.Whole.{IsWhole}

@@ -4,11 +4,11 @@ use Rattle.std.specs.Prelude.{drop}
 use Rattle.std.specs.List.{list_any}
 use Rattle.std.proofs.lemmas.List.Elements.{All-nil, All-cons, All-head, All-tail}
 use Rattle.gx_machine.specs.declared.entry.Entry.{Entry}
-use Rattle.gx_engine_laws.specs.Engines.{Engine, stood}
-use Rattle.gx_engine_laws.specs.Events as events
-use Rattle.gx_engine_laws.specs.Events.{Event, IsEvent}
-use Rattle.gx_engine_laws.specs.Kinds.{changes_what_stood}
-use Rattle.gx_engine_laws.proofs.WhatStood.{event_stood}
+use Rattle.gx_events.specs.Engines.{Engine, stood}
+use Rattle.gx_events.specs.Events as events
+use Rattle.gx_events.specs.Events.{Event, IsEvent}
+use Rattle.gx_events.specs.Kinds.{changes_what_stood}
+use Rattle.gx_events.proofs.WhatStood.{event_stood}
 use Rattle.gx_recovery.specs.Records.{Record}
 use Rattle.gx_recovery.specs.Analysis.{analysis, number_of}
 use Rattle.gx_recovery.specs.Redo.{tree_of}

@@ -2,16 +2,16 @@
 use Rattle.std.proofs.Common.{◌≡◌, ◌≢◌, ℕ, Bool, true, false, not, List, [], refl, ap, sym, ◌∙◌, subst}
 use Rattle.gx_machine.specs.declared.entry.Entry.{Entry}
 use Rattle.gx_machine.specs.Sets.{has}
-use Rattle.gx_tree_laws.specs.Trees.{Pair, Tree, Rules, is_entry}
-use Rattle.gx_tree_laws.specs.Legal.{Legal}
-use Rattle.gx_tree_laws.specs.Steps.{Step, Splits, SplitsRoot, Widens, Adds, Marks, Sweeps, IsStep, LeavesAlone}
-use Rattle.gx_tree_laws.proofs.LookSteps.{look_step}
-use Rattle.gx_tree_laws.proofs.DescentSteps.{descent_step}
-use Rattle.gx_tree_laws.proofs.SeekSteps.{seek_step}
-use Rattle.gx_engine_laws.specs.Slots.{Slot, locks_held, slot_at}
-use Rattle.gx_engine_laws.specs.Engines.{Engine, IsSound}
-use Rattle.gx_engine_laws.specs.Wants.{slot_wants, is_claimed}
-use Rattle.gx_engine_laws.proofs.Apart.{claimed_is_unwanted, wanted_is_spared}
+use Rattle.gx_node.specs.Trees.{Pair, Tree, Rules, is_entry}
+use Rattle.gx_node.specs.Legal.{Legal}
+use Rattle.gx_node.specs.Steps.{Step, Splits, SplitsRoot, Widens, Adds, Marks, Sweeps, IsStep, LeavesAlone}
+use Rattle.gx_node.proofs.LookSteps.{look_step}
+use Rattle.gx_node.proofs.DescentSteps.{descent_step}
+use Rattle.gx_node.proofs.SeekSteps.{seek_step}
+use Rattle.gx_events.specs.Slots.{Slot, locks_held, slot_at}
+use Rattle.gx_events.specs.Engines.{Engine, IsSound}
+use Rattle.gx_events.specs.Wants.{slot_wants, is_claimed}
+use Rattle.gx_events.proofs.Apart.{claimed_is_unwanted, wanted_is_spared}
 use Rattle.gx_index_laws.specs.Classes.{Class, IsLawful, entry_of, pair_of, is_of}
 use Rattle.gx_index_laws.specs.Steps.{IsPageStep, SparesClaims, IsWriteOf}
 use Rattle.gx_index_laws.specs.States.{Work, Rests, Looks, Descends, Seeks}

@@ -7,10 +7,10 @@ use Rattle.gx_machine.specs.Keys.{same_entry}
 use Rattle.gx_machine.specs.Sets.{has, IsSetOf}
 use Rattle.gx_machine.proofs.SetLaws.{same_is}
 use Rattle.gx_machine.proofs.SetsByTests.{set_of_a_test_that_agrees, set_that_is_gathered}
-use Rattle.gx_tree_laws.specs.Lists.{one_if, how_many}
-use Rattle.gx_tree_laws.specs.Trees.{Pair, Tree, leaves}
-use Rattle.gx_tree_laws.proofs.Sums.{how_many-flat_map}
-use Rattle.gx_engine_laws.specs.Engines.{gathered}
+use Rattle.gx_node.specs.Lists.{one_if, how_many}
+use Rattle.gx_node.specs.Trees.{Pair, Tree, leaves}
+use Rattle.gx_node.proofs.Sums.{how_many-flat_map}
+use Rattle.gx_events.specs.Engines.{gathered}
 use Rattle.gx_recovery.specs.Records.{Record, any_number}
 use Rattle.gx_recovery.specs.Redo.{tree_of}
 use Rattle.gx_recovery.specs.Standing.{stands_for}

@@ -6,14 +6,14 @@ use Rattle.std.proofs.lemmas.Bool.{eqb-true, eq-eqb, lt-ltb}
 use Rattle.gx_machine.specs.declared.entry.Entry.{Entry}
 use Rattle.gx_machine.specs.Keys.{same_entry}
 use Rattle.gx_machine.proofs.SetLaws.{entry_itself}
-use Rattle.gx_tree_laws.specs.Lists.{one_if, how_many}
-use Rattle.gx_tree_laws.specs.Trees.{Pair, Tree, Used, leaves, passing, standing}
-use Rattle.gx_tree_laws.specs.Legal.{Legal}
-use Rattle.gx_tree_laws.specs.Steps.{IsAdding, IsMarking, Step, Splits, SplitsRoot, Widens, Adds, Marks, Sweeps, IsStep}
-use Rattle.gx_tree_laws.proofs.Sums.{sum_over_add, sum_over_same, each_always}
-use Rattle.gx_tree_laws.proofs.Splits.{standing_split}
-use Rattle.gx_tree_laws.proofs.Roots.{standing_root}
-use Rattle.gx_tree_laws.proofs.PageSteps.{standing_widened, standing_added, standing_swept_plain, standing_one_marked}
+use Rattle.gx_node.specs.Lists.{one_if, how_many}
+use Rattle.gx_node.specs.Trees.{Pair, Tree, Used, leaves, passing, standing}
+use Rattle.gx_node.specs.Legal.{Legal}
+use Rattle.gx_node.specs.Steps.{IsAdding, IsMarking, Step, Splits, SplitsRoot, Widens, Adds, Marks, Sweeps, IsStep}
+use Rattle.gx_node.proofs.Sums.{sum_over_add, sum_over_same, each_always}
+use Rattle.gx_node.proofs.Splits.{standing_split}
+use Rattle.gx_node.proofs.Roots.{standing_root}
+use Rattle.gx_node.proofs.PageSteps.{standing_widened, standing_added, standing_swept_plain, standing_one_marked}
 use Rattle.gx_recovery.proofs.Tests.{true_or_false, and_first, and_second}
 use Rattle.gx_recovery.proofs.Logs.{and_all}
 use Rattle.gx_index_laws.specs.Classes.{Class, IsLawful, entry_of, is_of, is_live_of, is_live}

@@ -7,12 +7,12 @@ use Rattle.std.proofs.lemmas.List.{append_assoc, length-drop}
 use Rattle.gx_machine.specs.declared.entry.Entry.{Entry}
 use Rattle.gx_machine.specs.Sets.{IsSetOf}
 use Rattle.gx_machine.proofs.SetsByTests.{set_of_a_test_that_agrees}
-use Rattle.gx_tree_laws.specs.Trees.{Tree}
-use Rattle.gx_engine_laws.specs.Slots.{slot_at}
-use Rattle.gx_engine_laws.specs.Engines.{IsSame, last_number}
-use Rattle.gx_engine_laws.specs.Events as events
-use Rattle.gx_engine_laws.specs.Events.{Event, IsEvent, IsDurable}
-use Rattle.gx_engine_laws.proofs.WhatStood.{event_stood}
+use Rattle.gx_node.specs.Trees.{Tree}
+use Rattle.gx_events.specs.Slots.{slot_at}
+use Rattle.gx_events.specs.Engines.{IsSame, last_number}
+use Rattle.gx_events.specs.Events as events
+use Rattle.gx_events.specs.Events.{Event, IsEvent, IsDurable}
+use Rattle.gx_events.proofs.WhatStood.{event_stood}
 use Rattle.gx_recovery.specs.Known.{Known}
 use Rattle.gx_recovery.specs.Records.{Record, settled, any_number}
 use Rattle.gx_recovery.specs.Analysis.{analysis, lists}

@@ -4,25 +4,25 @@ use Rattle.std.specs.Prelude.{nat_lt, ◌==◌, if◌then◌else◌}
 use Rattle.std.proofs.lemmas.Bool.{cases_eq, lt-ltb, ltb-true}
 use Rattle.std.proofs.lemmas.List.{append-nil, append_assoc}
 use Rattle.gx_machine.specs.declared.entry.Entry.{Entry}
-use Rattle.gx_tree_laws.specs.Lists.{one_if}
-use Rattle.gx_tree_laws.specs.Trees.{Pair, Child, Node, Tree, Used, size, times, child_pages, walk, standing}
-use Rattle.gx_tree_laws.specs.Legal.{Linked, Legal}
-use Rattle.gx_tree_laws.specs.Steps.{ChangesOnly, with_key, with_mark, spares, Step, Splits, SplitsRoot, Widens, Adds, Marks, Sweeps, IsStep}
-use Rattle.gx_tree_laws.specs.Reach.{TraversalItem}
-use Rattle.gx_tree_laws.specs.Looks.{IsLook}
-use Rattle.gx_tree_laws.specs.Writes.{is_sweepable, has_place, must_restart, levels_left, descent_left}
-use Rattle.gx_tree_laws.proofs.Chains.{one_at, one_off, pages_with_key, length_with_key, length_after, linked_once}
-use Rattle.gx_tree_laws.proofs.Splits.{walk_split}
-use Rattle.gx_tree_laws.proofs.Roots.{walk_root}
-use Rattle.gx_tree_laws.proofs.Changes.{level_kept, nsn_kept, pages_kept, walk_kept}
-use Rattle.gx_tree_laws.proofs.PageSteps.{standing_widened, standing_swept_plain}
-use Rattle.gx_tree_laws.proofs.Levels.{level_most}
-use Rattle.gx_tree_laws.proofs.Bounds.{ahead_add}
-use Rattle.gx_tree_laws.proofs.SplitReach.{ahead_split}
-use Rattle.gx_tree_laws.proofs.RootReach.{ahead_root}
-use Rattle.gx_tree_laws.proofs.ChangeReach.{ahead_kept}
-use Rattle.gx_tree_laws.proofs.DescentFalls.{others_split_falls, others_root_split_falls}
-use Rattle.gx_engine_laws.specs.Slots.{Slot, Free, Working, Undoing, Waiting, slot_at}
+use Rattle.gx_node.specs.Lists.{one_if}
+use Rattle.gx_node.specs.Trees.{Pair, Child, Node, Tree, Used, size, times, child_pages, walk, standing}
+use Rattle.gx_node.specs.Legal.{Linked, Legal}
+use Rattle.gx_node.specs.Steps.{ChangesOnly, with_key, with_mark, spares, Step, Splits, SplitsRoot, Widens, Adds, Marks, Sweeps, IsStep}
+use Rattle.gx_node.specs.Reach.{TraversalItem}
+use Rattle.gx_node.specs.Looks.{IsLook}
+use Rattle.gx_node.specs.Writes.{is_sweepable, has_place, must_restart, levels_left, descent_left}
+use Rattle.gx_node.proofs.Chains.{one_at, one_off, pages_with_key, length_with_key, length_after, linked_once}
+use Rattle.gx_node.proofs.Splits.{walk_split}
+use Rattle.gx_node.proofs.Roots.{walk_root}
+use Rattle.gx_node.proofs.Changes.{level_kept, nsn_kept, pages_kept, walk_kept}
+use Rattle.gx_node.proofs.PageSteps.{standing_widened, standing_swept_plain}
+use Rattle.gx_node.proofs.Levels.{level_most}
+use Rattle.gx_node.proofs.Bounds.{ahead_add}
+use Rattle.gx_node.proofs.SplitReach.{ahead_split}
+use Rattle.gx_node.proofs.RootReach.{ahead_root}
+use Rattle.gx_node.proofs.ChangeReach.{ahead_kept}
+use Rattle.gx_node.proofs.DescentFalls.{others_split_falls, others_root_split_falls}
+use Rattle.gx_events.specs.Slots.{Slot, Free, Working, Undoing, Waiting, slot_at}
 use Rattle.gx_recovery.specs.Known.{Known}
 use Rattle.gx_recovery.specs.Records.{Record}
 use Rattle.gx_recovery.specs.Redo.{tree_of}

@@ -13,24 +13,24 @@ use Rattle.gx_machine.specs.Sets.{has}
 use Rattle.gx_machine.specs.Sessions.{Locks}
 use Rattle.gx_machine.specs.Machine.{is_session}
 use Rattle.gx_machine.proofs.SetLaws.{same_is}
-use Rattle.gx_tree_laws.specs.Lists.{one_if, how_many}
-use Rattle.gx_tree_laws.specs.Trees.{Pair, Tree, Used, size, child_pages, times}
-use Rattle.gx_tree_laws.specs.Legal.{Legal}
-use Rattle.gx_tree_laws.specs.Steps.{IsSplit, IsRootSplit, IsWidening, IsSweep}
-use Rattle.gx_tree_laws.specs.Reach.{TraversalItem, pages_ahead}
-use Rattle.gx_tree_laws.specs.Looks.{IsLook, from_root, stacked}
-use Rattle.gx_tree_laws.specs.Writes.{is_sweepable, must_restart, levels_left, descent_left}
-use Rattle.gx_tree_laws.proofs.Bounds.{pages_most}
-use Rattle.gx_tree_laws.proofs.Chains.{length_walk}
-use Rattle.gx_tree_laws.proofs.DescentFalls.{restart_falls, down_falls, widened_falls, swept_falls, split_falls, root_split_falls}
-use Rattle.gx_tree_laws.proofs.Levels.{level_below_used, standing_most}
-use Rattle.gx_tree_laws.proofs.OwnLook.{pages_fall}
-use Rattle.gx_tree_laws.proofs.SeekSteps.{seek_goes_right}
-use Rattle.gx_engine_laws.specs.Slots.{Note, Slot, Free, Working, Undoing, Waiting, locks_held, slot_at, noted}
-use Rattle.gx_engine_laws.specs.Engines.{HoldsItsLocks}
-use Rattle.gx_engine_laws.specs.Asking.{claims_held}
-use Rattle.gx_engine_laws.proofs.Noted.{noted_has}
-use Rattle.gx_engine_laws.proofs.Locking.{noted_is_claimed}
+use Rattle.gx_node.specs.Lists.{one_if, how_many}
+use Rattle.gx_node.specs.Trees.{Pair, Tree, Used, size, child_pages, times}
+use Rattle.gx_node.specs.Legal.{Legal}
+use Rattle.gx_node.specs.Steps.{IsSplit, IsRootSplit, IsWidening, IsSweep}
+use Rattle.gx_node.specs.Reach.{TraversalItem, pages_ahead}
+use Rattle.gx_node.specs.Looks.{IsLook, from_root, stacked}
+use Rattle.gx_node.specs.Writes.{is_sweepable, must_restart, levels_left, descent_left}
+use Rattle.gx_node.proofs.Bounds.{pages_most}
+use Rattle.gx_node.proofs.Chains.{length_walk}
+use Rattle.gx_node.proofs.DescentFalls.{restart_falls, down_falls, widened_falls, swept_falls, split_falls, root_split_falls}
+use Rattle.gx_node.proofs.Levels.{level_below_used, standing_most}
+use Rattle.gx_node.proofs.OwnLook.{pages_fall}
+use Rattle.gx_node.proofs.SeekSteps.{seek_goes_right}
+use Rattle.gx_events.specs.Slots.{Note, Slot, Free, Working, Undoing, Waiting, locks_held, slot_at, noted}
+use Rattle.gx_events.specs.Engines.{HoldsItsLocks}
+use Rattle.gx_events.specs.Asking.{claims_held}
+use Rattle.gx_events.proofs.Noted.{noted_has}
+use Rattle.gx_events.proofs.Locking.{noted_is_claimed}
 use Rattle.gx_recovery.specs.Known.{Known}
 use Rattle.gx_recovery.specs.Records.{Record}
 use Rattle.gx_recovery.specs.Analysis.{analysis}

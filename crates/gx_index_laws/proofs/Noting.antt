@@ -4,9 +4,9 @@ use Rattle.std.specs.Prelude.{is_some, option_map, ◌==◌}
 use Rattle.gx_machine.specs.declared.entry.Entry.{Entry}
 use Rattle.gx_machine.specs.Sets.{has}
 use Rattle.gx_machine.specs.Sessions.{Locks}
-use Rattle.gx_engine_laws.specs.Slots.{Note, Slot, Undoing, notes_kept, slot_at, entries_of, noted}
-use Rattle.gx_engine_laws.specs.Wants.{slot_wants}
-use Rattle.gx_engine_laws.proofs.Noted.{noted_has}
+use Rattle.gx_events.specs.Slots.{Note, Slot, Undoing, notes_kept, slot_at, entries_of, noted}
+use Rattle.gx_events.specs.Wants.{slot_wants}
+use Rattle.gx_events.proofs.Noted.{noted_has}
 use Rattle.gx_recovery.specs.Known.{Known, same}
 use Rattle.gx_recovery.specs.Records.{Touch, settled, any_number}
 use Rattle.gx_recovery.specs.Analysis.{analysis, lists}

@@ -6,8 +6,8 @@ use Rattle.std.specs.Cmp.{nat_eq_equiv}
 use Rattle.std.proofs.Math.Path.{fun_ext}
 use Rattle.std.proofs.lemmas.Bool.{eqb-true}
 use Rattle.std.proofs.lemmas.List.Sums.{sum_by-cons}
-use Rattle.gx_tree_laws.specs.Lists.{sum_over, one_if}
-use Rattle.gx_tree_laws.proofs.Sums.{sum_over_add}
+use Rattle.gx_node.specs.Lists.{sum_over, one_if}
+use Rattle.gx_node.proofs.Sums.{sum_over_add}
 use Rattle.gx_recovery.specs.Records.{Touch}
 use Rattle.gx_recovery.specs.Damage.{transactions}
 use Rattle.gx_recovery.proofs.Tests.{true_or_false, either_of, or_second, or_none_first, or_none_second, itself}

@@ -9,17 +9,17 @@ use Rattle.gx_machine.specs.Sets.{has}
 use Rattle.gx_machine.specs.Sessions.{Locks}
 use Rattle.gx_machine.specs.Machine.{is_session}
 use Rattle.gx_machine.proofs.Places.{session_bounds}
-use Rattle.gx_tree_laws.specs.Lists.{one_if, how_many}
-use Rattle.gx_tree_laws.specs.Trees.{Pair, Tree, Used}
-use Rattle.gx_tree_laws.specs.Legal.{Legal}
-use Rattle.gx_tree_laws.specs.Steps.{IsAdding, IsMarking, with_mark, Step, Adds, Marks, IsStep}
-use Rattle.gx_tree_laws.specs.Reach.{TraversalItem}
-use Rattle.gx_tree_laws.specs.Writes.{is_sweepable, descent_left}
-use Rattle.gx_tree_laws.proofs.PageSteps.{standing_added, standing_one_marked}
-use Rattle.gx_engine_laws.specs.Slots.{Note, Slot, Free, Working, Undoing, Waiting, locks_held, slot_at, with_slot}
-use Rattle.gx_engine_laws.specs.Wants.{is_claimed}
-use Rattle.gx_engine_laws.proofs.Places.{slot_other}
-use Rattle.gx_engine_laws.proofs.Standing.{working_there}
+use Rattle.gx_node.specs.Lists.{one_if, how_many}
+use Rattle.gx_node.specs.Trees.{Pair, Tree, Used}
+use Rattle.gx_node.specs.Legal.{Legal}
+use Rattle.gx_node.specs.Steps.{IsAdding, IsMarking, with_mark, Step, Adds, Marks, IsStep}
+use Rattle.gx_node.specs.Reach.{TraversalItem}
+use Rattle.gx_node.specs.Writes.{is_sweepable, descent_left}
+use Rattle.gx_node.proofs.PageSteps.{standing_added, standing_one_marked}
+use Rattle.gx_events.specs.Slots.{Note, Slot, Free, Working, Undoing, Waiting, locks_held, slot_at, with_slot}
+use Rattle.gx_events.specs.Wants.{is_claimed}
+use Rattle.gx_events.proofs.Places.{slot_other}
+use Rattle.gx_events.proofs.Standing.{working_there}
 use Rattle.gx_recovery.specs.Records.{Record}
 use Rattle.gx_index_laws.specs.Classes.{Class, Page, IsLawful, entry_of, is_of}
 use Rattle.gx_index_laws.specs.States.{State, Work, Rests, Looks, Descends, Seeks, tree_now, engine_of}

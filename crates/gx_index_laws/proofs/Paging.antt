@@ -3,14 +3,14 @@ use Rattle.std.proofs.Common.{◌≡◌, ℕ, ◌≤◌, Bool, true, false, not,
 use Rattle.std.specs.Prelude.{is_some, option_map, ◌==◌}
 use Rattle.std.specs.List.{list_all}
 use Rattle.gx_machine.specs.declared.entry.Entry.{Entry}
-use Rattle.gx_tree_laws.specs.Trees.{Tree, Rules}
-use Rattle.gx_tree_laws.specs.Legal.{Legal}
-use Rattle.gx_tree_laws.specs.Steps.{Step, Splits, SplitsRoot, Widens, Adds, Marks, Sweeps, IsStep, LeavesAlone}
-use Rattle.gx_tree_laws.proofs.AllSteps.{legal_step}
-use Rattle.gx_engine_laws.specs.Slots.{slot_at}
-use Rattle.gx_engine_laws.specs.Events as events
-use Rattle.gx_engine_laws.specs.Wants.{is_claimed}
-use Rattle.gx_engine_laws.specs.Engines.{IsSame}
+use Rattle.gx_node.specs.Trees.{Tree, Rules}
+use Rattle.gx_node.specs.Legal.{Legal}
+use Rattle.gx_node.specs.Steps.{Step, Splits, SplitsRoot, Widens, Adds, Marks, Sweeps, IsStep, LeavesAlone}
+use Rattle.gx_node.proofs.AllSteps.{legal_step}
+use Rattle.gx_events.specs.Slots.{slot_at}
+use Rattle.gx_events.specs.Events as events
+use Rattle.gx_events.specs.Wants.{is_claimed}
+use Rattle.gx_events.specs.Engines.{IsSame}
 use Rattle.gx_recovery.specs.Known.{Known}
 use Rattle.gx_recovery.specs.Records.{Image, Change, Record, Pages, Adjust, Touch, touch_of, closes, settled, any_number}
 use Rattle.gx_recovery.specs.Analysis.{Analysis, analysis, read, lists}

@@ -2,12 +2,12 @@
 use Rattle.std.proofs.Common.{◌≡◌, ◌≢◌, ℕ, Bool, true, false, List, [], refl, ap, sym, ◌∙◌, subst}
 use Rattle.gx_machine.specs.declared.entry.Entry.{Entry}
 use Rattle.gx_machine.specs.Machine.{is_session}
-use Rattle.gx_engine_laws.specs.Slots.{Slot, Free, Working, Undoing, Waiting, notes_kept, slot_at, with_slot, noted}
-use Rattle.gx_engine_laws.specs.Events.{Event, IsEvent}
-use Rattle.gx_engine_laws.specs.Engines.{Engine, IsSame}
-use Rattle.gx_engine_laws.specs.Kinds.{changes_what_stood}
-use Rattle.gx_engine_laws.specs.Events as events
-use Rattle.gx_engine_laws.proofs.Places.{slot_same, slot_other}
+use Rattle.gx_events.specs.Slots.{Slot, Free, Working, Undoing, Waiting, notes_kept, slot_at, with_slot, noted}
+use Rattle.gx_events.specs.Events.{Event, IsEvent}
+use Rattle.gx_events.specs.Engines.{Engine, IsSame}
+use Rattle.gx_events.specs.Kinds.{changes_what_stood}
+use Rattle.gx_events.specs.Events as events
+use Rattle.gx_events.proofs.Places.{slot_same, slot_other}
 use Rattle.gx_index_laws.specs.Classes.{Class, IsLawful, is_live}
 use Rattle.gx_index_laws.specs.States.{State, Work, tree_now, engine_of}
 use Rattle.gx_index_laws.specs.Working.{DoesWork, AreRestored}

@@ -7,13 +7,13 @@ use Rattle.gx_machine.specs.declared.limits.TheConstants.{SESSIONS}
 use Rattle.gx_machine.specs.declared.entry.Entry.{Entry}
 use Rattle.gx_machine.specs.Sets.{has, IsSetOf}
 use Rattle.gx_machine.proofs.SetLaws.{entry_total, entry_exact}
-use Rattle.gx_engine_laws.specs.Slots.{Slot, Free, noted_in}
-use Rattle.gx_engine_laws.specs.Engines as engines
-use Rattle.gx_engine_laws.specs.Engines.{Engine, SeenAs, last_number, stood, sessions_of, opened_machine}
-use Rattle.gx_engine_laws.specs.Events.{Event, Opens, IsEvent}
-use Rattle.gx_engine_laws.specs.Runs.{AreEvents}
-use Rattle.gx_engine_laws.specs.Losers.{IsReopened}
-use Rattle.gx_engine_laws.proofs.EventRuns.{run_follows}
+use Rattle.gx_events.specs.Slots.{Slot, Free, noted_in}
+use Rattle.gx_events.specs.Engines as engines
+use Rattle.gx_events.specs.Engines.{Engine, SeenAs, last_number, stood, sessions_of, opened_machine}
+use Rattle.gx_events.specs.Events.{Event, Opens, IsEvent}
+use Rattle.gx_events.specs.Runs.{AreEvents}
+use Rattle.gx_events.specs.Losers.{IsReopened}
+use Rattle.gx_events.proofs.EventRuns.{run_follows}
 use Rattle.gx_recovery.specs.Known as known
 use Rattle.gx_recovery.specs.Known.{Known}
 use Rattle.gx_recovery.specs.Records.{Record}

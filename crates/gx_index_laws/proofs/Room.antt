@@ -9,8 +9,8 @@ use Rattle.std.proofs.Math.Decide.{ℕ_discrete}
 use Rattle.gx_machine.specs.declared.entry.Entry.{Entry}
 use Rattle.gx_machine.specs.Machine.{is_session}
 use Rattle.gx_machine.proofs.Places.{session_bounds}
-use Rattle.gx_engine_laws.specs.Slots.{Slot, Free, locks_held, slot_at}
-use Rattle.gx_engine_laws.specs.Asking.{claims_held}
+use Rattle.gx_events.specs.Slots.{Slot, Free, locks_held, slot_at}
+use Rattle.gx_events.specs.Asking.{claims_held}
 use Rattle.gx_recovery.specs.Known.{Known, IsLawful, same}
 use Rattle.gx_recovery.specs.Records.{Touch}
 use Rattle.gx_recovery.specs.Damage.{transactions}
@@ -18,7 +18,7 @@ use Rattle.gx_recovery.specs.Coming.{HasRoom}
 use Rattle.gx_recovery.proofs.Tests.{true_or_false, and_first, and_second, either_of, or_second, or_none_first, or_none_second}
 use Rattle.gx_recovery.proofs.Logs.{and_all}
 use Rattle.gx_recovery.proofs.Touches.{Before, InOrder, same_is, apart_if_less}
-use Rattle.gx_tree_laws.specs.Lists.{Each}
+use Rattle.gx_node.specs.Lists.{Each}
 use Rattle.gx_index_laws.proofs.Tools.{not_true}
 
 or_first : (a b : Bool) → a ≡ true → (a || b) ≡ true

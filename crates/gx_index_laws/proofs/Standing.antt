@@ -7,15 +7,15 @@ use Rattle.gx_machine.specs.declared.entry.Entry.{Entry}
 use Rattle.gx_machine.specs.Sets.{has}
 use Rattle.gx_machine.specs.Machine.{is_session}
 use Rattle.gx_machine.proofs.SetLaws.{entry_total, entry_exact}
-use Rattle.gx_tree_laws.specs.Lists.{Each}
-use Rattle.gx_tree_laws.specs.Legal.{Legal}
-use Rattle.gx_tree_laws.specs.Steps.{Step, IsStep, LeavesAlone}
-use Rattle.gx_tree_laws.proofs.SeekSteps.{seek_step}
-use Rattle.gx_engine_laws.specs.Slots.{Slot, Free, locks_held, notes_kept, slot_at}
-use Rattle.gx_engine_laws.specs.Wants.{is_claimed}
-use Rattle.gx_engine_laws.proofs.Noted.{noted_has}
-use Rattle.gx_engine_laws.proofs.Places.{is_there}
-use Rattle.gx_engine_laws.proofs.Locking.{noted_is_claimed, claim_bars, not_claimed_elsewhere}
+use Rattle.gx_node.specs.Lists.{Each}
+use Rattle.gx_node.specs.Legal.{Legal}
+use Rattle.gx_node.specs.Steps.{Step, IsStep, LeavesAlone}
+use Rattle.gx_node.proofs.SeekSteps.{seek_step}
+use Rattle.gx_events.specs.Slots.{Slot, Free, locks_held, notes_kept, slot_at}
+use Rattle.gx_events.specs.Wants.{is_claimed}
+use Rattle.gx_events.proofs.Noted.{noted_has}
+use Rattle.gx_events.proofs.Places.{is_there}
+use Rattle.gx_events.proofs.Locking.{noted_is_claimed, claim_bars, not_claimed_elsewhere}
 use Rattle.gx_recovery.specs.Known as known
 use Rattle.gx_recovery.specs.Known.{Known, same}
 use Rattle.gx_recovery.specs.Records.{Record, Touch, settled, any_number}

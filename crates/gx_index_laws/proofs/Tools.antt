@@ -3,10 +3,10 @@ use Rattle.std.proofs.Common.{◌≡◌, ◌≢◌, ℕ, ◌+◌, ◌<◌, ◌�
 use Rattle.std.specs.Prelude.{if◌then◌else◌}
 use Rattle.std.proofs.lemmas.Bool.{eq-eqb, ne_eqb}
 use Rattle.std.proofs.Math.Decide.{ℕ_discrete}
-use Rattle.gx_tree_laws.specs.Lists.{sum_over, one_if, how_many}
-use Rattle.gx_tree_laws.specs.Trees.{times}
-use Rattle.gx_tree_laws.proofs.Sums.{sum_over_add, sum_over_same, each_always}
-use Rattle.gx_tree_laws.proofs.Chains.{one_off}
+use Rattle.gx_node.specs.Lists.{sum_over, one_if, how_many}
+use Rattle.gx_node.specs.Trees.{times}
+use Rattle.gx_node.proofs.Sums.{sum_over_add, sum_over_same, each_always}
+use Rattle.gx_node.proofs.Chains.{one_off}
 use Rattle.gx_recovery.proofs.Tests.{true_or_false}
 use Rattle.gx_index_laws.specs.Happening.{changed_at}
 

@@ -11,12 +11,12 @@ use Rattle.gx_machine.specs.Keys.{Keys, same_entry, entry_cmp}
 use Rattle.gx_machine.specs.Sets.{has}
 use Rattle.gx_machine.specs.Machine.{is_session}
 use Rattle.gx_machine.proofs.Places.{session_bounds}
-use Rattle.gx_tree_laws.specs.Lists.{sum_over}
-use Rattle.gx_engine_laws.specs.Slots.{Note, notes_kept, entries_of, noted, noted_in}
-use Rattle.gx_engine_laws.specs.Asking.{claims_held}
-use Rattle.gx_engine_laws.specs.Losers.{loser_slot, loser_at, AreLosers}
-use Rattle.gx_engine_laws.proofs.Claims.{losers_hold}
-use Rattle.gx_engine_laws.proofs.Noted.{noted_has}
+use Rattle.gx_node.specs.Lists.{sum_over}
+use Rattle.gx_events.specs.Slots.{Note, notes_kept, entries_of, noted, noted_in}
+use Rattle.gx_events.specs.Asking.{claims_held}
+use Rattle.gx_events.specs.Losers.{loser_slot, loser_at, AreLosers}
+use Rattle.gx_events.proofs.Claims.{losers_hold}
+use Rattle.gx_events.proofs.Noted.{noted_has}
 use Rattle.gx_recovery.specs.Known.{Known, same}
 use Rattle.gx_recovery.specs.Records.{Touch}
 use Rattle.gx_recovery.specs.Analysis.{lists}

@@ -5,10 +5,10 @@ use Rattle.std.specs.List.{list_any, slice_index_or}
 use Rattle.gx_machine.specs.declared.entry.Entry.{Entry}
 use Rattle.gx_machine.specs.Sets.{has}
 use Rattle.gx_machine.specs.Machine.{is_session}
-use Rattle.gx_tree_laws.specs.Trees.{Pair, Tree, standing}
-use Rattle.gx_tree_laws.specs.Writes.{is_sweepable}
-use Rattle.gx_engine_laws.specs.Slots.{Slot, Free, Working, Undoing, Waiting, locks_held, slot_at, with_slot}
-use Rattle.gx_engine_laws.proofs.Places.{slot_other}
+use Rattle.gx_node.specs.Trees.{Pair, Tree, standing}
+use Rattle.gx_node.specs.Writes.{is_sweepable}
+use Rattle.gx_events.specs.Slots.{Slot, Free, Working, Undoing, Waiting, locks_held, slot_at, with_slot}
+use Rattle.gx_events.proofs.Places.{slot_other}
 use Rattle.gx_recovery.proofs.Tests.{either_of, or_second}
 use Rattle.gx_index_laws.specs.Classes.{Class, IsLawful, entry_of}
 use Rattle.gx_index_laws.specs.States.{State, Work, Rests, Looks, Descends, Seeks, tree_now}

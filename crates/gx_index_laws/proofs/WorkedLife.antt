@@ -16,16 +16,16 @@ use Rattle.gx_machine.specs.Keys.{same_entry}
 use Rattle.gx_machine.specs.Sets.{IsSetOf}
 use Rattle.gx_machine.specs.Worked.{number_keys}
 use Rattle.gx_machine.proofs.SetsByTests.{set_of_a_test_that_agrees}
-use Rattle.gx_tree_laws.specs.Lists.{Each}
-use Rattle.gx_tree_laws.specs.Trees.{Pair, Child, Tree, Used, size, standing, is_entry}
-use Rattle.gx_tree_laws.specs.Steps.{node_with, EntriesCover, ChangesOnly, IsSplit, IsAdding, IsMarking, Splits}
-use Rattle.gx_tree_laws.specs.Looks.{LeadsTo}
-use Rattle.gx_tree_laws.proofs.Sums.{each_always}
-use Rattle.gx_engine_laws.specs.Slots.{Note, slot_at, noted, WithNote}
-use Rattle.gx_engine_laws.specs.Engines.{stood}
-use Rattle.gx_engine_laws.specs.Events.{Event, Asks, Inserts, Finds, Seals, Durable, Acknowledges, Undoes, EndsUndo, Opens, Works}
-use Rattle.gx_engine_laws.specs.Kinds.{changes_what_stood}
-use Rattle.gx_engine_laws.proofs.WhatStood.{event_stood}
+use Rattle.gx_node.specs.Lists.{Each}
+use Rattle.gx_node.specs.Trees.{Pair, Child, Tree, Used, size, standing, is_entry}
+use Rattle.gx_node.specs.Steps.{node_with, EntriesCover, ChangesOnly, IsSplit, IsAdding, IsMarking, Splits}
+use Rattle.gx_node.specs.Looks.{LeadsTo}
+use Rattle.gx_node.proofs.Sums.{each_always}
+use Rattle.gx_events.specs.Slots.{Note, slot_at, noted, WithNote}
+use Rattle.gx_events.specs.Engines.{stood}
+use Rattle.gx_events.specs.Events.{Event, Asks, Inserts, Finds, Seals, Durable, Acknowledges, Undoes, EndsUndo, Opens, Works}
+use Rattle.gx_events.specs.Kinds.{changes_what_stood}
+use Rattle.gx_events.proofs.WhatStood.{event_stood}
 use Rattle.gx_recovery.specs.Records.{Image, Whole}
 use Rattle.gx_recovery.specs.Redo.{with_page, redone}
 use Rattle.gx_recovery.specs.Logged.{all_records, IsLeft}

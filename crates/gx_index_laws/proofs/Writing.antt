@@ -6,14 +6,14 @@ use Rattle.std.proofs.lemmas.Bool.{eqb-true, eq-eqb, ne_eqb, lt-ltb, le-leb}
 use Rattle.gx_machine.specs.declared.entry.Entry.{Entry}
 use Rattle.gx_machine.specs.Keys.{same_entry}
 use Rattle.gx_machine.specs.Sets.{has}
-use Rattle.gx_tree_laws.specs.Trees.{Tree, Used}
-use Rattle.gx_tree_laws.specs.Legal.{Legal}
-use Rattle.gx_tree_laws.specs.Steps.{Step, IsStep, LeavesAlone}
-use Rattle.gx_tree_laws.specs.Writes.{IsSeek}
-use Rattle.gx_tree_laws.proofs.AllSteps.{legal_step}
-use Rattle.gx_engine_laws.specs.Slots.{Slot, Free, Working, Undoing, Waiting, locks_held, notes_kept, slot_at, entries_of, noted}
-use Rattle.gx_engine_laws.proofs.Noted.{has_noted}
-use Rattle.gx_engine_laws.proofs.Locking.{noted_is_claimed}
+use Rattle.gx_node.specs.Trees.{Tree, Used}
+use Rattle.gx_node.specs.Legal.{Legal}
+use Rattle.gx_node.specs.Steps.{Step, IsStep, LeavesAlone}
+use Rattle.gx_node.specs.Writes.{IsSeek}
+use Rattle.gx_node.proofs.AllSteps.{legal_step}
+use Rattle.gx_events.specs.Slots.{Slot, Free, Working, Undoing, Waiting, locks_held, notes_kept, slot_at, entries_of, noted}
+use Rattle.gx_events.proofs.Noted.{has_noted}
+use Rattle.gx_events.proofs.Locking.{noted_is_claimed}
 use Rattle.gx_recovery.specs.Known.{Known, same}
 use Rattle.gx_recovery.specs.Records.{Said, Record, Write, Touch, settled, any_number}
 use Rattle.gx_recovery.specs.Analysis.{Analysis, analysis, touching, lists}

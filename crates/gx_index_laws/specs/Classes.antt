@@ -4,11 +4,11 @@ use Rattle.std.specs.Ordering.{is_eq}
 use Rattle.gx_machine.specs.declared.entry.Entry.{Entry}
 use Rattle.gx_machine.specs.Keys as keys
 use Rattle.gx_machine.specs.Keys.{Keys, entry_cmp}
-use Rattle.gx_tree_laws.specs.Trees as trees
-use Rattle.gx_tree_laws.specs.Trees.{Pair, Node, Tree, Rules, standing, is_entry}
-use Rattle.gx_tree_laws.specs.Legal.{Legal}
-use Rattle.gx_tree_laws.specs.Writes.{IsSeek}
-use Rattle.gx_engine_laws.specs.Wants as wants
+use Rattle.gx_node.specs.Trees as trees
+use Rattle.gx_node.specs.Trees.{Pair, Node, Tree, Rules, standing, is_entry}
+use Rattle.gx_node.specs.Legal.{Legal}
+use Rattle.gx_node.specs.Writes.{IsSeek}
+use Rattle.gx_events.specs.Wants as wants
 use Rattle.gx_recovery.specs.Known as known
 use Rattle.gx_recovery.specs.Known.{Known}
 

@@ -5,12 +5,12 @@ use Rattle.gx_machine.specs.declared.call.Call.{Call}
 use Rattle.gx_machine.specs.declared.call.Call.TheVariants.{Begin, Insert, Delete, Search, Commit, Abort}
 use Rattle.gx_machine.specs.Sessions.{no_locks}
 use Rattle.gx_machine.specs.Machine.{Machine}
-use Rattle.gx_tree_laws.specs.Trees.{Tree}
-use Rattle.gx_tree_laws.specs.Looks.{from_root}
-use Rattle.gx_engine_laws.specs.Slots.{Slot, Working, with_slot}
-use Rattle.gx_engine_laws.specs.Engines.{SeenAs}
-use Rattle.gx_engine_laws.specs.Events.{Event, IsEvent, step_of}
-use Rattle.gx_engine_laws.specs.Runs.{RunsAs}
+use Rattle.gx_node.specs.Trees.{Tree}
+use Rattle.gx_node.specs.Looks.{from_root}
+use Rattle.gx_events.specs.Slots.{Slot, Working, with_slot}
+use Rattle.gx_events.specs.Engines.{SeenAs}
+use Rattle.gx_events.specs.Events.{Event, IsEvent, step_of}
+use Rattle.gx_events.specs.Runs.{RunsAs}
 use Rattle.gx_recovery.specs.Records.{Said, Record, Write}
 use Rattle.gx_recovery.specs.Coming.{MayCome}
 use Rattle.gx_recovery.specs.Logged.{all_records, appended}

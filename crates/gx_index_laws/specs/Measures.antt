@@ -3,12 +3,12 @@ use Rattle.std.specs.Prelude.{ℕ, ◌+◌, ◌-◌, ◌*◌, Bool, not, ◌&&�
 use Rattle.gx_machine.specs.declared.entry.Entry.{Entry}
 use Rattle.gx_machine.specs.Keys.{Keys}
 use Rattle.gx_machine.specs.Sets.{has}
-use Rattle.gx_tree_laws.specs.Lists.{how_many}
-use Rattle.gx_tree_laws.specs.Trees.{Pair, Tree}
-use Rattle.gx_tree_laws.specs.Reach.{TraversalItem, pages_ahead}
-use Rattle.gx_tree_laws.specs.Writes.{leaves_left, descent_left}
-use Rattle.gx_engine_laws.specs.Slots.{Note, Slot, Free, Working, Undoing, Waiting, slot_at, noted}
-use Rattle.gx_engine_laws.specs.Wants.{is_claimed}
+use Rattle.gx_node.specs.Lists.{how_many}
+use Rattle.gx_node.specs.Trees.{Pair, Tree}
+use Rattle.gx_node.specs.Reach.{TraversalItem, pages_ahead}
+use Rattle.gx_node.specs.Writes.{leaves_left, descent_left}
+use Rattle.gx_events.specs.Slots.{Note, Slot, Free, Working, Undoing, Waiting, slot_at, noted}
+use Rattle.gx_events.specs.Wants.{is_claimed}
 use Rattle.gx_index_laws.specs.Classes.{Class, entry_of}
 use Rattle.gx_index_laws.specs.States.{State, Work, Rests, Looks, Descends, Seeks, tree_now}
 

@@ -5,9 +5,9 @@ use Rattle.std.specs.List.{list_any, slice_index_or, filter}
 use Rattle.gx_machine.specs.declared.entry.Entry.{Entry}
 use Rattle.gx_machine.specs.Sets.{IsSetOf}
 use Rattle.gx_machine.specs.Machine.{Machine, newest, set_of}
-use Rattle.gx_engine_laws.specs.Slots.{Note}
-use Rattle.gx_engine_laws.specs.Events.{Event, Durable, Fails}
-use Rattle.gx_engine_laws.specs.Losers.{loser_slot, is_of_opening}
+use Rattle.gx_events.specs.Slots.{Note}
+use Rattle.gx_events.specs.Events.{Event, Durable, Fails}
+use Rattle.gx_events.specs.Losers.{loser_slot, is_of_opening}
 use Rattle.gx_recovery.specs.Records.{Record, Touch}
 use Rattle.gx_recovery.specs.Analysis.{analysis, number_of}
 use Rattle.gx_recovery.specs.Standing.{stands_for}

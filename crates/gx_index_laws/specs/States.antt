@@ -2,10 +2,10 @@
 use Rattle.std.specs.Prelude.{ℕ, Bool, false, replicate, List, [], ◌∷◌}
 use Rattle.gx_machine.specs.declared.limits.TheConstants.{SESSIONS}
 use Rattle.gx_machine.specs.declared.entry.Entry.{Entry}
-use Rattle.gx_tree_laws.specs.Trees.{Pair, Tree, fresh_node}
-use Rattle.gx_tree_laws.specs.Reach.{TraversalItem}
-use Rattle.gx_engine_laws.specs.Slots.{Slot, Free}
-use Rattle.gx_engine_laws.specs.Engines.{Engine}
+use Rattle.gx_node.specs.Trees.{Pair, Tree, fresh_node}
+use Rattle.gx_node.specs.Reach.{TraversalItem}
+use Rattle.gx_events.specs.Slots.{Slot, Free}
+use Rattle.gx_events.specs.Engines.{Engine}
 use Rattle.gx_recovery.specs.Records.{Counters}
 use Rattle.gx_recovery.specs.Redo.{tree_of}
 use Rattle.gx_recovery.specs.Logged.{Logged, all_records}

@@ -1,10 +1,10 @@
 -- The tree's steps by what the log and other sessions see of them.
 use Rattle.std.specs.Prelude.{◌≡◌, true, List}
 use Rattle.gx_machine.specs.declared.entry.Entry.{Entry}
-use Rattle.gx_tree_laws.specs.Trees.{Pair}
-use Rattle.gx_tree_laws.specs.Steps.{Step, Splits, SplitsRoot, Widens, Adds, Marks, Sweeps}
-use Rattle.gx_engine_laws.specs.Slots.{Slot}
-use Rattle.gx_engine_laws.specs.Wants.{is_claimed}
+use Rattle.gx_node.specs.Trees.{Pair}
+use Rattle.gx_node.specs.Steps.{Step, Splits, SplitsRoot, Widens, Adds, Marks, Sweeps}
+use Rattle.gx_events.specs.Slots.{Slot}
+use Rattle.gx_events.specs.Wants.{is_claimed}
 use Rattle.gx_index_laws.specs.Classes.{Class, entry_of}
 
 -- a step that belongs to no transaction: a split, a widening, a sweep

@@ -5,9 +5,9 @@ use Rattle.gx_machine.specs.declared.limits.TheConstants.{MAX_CLAIMS}
 use Rattle.gx_machine.specs.declared.entry.Entry.{Entry}
 use Rattle.gx_machine.specs.Sets.{IsSetOf}
 use Rattle.gx_machine.specs.Machine.{Machine}
-use Rattle.gx_engine_laws.specs.Slots.{Slot, Free, Working, Undoing, Waiting, notes_kept, slot_at, noted}
-use Rattle.gx_engine_laws.specs.Engines.{stood, SeenAs, IsSound}
-use Rattle.gx_engine_laws.specs.Asking.{claims_held}
+use Rattle.gx_events.specs.Slots.{Slot, Free, Working, Undoing, Waiting, notes_kept, slot_at, noted}
+use Rattle.gx_events.specs.Engines.{stood, SeenAs, IsSound}
+use Rattle.gx_events.specs.Asking.{claims_held}
 use Rattle.gx_recovery.specs.Records.{settled, any_number}
 use Rattle.gx_recovery.specs.Analysis.{analysis}
 use Rattle.gx_recovery.specs.Standing.{own_before}

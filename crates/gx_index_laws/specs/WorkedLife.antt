@@ -11,10 +11,10 @@ use Rattle.gx_machine.specs.declared.reply.Reply.TheVariants.{Ok}
 use Rattle.gx_machine.specs.declared.reply.Asked.TheVariants.{Now, Open}
 use Rattle.gx_machine.specs.Sessions.{Locks}
 use Rattle.gx_machine.specs.Worked.{number_keys}
-use Rattle.gx_tree_laws.specs.Trees.{Pair, Child}
-use Rattle.gx_tree_laws.specs.Reach.{TraversalItem}
-use Rattle.gx_engine_laws.specs.Slots.{Note, Free, Working, Waiting}
-use Rattle.gx_engine_laws.specs.Events.{Event, Asks, Inserts, Finds, Seals, Durable, Acknowledges, Undoes, EndsUndo, Opens, Works}
+use Rattle.gx_node.specs.Trees.{Pair, Child}
+use Rattle.gx_node.specs.Reach.{TraversalItem}
+use Rattle.gx_events.specs.Slots.{Note, Free, Working, Waiting}
+use Rattle.gx_events.specs.Events.{Event, Asks, Inserts, Finds, Seals, Durable, Acknowledges, Undoes, EndsUndo, Opens, Works}
 use Rattle.gx_recovery.specs.Records.{Whole, Record, Pages, Write, Commit, End}
 use Rattle.gx_recovery.specs.Logged.{begun, gate_synced}
 use Rattle.gx_index_laws.specs.Classes.{Class, Page}

@@ -5,12 +5,12 @@ use Rattle.gx_machine.specs.declared.call.Call.{Call}
 use Rattle.gx_machine.specs.declared.call.Call.TheVariants.{Insert}
 use Rattle.gx_machine.specs.Keys.{Keys}
 use Rattle.gx_machine.specs.Sets.{has}
-use Rattle.gx_tree_laws.specs.Trees.{Pair, Tree, Used}
-use Rattle.gx_tree_laws.specs.Reach.{TraversalItem}
-use Rattle.gx_tree_laws.specs.Looks.{IsLook}
-use Rattle.gx_tree_laws.specs.Writes.{IsDescent, IsSeek}
-use Rattle.gx_engine_laws.specs.Slots.{Slot, Free, Working, Undoing, Waiting, noted}
-use Rattle.gx_engine_laws.specs.Wants.{slot_wants}
+use Rattle.gx_node.specs.Trees.{Pair, Tree, Used}
+use Rattle.gx_node.specs.Reach.{TraversalItem}
+use Rattle.gx_node.specs.Looks.{IsLook}
+use Rattle.gx_node.specs.Writes.{IsDescent, IsSeek}
+use Rattle.gx_events.specs.Slots.{Slot, Free, Working, Undoing, Waiting, noted}
+use Rattle.gx_events.specs.Wants.{slot_wants}
 use Rattle.gx_index_laws.specs.Classes.{Class, pair_of}
 use Rattle.gx_index_laws.specs.States.{Work, Rests, Looks, Descends, Seeks}
 

@@ -3,9 +3,9 @@ ghost use Rattle.std.specs.Prelude.{◌≡◌, ◌≤◌, ◌-◌, ℕ, true, fa
 ghost use Rattle.std.specs.List.{list_all};
 ghost use Rattle.gx_geom.specs.declared.refusal.Refusal.TheVariants.{Device, Failed};
 ghost use Rattle.gx_machine.specs.declared.call.Call.{Call};
-ghost use Rattle.gx_tree_laws.specs.Steps.{Step, IsStep};
-ghost use Rattle.gx_engine_laws.specs.Slots.{slot_at, is_unanswered};
-ghost use Rattle.gx_engine_laws.specs.Events.{Durable, Works, Fails, RefusesAsk, RefusesCall};
+ghost use Rattle.gx_node.specs.Steps.{Step, IsStep};
+ghost use Rattle.gx_events.specs.Slots.{slot_at, is_unanswered};
+ghost use Rattle.gx_events.specs.Events.{Durable, Works, Fails, RefusesAsk, RefusesCall};
 ghost use Rattle.gx_recovery.specs.Analysis.{analysis};
 ghost use Rattle.gx_recovery.specs.Records.{Image, Change, Pages, Adjust};
 ghost use Rattle.gx_recovery.specs.Damage.{image_fits};

@@ -2,10 +2,10 @@
 //! in use: over trees that agree on those, entries are as live and sessions' work is as right.
 ghost use Rattle.std.specs.Prelude.{◌≡◌};
 ghost use Rattle.gx_machine.specs.declared.entry.Entry.{Entry};
-ghost use Rattle.gx_tree_laws.specs.Trees.{Tree};
-ghost use Rattle.gx_tree_laws.specs.Legal.{Legal};
-ghost use Rattle.gx_tree_laws.specs.Alike.{AgreeOnUsed};
-ghost use Rattle.gx_engine_laws.specs.Slots.{Slot};
+ghost use Rattle.gx_node.specs.Trees.{Tree};
+ghost use Rattle.gx_node.specs.Legal.{Legal};
+ghost use Rattle.gx_node.specs.Alike.{AgreeOnUsed};
+ghost use Rattle.gx_events.specs.Slots.{Slot};
 ghost use Rattle.gx_index_laws.specs.Classes.{Class, is_live};
 ghost use Rattle.gx_index_laws.specs.States.{Work};
 ghost use Rattle.gx_index_laws.specs.Working.{DoesWork};

@@ -1,9 +1,9 @@
 //! Events one after another.
 ghost use Rattle.std.specs.Prelude.{◌≤◌, List};
 ghost use Rattle.gx_machine.specs.Machine.{Machine, fresh_machine};
-ghost use Rattle.gx_engine_laws.specs.Engines.{SeenAs};
-ghost use Rattle.gx_engine_laws.specs.Events.{Event};
-ghost use Rattle.gx_engine_laws.specs.Runs.{steps_of, RunsAs};
+ghost use Rattle.gx_events.specs.Engines.{SeenAs};
+ghost use Rattle.gx_events.specs.Events.{Event};
+ghost use Rattle.gx_events.specs.Runs.{steps_of, RunsAs};
 ghost use Rattle.gx_index_laws.specs.Classes.{Class, IsLawful};
 ghost use Rattle.gx_index_laws.specs.States.{State, engine_of, fresh_state};
 ghost use Rattle.gx_index_laws.specs.Whole.{IsWhole};

@@ -2,8 +2,8 @@
 ghost use Rattle.std.specs.Prelude.{◌≡◌, ◌<◌, Some, true, false, replicate, [], ◌∷◌, length};
 ghost use Rattle.gx_machine.specs.declared.limits.TheConstants.{SESSIONS};
 ghost use Rattle.gx_machine.specs.declared.call.Call.TheVariants.{Search};
-ghost use Rattle.gx_tree_laws.specs.Steps.{IsStep, Splits};
-ghost use Rattle.gx_engine_laws.specs.Slots.{Free, Undoing, slot_at};
+ghost use Rattle.gx_node.specs.Steps.{IsStep, Splits};
+ghost use Rattle.gx_events.specs.Slots.{Free, Undoing, slot_at};
 ghost use Rattle.gx_recovery.specs.Standing.{stands_for};
 ghost use Rattle.gx_recovery.specs.Logged.{IsLeft};
 ghost use Rattle.gx_index_laws.specs.Classes.{IsLawful, known_of};

@@ -4,10 +4,10 @@ ghost use Rattle.std.specs.Prelude.{◌≡◌, ◌<◌, ℕ, Bool, true, false, 
 ghost use Rattle.gx_machine.specs.declared.entry.Entry.{Entry};
 ghost use Rattle.gx_machine.specs.declared.call.Call.TheVariants.{Insert, Delete};
 ghost use Rattle.gx_machine.specs.Sessions.{Locks};
-ghost use Rattle.gx_tree_laws.specs.Lists.{how_many};
-ghost use Rattle.gx_tree_laws.specs.Steps.{IsAdding, IsMarking};
-ghost use Rattle.gx_engine_laws.specs.Slots.{Note, Working, Undoing, slot_at, noted, WithNote};
-ghost use Rattle.gx_engine_laws.specs.Events.{Inserts, Deletes, Undoes};
+ghost use Rattle.gx_node.specs.Lists.{how_many};
+ghost use Rattle.gx_node.specs.Steps.{IsAdding, IsMarking};
+ghost use Rattle.gx_events.specs.Slots.{Note, Working, Undoing, slot_at, noted, WithNote};
+ghost use Rattle.gx_events.specs.Events.{Inserts, Deletes, Undoes};
 ghost use Rattle.gx_recovery.specs.Records.{Said};
 ghost use Rattle.gx_recovery.specs.Coming.{IsSaid};
 ghost use Rattle.gx_recovery.specs.Logged.{all_records};

@@ -23,6 +23,8 @@ mod plain_commands;
 #[cfg(test)]
 mod readings;
 #[cfg(test)]
+mod records;
+#[cfg(test)]
 mod scripts;
 #[cfg(test)]
 mod sessions;

@@ -1,6 +1,6 @@
 //! The readings of both classes.
 use gx_class::{Box2Class, IntervalClass};
-use gx_readings::laws::{bytes_are_read, what_stands_is_legal};
+use gx_durable::class_laws::{bytes_are_read, what_stands_is_legal};
 
 #[test]
 fn boxes_are_read() {

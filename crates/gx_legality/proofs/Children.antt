@@ -4,8 +4,8 @@ use Rattle.std.specs.Prelude.{if◌then◌else◌, slice_get}
 use Rattle.std.proofs.lemmas.Bool.{cases_eq, eqb-true, eq-eqb}
 use Rattle.gx_page.specs.Contents.{Contents}
 use Rattle.gx_node.specs.Reading.{Format, leaf_of, inner_of}
-use Rattle.gx_tree_laws.specs.Trees.{Child, Node, Tree, Rules, Used, size}
-use Rattle.gx_tree_laws.specs.Legal.{ChildFits, NodeFits, Bounds}
+use Rattle.gx_node.specs.Trees.{Child, Node, Tree, Rules, Used, size}
+use Rattle.gx_node.specs.Legal.{ChildFits, NodeFits, Bounds}
 use Rattle.gx_node.specs.Owner.{IsWhyLater}
 use Rattle.gx_node.specs.Store.{Store, node_of, node_at, tree_of}
 use Rattle.gx_node.proofs.Listed.{same_store}

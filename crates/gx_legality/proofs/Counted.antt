@@ -9,8 +9,8 @@ use Rattle.std.specs.declared.cmp.Ordering.{Ordering}
 use Rattle.std.specs.declared.cmp.Ordering.TheVariants.{Less, Equal, Greater}
 use Rattle.std.proofs.lemmas.List.Sums.{sum_by-cons}
 use Rattle.std.proofs.lemmas.List.Sorted.{sum_by-IsPermutation}
-use Rattle.gx_tree_laws.specs.Lists.{Each, sum_over, one_if}
-use Rattle.gx_tree_laws.proofs.Sums.{sum_over-append, each-append}
+use Rattle.gx_node.specs.Lists.{Each, sum_over, one_if}
+use Rattle.gx_node.proofs.Sums.{sum_over-append, each-append}
 use Rattle.gx_legality.specs.Gathered.{count, IsUpTo, Ascends, StandsTwice, Halves}
 
 module _ {E : Type 0} where

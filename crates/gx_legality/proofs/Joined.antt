@@ -1,7 +1,7 @@
 -- The parts of the test, joined.
 use Rattle.std.proofs.Common.{◌≡◌, ◌∙◌, inl, ℕ, suc, ◌<◌, ◌≤◌, Bool, List, [], length, Option, Result, Ok, Err, OnOk, arith, subst, sym}
-use Rattle.gx_tree_laws.specs.Legal.{Legal, Linked, NodeFits}
-use Rattle.gx_tree_laws.specs.Trees.{Tree, Rules, Used, leaves, parents, times, size, standing, is_entry}
+use Rattle.gx_node.specs.Legal.{Legal, Linked, NodeFits}
+use Rattle.gx_node.specs.Trees.{Tree, Rules, Used, leaves, parents, times, size, standing, is_entry}
 use Rattle.gx_node.specs.Store.{Store, node_at, tree_of}
 use Rattle.gx_legality.specs.declared.fault.LegalityFault.{LegalityFault}
 use Rattle.gx_legality.specs.Breaks.{Breaks}

@@ -1,9 +1,9 @@
 -- Pages, marked as entries name them.
 use Rattle.std.proofs.Common.{◌≡◌, ℕ, zero, suc, ◌+◌, ◌<◌, ◌≤◌, Bool, ◌⊎◌, inl, inr, List, [], ◌∷◌, length, map, take, Some, ap, sym, subst, arith}
 use Rattle.std.specs.Prelude.{◌==◌, slice_get}
-use Rattle.gx_tree_laws.specs.Lists.{one_if, sum_over}
-use Rattle.gx_tree_laws.specs.Trees.{Child, times}
-use Rattle.gx_tree_laws.proofs.Chains.{one_at}
+use Rattle.gx_node.specs.Lists.{one_if, sum_over}
+use Rattle.gx_node.specs.Trees.{Child, times}
+use Rattle.gx_node.proofs.Chains.{one_at}
 use Rattle.gx_legality.specs.Marks.{marked}
 use Rattle.gx_legality.proofs.Slots.{sum_more}
 

@@ -9,7 +9,7 @@ use Rattle.std.proofs.lemmas.Bool.{cases_eq, cases_lt, ne_eqb, eq-eqb}
 use Rattle.std.proofs.lemmas.Cmp.{alike_right}
 use Rattle.std.proofs.lemmas.List.{get_or-set_same, get_or-set_other}
 use Rattle.std.proofs.lemmas.Option.{slice_get_within, slice_get_read}
-use Rattle.gx_tree_laws.specs.Lists.{Each}
+use Rattle.gx_node.specs.Lists.{Each}
 use Rattle.gx_legality.specs.declared.notes.NotedPair.{NotedPair}
 use Rattle.gx_legality.specs.declared.notes.NoteStage.{NoteStage}
 use Rattle.gx_legality.specs.declared.notes.NoteStage.TheVariants.{Ahead, Reached, Found}

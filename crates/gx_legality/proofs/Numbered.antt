@@ -1,11 +1,11 @@
 -- Pages tested in the order of their numbers.
 use Rattle.std.proofs.Common.{◌≡◌, ◌≢◌, ℕ, zero, suc, ◌+◌, ◌<◌, ◌≤◌, Bool, ◌⊎◌, inl, inr, List, length, get_or, set, Option, None, refl, ap, sym, ◌∙◌, subst, arith, get_or-set_other, get_or-set_same}
 use Rattle.std.proofs.lemmas.Bool.{cases_eq}
-use Rattle.gx_tree_laws.specs.Legal.{NodeFits, ChildFits}
-use Rattle.gx_tree_laws.specs.Lists.{Each, total}
-use Rattle.gx_tree_laws.specs.Trees.{Child, Node, Tree, Rules, times, child_pages, parents}
-use Rattle.gx_tree_laws.proofs.Chains.{some_times}
-use Rattle.gx_tree_laws.proofs.Sums.{each_map, each-map}
+use Rattle.gx_node.specs.Legal.{NodeFits, ChildFits}
+use Rattle.gx_node.specs.Lists.{Each, total}
+use Rattle.gx_node.specs.Trees.{Child, Node, Tree, Rules, times, child_pages, parents}
+use Rattle.gx_node.proofs.Chains.{some_times}
+use Rattle.gx_node.proofs.Sums.{each_map, each-map}
 use Rattle.gx_node.specs.Store.{Store, node_at, tree_of}
 use Rattle.gx_legality.specs.declared.fault.LegalityFault.{LegalityFault}
 use Rattle.gx_legality.specs.declared.fault.LegalityFault.TheVariants.{Memory, Pages, Broken, Unsteady}

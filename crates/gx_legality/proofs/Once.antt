@@ -12,10 +12,10 @@ use Rattle.std.proofs.Math.Nat.{mul-le-mul_right}
 use Rattle.gx_machine.specs.Keys.{Keys, entry_cmp}
 use Rattle.gx_machine.specs.declared.entry.Entry.{Entry}
 use Rattle.gx_node.specs.Edits.{entry_of}
-use Rattle.gx_tree_laws.specs.Legal.{Linked}
-use Rattle.gx_tree_laws.specs.Lists.{how_many, one_if}
-use Rattle.gx_tree_laws.specs.Trees.{Pair, Tree, Rules, Used, leaves, walk, passing, standing, size, is_entry}
-use Rattle.gx_tree_laws.proofs.Sums.{sum_over-append, sum_over_le, sum_over_add, each_always}
+use Rattle.gx_node.specs.Legal.{Linked}
+use Rattle.gx_node.specs.Lists.{how_many, one_if}
+use Rattle.gx_node.specs.Trees.{Pair, Tree, Rules, Used, leaves, walk, passing, standing, size, is_entry}
+use Rattle.gx_node.proofs.Sums.{sum_over-append, sum_over_le, sum_over_add, each_always}
 use Rattle.gx_node.specs.Store.{Store, tree_of}
 use Rattle.gx_legality.specs.declared.fault.LegalityFault.{LegalityFault}
 use Rattle.gx_legality.specs.declared.fault.LegalityFault.TheVariants.{Memory, Pages, Broken, Unsteady}

@@ -5,7 +5,7 @@ use Rattle.std.specs.Ordering.{is_eq, is_gt, ordering_reverse}
 use Rattle.std.specs.declared.cmp.Ordering.{Ordering}
 use Rattle.std.specs.declared.cmp.Ordering.TheVariants.{Less, Equal, Greater}
 use Rattle.std.proofs.lemmas.Cmp.{upto, alike_right}
-use Rattle.gx_tree_laws.specs.Lists.{one_if}
+use Rattle.gx_node.specs.Lists.{one_if}
 use Rattle.gx_legality.specs.Gathered.{count, IsAfter, IsUpTo, Ascends, StandsTwice, Gathered, Gathers, Halves, OnceBetween, gathered_above}
 use Rattle.gx_legality.proofs.Counted.{count-append, ascends_once}
 

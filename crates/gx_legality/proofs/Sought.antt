@@ -7,11 +7,11 @@ use Rattle.std.proofs.lemmas.Bool.{cases_eq, ne_eqb, eq-eqb}
 use Rattle.gx_machine.specs.Keys.{entry_cmp}
 use Rattle.gx_machine.specs.declared.entry.Entry.{Entry}
 use Rattle.gx_node.specs.Edits.{entry_of}
-use Rattle.gx_tree_laws.specs.Legal.{Legal, Linked}
-use Rattle.gx_tree_laws.specs.Lists.{Each, SomeOf, how_many, one_if}
-use Rattle.gx_tree_laws.specs.Trees.{Pair, Tree, Rules, Used, leaves, times, walk, passing, is_entry}
-use Rattle.gx_tree_laws.proofs.Chains.{one_at, one_off, walk_is, length_walk}
-use Rattle.gx_tree_laws.proofs.SeekSteps.{seek_at_leaf}
+use Rattle.gx_node.specs.Legal.{Legal, Linked}
+use Rattle.gx_node.specs.Lists.{Each, SomeOf, how_many, one_if}
+use Rattle.gx_node.specs.Trees.{Pair, Tree, Rules, Used, leaves, times, walk, passing, is_entry}
+use Rattle.gx_node.proofs.Chains.{one_at, one_off, walk_is, length_walk}
+use Rattle.gx_node.proofs.SeekSteps.{seek_at_leaf}
 use Rattle.gx_legality.specs.declared.notes.NotedPair.{NotedPair}
 use Rattle.gx_legality.specs.declared.notes.NoteStage.{NoteStage}
 use Rattle.gx_legality.specs.declared.notes.NoteStage.TheVariants.{Ahead, Reached, Found}

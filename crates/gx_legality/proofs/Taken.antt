@@ -4,8 +4,8 @@ use Rattle.std.specs.Prelude.{slice_get}
 use Rattle.std.specs.declared.cmp.Ordering.{Ordering}
 use Rattle.gx_machine.specs.declared.entry.Entry.{Entry}
 use Rattle.gx_node.specs.Edits.{entry_of}
-use Rattle.gx_tree_laws.specs.Legal.{Linked}
-use Rattle.gx_tree_laws.specs.Trees.{Tree, Used, walk}
+use Rattle.gx_node.specs.Legal.{Linked}
+use Rattle.gx_node.specs.Trees.{Tree, Used, walk}
 use Rattle.gx_legality.specs.Entries.{entries_on}
 use Rattle.gx_legality.specs.Gathered.{Gathered, Gathers}
 use Rattle.gx_legality.proofs.Walks.{walk_on, walk_none}

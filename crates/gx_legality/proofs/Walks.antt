@@ -2,11 +2,11 @@
 use Rattle.std.proofs.Common.{◌≡◌, ◌≢◌, ℕ, zero, suc, ◌+◌, ◌<◌, ◌≤◌, Bool, true, false, ◌⊎◌, inl, inr, List, [], ◌∷◌, ◌++◌, length, length-append, get_or, Option, Some, None, refl, ap, sym, ◌∙◌, subst, arith}
 use Rattle.std.specs.Prelude.{◌==◌, if◌then◌else◌}
 use Rattle.std.proofs.lemmas.Bool.{cases_eq, cases_lt, eqb-true, ne_eqb, eq-eqb}
-use Rattle.gx_tree_laws.specs.Lists.{Each, one_if, total}
-use Rattle.gx_tree_laws.specs.Trees.{Node, Tree, Used, times, walk, leaves}
-use Rattle.gx_tree_laws.specs.Legal.{Linked}
-use Rattle.gx_tree_laws.proofs.Chains.{one_at, one_off, walk_is}
-use Rattle.gx_tree_laws.proofs.Sums.{at_page, at_page_same, at_page_other, sum_over-append, total_add, total_at_page, total_none, total_same}
+use Rattle.gx_node.specs.Lists.{Each, one_if, total}
+use Rattle.gx_node.specs.Trees.{Node, Tree, Used, times, walk, leaves}
+use Rattle.gx_node.specs.Legal.{Linked}
+use Rattle.gx_node.proofs.Chains.{one_at, one_off, walk_is}
+use Rattle.gx_node.proofs.Sums.{at_page, at_page_same, at_page_other, sum_over-append, total_add, total_at_page, total_none, total_same}
 use Rattle.gx_legality.specs.Breaks.{Leads}
 use Rattle.gx_legality.specs.Marks.{AreLinks, link_of, marked}
 

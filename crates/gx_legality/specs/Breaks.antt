@@ -1,7 +1,7 @@
 -- Which rule of a legal tree is broken, and by which page.
 use Rattle.std.specs.Prelude.{◌≡◌, ℕ, suc, ◌+◌, ◌<◌, ◌≤◌, ◌⊎◌, List, [], ◌∷◌, length, slice_get, Some}
-use Rattle.gx_tree_laws.specs.Trees.{Tree, Rules, Used, size, times, parents, leaves, standing, is_entry}
-use Rattle.gx_tree_laws.specs.Legal.{Bounds}
+use Rattle.gx_node.specs.Trees.{Tree, Rules, Used, size, times, parents, leaves, standing, is_entry}
+use Rattle.gx_node.specs.Legal.{Bounds}
 use Rattle.gx_legality.specs.declared.fault.Rule.{Rule}
 use Rattle.gx_legality.specs.declared.fault.Rule.TheVariants.{SplitsOutnumberPages, RootIsLeaf, TooManyEntries, NoChild, SequenceNumber, ChildPage, ChildLevel, Bound, NamedTwice, NotNamed, Chain, OffTheChain, PairTwice, PairOutOfPlace}
 

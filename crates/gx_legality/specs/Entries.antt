@@ -3,7 +3,7 @@ use Rattle.std.specs.Prelude.{◌≡◌, List, [], ◌∷◌, ◌++◌, map, ℕ
 use Rattle.std.specs.declared.cmp.Ordering.{Ordering}
 use Rattle.gx_machine.specs.declared.entry.Entry.{Entry}
 use Rattle.gx_node.specs.Edits.{entry_of}
-use Rattle.gx_tree_laws.specs.Trees.{Tree}
+use Rattle.gx_node.specs.Trees.{Tree}
 use Rattle.gx_legality.specs.declared.fault.Rule.{Rule}
 use Rattle.gx_legality.specs.declared.fault.Rule.TheVariants.{PairTwice}
 use Rattle.gx_legality.specs.Gathered.{StandsTwice}

@@ -3,7 +3,7 @@ use Rattle.std.specs.Prelude.{◌≡◌, ℕ, ◌+◌, ◌<◌, ◌≤◌, false
 use Rattle.std.specs.Ordering.{is_eq, is_gt}
 use Rattle.std.specs.declared.cmp.Ordering.{Ordering}
 use Rattle.std.specs.declared.cmp.Ordering.TheVariants.{Less}
-use Rattle.gx_tree_laws.specs.Lists.{Each, how_many}
+use Rattle.gx_node.specs.Lists.{Each, how_many}
 use Rattle.gx_legality.specs.declared.gather.Pass.{Pass}
 use Rattle.gx_legality.specs.declared.gather.Pass.TheVariants.{Twice, Again, Done}
 

@@ -1,8 +1,8 @@
 -- A mark for each page, and the rightlink of each leaf.
 use Rattle.std.specs.Prelude.{◌≡◌, ℕ, suc, ◌+◌, ◌<◌, ◌≤◌, ◌==◌, Bool, false, if◌then◌else◌, List, length, slice_index_or, Option, None, Some}
-use Rattle.gx_tree_laws.specs.Lists.{one_if, total}
-use Rattle.gx_tree_laws.specs.Trees.{Node, Rules, Tree, Used, leaves, parents, times, child_pages}
-use Rattle.gx_tree_laws.specs.Legal.{Linked, NodeFits}
+use Rattle.gx_node.specs.Lists.{one_if, total}
+use Rattle.gx_node.specs.Trees.{Node, Rules, Tree, Used, leaves, parents, times, child_pages}
+use Rattle.gx_node.specs.Legal.{Linked, NodeFits}
 use Rattle.gx_legality.specs.declared.fault.Rule.{Rule}
 use Rattle.gx_legality.specs.declared.fault.Rule.TheVariants.{NamedTwice}
 

@@ -1,7 +1,7 @@
 -- What a node is tested for, by itself and below its parent.
 use Rattle.std.specs.Prelude.{◌≡◌, ℕ, suc, ◌<◌, ◌≤◌, length}
-use Rattle.gx_tree_laws.specs.Trees.{Node, Rules, size}
-use Rattle.gx_tree_laws.specs.Legal.{Bounds}
+use Rattle.gx_node.specs.Trees.{Node, Rules, size}
+use Rattle.gx_node.specs.Legal.{Bounds}
 use Rattle.gx_legality.specs.declared.fault.Rule.{Rule}
 use Rattle.gx_legality.specs.declared.fault.Rule.TheVariants.{SplitsOutnumberPages, RootIsLeaf, TooManyEntries, NoChild, SequenceNumber, ChildPage, ChildLevel, Bound, NamedTwice, NotNamed, Chain, OffTheChain, PairTwice, PairOutOfPlace}
 

@@ -2,7 +2,7 @@
 use Rattle.std.specs.Prelude.{ℕ, IfErr, Result}
 use Rattle.gx_node.specs.Owner.{KeepsSince}
 use Rattle.gx_node.specs.Store.{Store, Stays, tree_of}
-use Rattle.gx_tree_laws.specs.Trees.{Rules, Tree, Used}
+use Rattle.gx_node.specs.Trees.{Rules, Tree, Used}
 use Rattle.gx_legality.specs.Breaks.{Breaks}
 use Rattle.gx_legality.specs.declared.fault.LegalityFault.{LegalityFault}
 use Rattle.gx_legality.specs.declared.fault.LegalityFault.TheVariants.{Memory, Pages, Broken, Unsteady}

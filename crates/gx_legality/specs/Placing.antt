@@ -4,10 +4,10 @@ use Rattle.std.specs.Ordering.{is_eq}
 use Rattle.std.specs.declared.cmp.Ordering.{Ordering}
 use Rattle.gx_machine.specs.declared.entry.Entry.{Entry}
 use Rattle.gx_node.specs.Edits.{entry_of}
-use Rattle.gx_tree_laws.specs.Lists.{SomeOf}
-use Rattle.gx_tree_laws.specs.Trees.{Rules, Tree}
-use Rattle.gx_tree_laws.specs.Writes.{IsSeek}
-use Rattle.gx_tree_laws.specs.Legal.{Legal}
+use Rattle.gx_node.specs.Lists.{SomeOf}
+use Rattle.gx_node.specs.Trees.{Rules, Tree}
+use Rattle.gx_node.specs.Writes.{IsSeek}
+use Rattle.gx_node.specs.Legal.{Legal}
 use Rattle.gx_legality.specs.Breaks.{Breaks}
 use Rattle.gx_legality.specs.declared.fault.Rule.{Rule}
 use Rattle.gx_legality.specs.declared.fault.Rule.TheVariants.{PairOutOfPlace}

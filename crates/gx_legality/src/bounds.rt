@@ -2,8 +2,8 @@
 ghost use Rattle.std.specs.Prelude.{◌≡◌, ◌↔◌, ℕ, true, IsTrue, length, slice_get, None, Some, OnOk, IfErr, MatchOption};
 ghost use Rattle.gx_node.specs.Reading.{format_of, is_node};
 ghost use Rattle.gx_node.specs.Seen.{child_seen};
-ghost use Rattle.gx_tree_laws.specs.Legal.{Bounds};
-ghost use Rattle.gx_tree_laws.specs.Lists.{Each};
+ghost use Rattle.gx_node.specs.Legal.{Bounds};
+ghost use Rattle.gx_node.specs.Lists.{Each};
 ghost use Rattle.gx_node.specs.Keyed.{rules_of};
 ghost use Rattle.gx_node.specs.Store.{node_of};
 ghost use Rattle.gx_legality.specs.Nodes.{FitsAlone, FailsAlone, FitsBelow, FailsBelow};

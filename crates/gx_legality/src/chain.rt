@@ -1,9 +1,9 @@
 //! The leaves stand on the chain of rightlinks, each once.
 ghost use Rattle.std.specs.Prelude.{◌≡◌, ℕ, ◌+◌, ◌^◌, ◌<◌, ◌≤◌, ◌⊎◌, ◌==◌, List, None};
 ghost use Rattle.std.specs.Prelude.{Some, OnOk, IfErr, MatchOption, length, slice_index_or};
-ghost use Rattle.gx_tree_laws.specs.Legal.{Linked};
-ghost use Rattle.gx_tree_laws.specs.Lists.{one_if};
-ghost use Rattle.gx_tree_laws.specs.Trees.{Tree, Rules, Used, leaves, times};
+ghost use Rattle.gx_node.specs.Legal.{Linked};
+ghost use Rattle.gx_node.specs.Lists.{one_if};
+ghost use Rattle.gx_node.specs.Trees.{Tree, Rules, Used, leaves, times};
 ghost use Rattle.gx_legality.specs.Breaks.{Breaks, Leads};
 ghost use Rattle.gx_legality.specs.Marks.{AreLinks, marked};
 

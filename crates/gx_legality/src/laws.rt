@@ -1,7 +1,7 @@
 //! What holds of what a test finds.
 ghost use Rattle.std.specs.Prelude.{ℕ};
-ghost use Rattle.gx_tree_laws.specs.Legal.{Legal};
-ghost use Rattle.gx_tree_laws.specs.Trees.{Tree, Rules};
+ghost use Rattle.gx_node.specs.Legal.{Legal};
+ghost use Rattle.gx_node.specs.Trees.{Tree, Rules};
 ghost use Rattle.gx_legality.specs.Breaks.{Breaks};
 ghost use Rattle.gx_legality.specs.declared.fault.Rule.{Rule};
 

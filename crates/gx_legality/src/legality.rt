@@ -1,13 +1,13 @@
 //! The whole test.
 ghost use Rattle.std.specs.Prelude.{◌≡◌, ◌↔◌, ℕ, suc, ◌+◌, ◌^◌, ◌<◌, ◌≤◌, None};
 ghost use Rattle.std.specs.Prelude.{length, slice_index_or, OnOk, IfOk, IfErr, IsTrue};
-ghost use Rattle.gx_tree_laws.specs.Legal.{Legal, NodeFits};
-ghost use Rattle.gx_tree_laws.specs.Trees.{Tree, Rules, Used, parents};
+ghost use Rattle.gx_node.specs.Legal.{Legal, NodeFits};
+ghost use Rattle.gx_node.specs.Trees.{Tree, Rules, Used, parents};
 ghost use Rattle.gx_node.specs.Keyed.{rules_of};
 ghost use Rattle.gx_node.specs.Owner.{IsWhyLater};
 ghost use Rattle.gx_node.specs.Store.{node_at, tree_of};
 ghost use Rattle.gx_machine.specs.Keys.{keys_of, entry_cmp};
-ghost use Rattle.gx_tree_laws.specs.Lists.{Each};
+ghost use Rattle.gx_node.specs.Lists.{Each};
 ghost use Rattle.gx_legality.specs.Breaks.{Breaks};
 ghost use Rattle.gx_legality.specs.Gathered.{Ascends, gathered_above};
 ghost use Rattle.gx_legality.specs.Placing.{BreaksOrLeavesOut, IsPlaced, noted, stage_at};

@@ -1,8 +1,8 @@
 //! Each page but the root is named by exactly one entry.
 ghost use Rattle.std.specs.Prelude.{◌≡◌, ℕ, ◌+◌, ◌<◌, ◌≤◌, ◌⊎◌, ◌==◌, true, length, OnOk, IfErr};
 ghost use Rattle.gx_node.specs.Reading.{format_of, is_node};
-ghost use Rattle.gx_tree_laws.specs.Lists.{one_if};
-ghost use Rattle.gx_tree_laws.specs.Trees.{times, child_pages};
+ghost use Rattle.gx_node.specs.Lists.{one_if};
+ghost use Rattle.gx_node.specs.Trees.{times, child_pages};
 ghost use Rattle.gx_node.specs.Store.{node_of};
 ghost use Rattle.gx_legality.specs.Marks.{marked};
 

@@ -1,8 +1,8 @@
 //! The test of a node and of its children, each beside it.
 ghost use Rattle.std.specs.Prelude.{◌≡◌, ◌<◌, ◌≤◌, [], length, slice_get, Some, OnOk, IfOk, IfErr};
-ghost use Rattle.gx_tree_laws.specs.Legal.{ChildFits, NodeFits};
-ghost use Rattle.gx_tree_laws.specs.Lists.{Each};
-ghost use Rattle.gx_tree_laws.specs.Trees.{Child, Used, size};
+ghost use Rattle.gx_node.specs.Legal.{ChildFits, NodeFits};
+ghost use Rattle.gx_node.specs.Lists.{Each};
+ghost use Rattle.gx_node.specs.Trees.{Child, Used, size};
 ghost use Rattle.gx_node.specs.Keyed.{rules_of};
 ghost use Rattle.gx_node.specs.Owner.{IsWhyLater};
 ghost use Rattle.gx_node.specs.Store.{node_at, tree_of};

@@ -1,8 +1,8 @@
 //! The test of every page, in the order of their numbers.
 ghost use Rattle.std.specs.Prelude.{◌≡◌, ℕ, suc, ◌+◌, ◌<◌, ◌≤◌, ◌⊎◌, None, length};
 ghost use Rattle.std.specs.Prelude.{slice_index_or, slice_set, OnOk, IfErr};
-ghost use Rattle.gx_tree_laws.specs.Legal.{NodeFits};
-ghost use Rattle.gx_tree_laws.specs.Trees.{Used, times, child_pages, parents};
+ghost use Rattle.gx_node.specs.Legal.{NodeFits};
+ghost use Rattle.gx_node.specs.Trees.{Used, times, child_pages, parents};
 ghost use Rattle.gx_node.specs.Keyed.{rules_of};
 ghost use Rattle.gx_node.specs.Owner.{IsWhyLater};
 ghost use Rattle.gx_node.specs.Store.{node_at, node_of, tree_of};

@@ -1,8 +1,8 @@
 //! No pair stands twice.
 ghost use Rattle.std.specs.Prelude.{◌≡◌, ℕ, ◌*◌, ◌^◌, ◌<◌, ◌≤◌, [], length, None, OnOk, IfErr};
 ghost use Rattle.gx_machine.specs.Keys.{keys_of, entry_cmp};
-ghost use Rattle.gx_tree_laws.specs.Legal.{Linked};
-ghost use Rattle.gx_tree_laws.specs.Trees.{Used, leaves, size, standing, is_entry};
+ghost use Rattle.gx_node.specs.Legal.{Linked};
+ghost use Rattle.gx_node.specs.Trees.{Used, leaves, size, standing, is_entry};
 ghost use Rattle.gx_node.specs.Keyed.{rules_of};
 ghost use Rattle.gx_node.specs.Owner.{IsWhyLater};
 ghost use Rattle.gx_node.specs.Store.{node_at, tree_of};

@@ -10,7 +10,7 @@ use Rattle.gx_engine.specs.States.{Parts}
 use Rattle.gx_durable.specs.Head.{head_in}
 use Rattle.gx_engine.specs.Holds.{Holds}
 use Rattle.gx_engine_events.specs.Seen.{Sees, limits_in}
-use Rattle.gx_engine_laws.specs.Engines.{SeenAs}
+use Rattle.gx_events.specs.Engines.{SeenAs}
 use Rattle.gx_format.specs.Formatting.{Formats, formatting, sectors_of}
 use Rattle.gx_format.specs.Fresh.{IsFresh, fresh_root}
 use Rattle.gx_glog.specs.Parameters.{Fit, parameters_bytes}
@@ -27,7 +27,7 @@ use Rattle.gx_opening.proofs.Heads.{head_read}
 use Rattle.gx_page.specs.Contents.{Contents}
 use Rattle.gx_page.specs.Format.{IsWellFormed}
 use Rattle.gx_pool.specs.State.{IsEmpty, State, kept}
-use Rattle.gx_readings.specs.Classes.{class_of, reading_of}
+use Rattle.gx_durable.specs.Classes.{class_of, reading_of}
 use Rattle.gx_recovery.specs.Known.{Limits}
 use Rattle.gx_engine_events.specs.New as new_index
 use Rattle.gx_engine_events.specs.New.{new_parts}

@@ -37,8 +37,8 @@ use Rattle.gx_node.specs.Reading.{format_of}
 use Rattle.gx_opening.specs.Formatted.{Says}
 use Rattle.gx_opening.specs.Standing.{limits_of}
 use Rattle.gx_opening.proofs.Heads.{head_magic, head_says}
-use Rattle.gx_readings.specs.Classes.{class_of, reading_of}
-use Rattle.gx_readings.proofs.Used.{known_lawful}
+use Rattle.gx_durable.specs.Classes.{class_of, reading_of}
+use Rattle.gx_durable.proofs.Used.{known_lawful}
 use Rattle.gx_recovery.specs.Analysis.{number_of}
 use Rattle.gx_recovery.specs.Damage.{IsLog, records_of}
 use Rattle.gx_recovery.specs.Known.{Known}

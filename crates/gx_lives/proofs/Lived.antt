@@ -4,7 +4,7 @@ use Rattle.gx_class.specs.declared.class.KeyClass.{Ghosts}
 use Rattle.gx_disk.specs.Device.{Device, MayLeave}
 use Rattle.gx_durable.specs.Area.{area_of}
 use Rattle.gx_engine.specs.States.{Parts}
-use Rattle.gx_engine_laws.specs.Engines.{SeenAs, opened_machine}
+use Rattle.gx_events.specs.Engines.{SeenAs, opened_machine}
 use Rattle.gx_format.specs.Formatting.{sectors_of}
 use Rattle.gx_glog.specs.Parameters.{Fit}
 use Rattle.gx_glog.specs.declared.parameters.Parameters.{Parameters}
@@ -17,7 +17,7 @@ use Rattle.gx_machine.specs.Sets.{IsSetOf}
 use Rattle.gx_node.specs.Reading.{format_of}
 use Rattle.gx_opening.specs.Standing.{known_for, limits_of, reading}
 use Rattle.gx_opening.proofs.Stood.{one_saying}
-use Rattle.gx_readings.specs.Classes.{class_of}
+use Rattle.gx_durable.specs.Classes.{class_of}
 use Rattle.gx_recovery.specs.Analysis.{number_of}
 use Rattle.gx_recovery.specs.Damage.{records_of}
 use Rattle.gx_recovery.specs.Standing.{stands_for}

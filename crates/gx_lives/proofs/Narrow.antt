@@ -6,11 +6,11 @@ use Rattle.std.proofs.lemmas.Bool.{le-leb}
 use Rattle.gx_node.specs.Reading.{Format, are_children, are_pairs, child_of, has_key, inner_of, inner_size, is_child, is_node, leaf_of}
 use Rattle.gx_page.specs.Bytes.{number_32_at}
 use Rattle.gx_page.specs.Contents.{Contents}
-use Rattle.gx_readings.specs.Classes.{node_of}
+use Rattle.gx_durable.specs.Classes.{node_of}
 use Rattle.gx_recovery.proofs.Logs.{and_all}
 use Rattle.gx_recovery.proofs.Tests.{and_first, and_second}
-use Rattle.gx_tree_laws.specs.Lists.{Each}
-use Rattle.gx_tree_laws.specs.Trees.{Child, Node}
+use Rattle.gx_node.specs.Lists.{Each}
+use Rattle.gx_node.specs.Trees.{Child, Node}
 
 pub each_weaker : {X : Type 0} (P Q : X → Type 0) (xs : List X) → ((x : X) → P x → Q x) → Each P xs → Each Q xs
 each_weaker P Q [] weaker all = tt

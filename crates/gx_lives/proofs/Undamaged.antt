@@ -33,17 +33,17 @@ use Rattle.gx_opening.proofs.Found.{good_sound}
 use Rattle.gx_opening.proofs.Stood.{one_saying}
 use Rattle.gx_page.specs.Reading.{read_of}
 use Rattle.gx_pool.specs.Area.{IsPassing}
-use Rattle.gx_readings.specs.Classes.{class_of, reading_of}
-use Rattle.gx_readings.proofs.Used.{known_lawful, reads_used}
+use Rattle.gx_durable.specs.Classes.{class_of, reading_of}
+use Rattle.gx_durable.proofs.Used.{known_lawful, reads_used}
 use Rattle.gx_recovery.specs.Damage.{records_of}
 use Rattle.gx_recovery.specs.Known as known
 use Rattle.gx_recovery.specs.Known.{Known, Tree}
 use Rattle.gx_recovery.specs.Records.{Record}
 use Rattle.gx_recovery.specs.Redo.{tree_of}
 use Rattle.gx_recovery.proofs.DamageItems.{bodies_log}
-use Rattle.gx_tree_laws.specs.Legal.{ChildFits}
-use Rattle.gx_tree_laws.specs.Lists.{Each}
-use Rattle.gx_tree_laws.specs.Trees.{Child}
+use Rattle.gx_node.specs.Legal.{ChildFits}
+use Rattle.gx_node.specs.Lists.{Each}
+use Rattle.gx_node.specs.Trees.{Child}
 use Rattle.gx_lives.specs.Bearing.{HasSets}
 use Rattle.gx_lives.proofs.Images.{good_log, magic, own, says}
 use Rattle.gx_lives.proofs.Narrow.{each_weaker, narrow}

@@ -8,7 +8,7 @@ use Rattle.gx_durable.specs.Head.{head_in}
 use Rattle.gx_engine.specs.Holds.{Holds}
 use Rattle.gx_engine.specs.States.{Parts}
 use Rattle.gx_engine_events.specs.Crashes.{StandsForSet}
-use Rattle.gx_engine_laws.specs.Engines.{SeenAs}
+use Rattle.gx_events.specs.Engines.{SeenAs}
 use Rattle.gx_events.specs.Happens as events
 use Rattle.gx_format.specs.Formatting.{sectors_of}
 use Rattle.gx_glog.specs.declared.parameters.Parameters.{Parameters}
@@ -22,7 +22,7 @@ use Rattle.gx_machine.specs.Runs as runs
 use Rattle.gx_node.specs.Reading.{format_of, is_node}
 use Rattle.gx_opening.specs.Formatted.{head_of}
 use Rattle.gx_opening.specs.Standing.{limits_of}
-use Rattle.gx_readings.specs.Classes.{class_of, reading_of}
+use Rattle.gx_durable.specs.Classes.{class_of, reading_of}
 use Rattle.gx_recovery.specs.Damage.{records_of}
 use Rattle.gx_recovery.specs.Records.{Record}
 use Rattle.gx_lives.specs.Lives.{Lies, Stage, Turn, Works}

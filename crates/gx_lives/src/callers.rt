@@ -23,8 +23,8 @@ ghost use Rattle.gx_lives.specs.Lives as life;
 
 use gx_class::KeyClass;
 use gx_disk::SectorDisk;
+use gx_durable::ReadKeys;
 use gx_geom::{Box2, Shape};
-use gx_readings::ReadKeys;
 
 /// A call of an index (`gx_restart::Index::call`) is turns of its life: events, from its ask to the outcome that gives
 /// its reply. So is one that is given up, or refused because the index gave up.

@@ -19,9 +19,9 @@ ghost use Rattle.gx_lives.specs.OneRun.{IsNew, IsOneRun};
 ghost use Rattle.gx_lives.specs.Told.{Tells};
 
 use gx_disk::SectorDisk;
+use gx_durable::ReadKeys;
 use gx_geom::Refusal;
 use gx_node::laws::{inners, leaves};
-use gx_readings::ReadKeys;
 
 // A class's number is one of its field.
 fn is_class(_class: u16)

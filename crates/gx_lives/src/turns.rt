@@ -21,12 +21,12 @@ ghost use Rattle.gx_lives.specs.OneRun.{IsNew};
 use crate::laws::an_opening_finds_no_damage;
 use gx_class::Probing;
 use gx_disk::SectorDisk;
+use gx_durable::ReadKeys;
 use gx_engine::laws::a_class_is_lawful;
 use gx_engine::{Engine, NotOpened};
 use gx_events::{Event, Outcome};
 use gx_geom::Refusal;
 use gx_node::laws::{inners, leaves};
-use gx_readings::ReadKeys;
 use std::alloc::Global;
 
 // Each number of what a device is formatted for is one of its field.

@@ -1,9 +1,9 @@
 -- A look from the root asks for each page once.
 use Rattle.std.proofs.Common.{◌≤◌, ◌+◌, ℕ, ◌==◌, Bool, List, [], ◌∷◌, ◌++◌, inl, inr, arith}
-use Rattle.gx_tree_laws.specs.Lists.{one_if}
-use Rattle.gx_tree_laws.specs.Trees.{Pair, Tree, times}
-use Rattle.gx_tree_laws.specs.Reach.{TraversalItem, times_ahead}
-use Rattle.gx_tree_laws.specs.Looks.{IsLook}
+use Rattle.gx_node.specs.Lists.{one_if}
+use Rattle.gx_node.specs.Trees.{Pair, Tree, times}
+use Rattle.gx_node.specs.Reach.{TraversalItem, times_ahead}
+use Rattle.gx_node.specs.Looks.{IsLook}
 use Rattle.gx_node.specs.Owner.{Asking, Brings, Asks, AsksAtMost, AsksEachOnce, brings}
 
 module _ {P K : Type 0} (asked : P → P → List Asking → Type 0) (t : Tree K) where

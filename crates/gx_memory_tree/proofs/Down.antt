@@ -2,13 +2,13 @@
 use Rattle.std.proofs.Common.{◌≡◌, ◌≢◌, ◌∙◌, ◌<◌, ◌-◌, ◌^◌, ℕ, true, false, List, length, inr, sym, ap, subst, arith, Some}
 use Rattle.std.specs.Prelude.{slice_get}
 use Rattle.gx_machine.specs.declared.entry.Entry.{Entry}
-use Rattle.gx_tree_laws.specs.Trees.{Pair, Child, Tree, Rules, IsLawful, Used, size}
-use Rattle.gx_tree_laws.specs.Legal.{ChildFits, Legal}
-use Rattle.gx_tree_laws.specs.Reach.{TraversalItem}
-use Rattle.gx_tree_laws.specs.Steps.{Widens}
-use Rattle.gx_tree_laws.specs.Writes.{IsDescent, descent_left}
-use Rattle.gx_tree_laws.proofs.DescentFalls.{down_falls, widened_falls}
-use Rattle.gx_tree_laws.proofs.PageSteps.{legal_widened, standing_widened}
+use Rattle.gx_node.specs.Trees.{Pair, Child, Tree, Rules, IsLawful, Used, size}
+use Rattle.gx_node.specs.Legal.{ChildFits, Legal}
+use Rattle.gx_node.specs.Reach.{TraversalItem}
+use Rattle.gx_node.specs.Steps.{Widens}
+use Rattle.gx_node.specs.Writes.{IsDescent, descent_left}
+use Rattle.gx_node.proofs.DescentFalls.{down_falls, widened_falls}
+use Rattle.gx_node.proofs.PageSteps.{legal_widened, standing_widened}
 use Rattle.gx_tree.specs.declared.descent.Descended.TheVariants.{Down, Widened}
 use Rattle.gx_memory_tree.specs.declared.inserts.DescentPlace.{DescentPlace}
 use Rattle.gx_tree.specs.Descending.{IsChoice, StepsDown}

@@ -1,8 +1,8 @@
 -- A full node in an insert's way is split, or swept.
 use Rattle.std.proofs.Common.{◌≢◌, ◌<◌, ◌≤◌, ◌+◌, ◌^◌, ℕ, Bool, List, inl, inr, ap, sym, arith}
 use Rattle.std.specs.Prelude.{IfSome, Option, None, Some}
-use Rattle.gx_tree_laws.specs.Trees.{Rules, Used, size}
-use Rattle.gx_tree_laws.specs.Legal.{Legal}
+use Rattle.gx_node.specs.Trees.{Rules, Used, size}
+use Rattle.gx_node.specs.Legal.{Legal}
 use Rattle.gx_memory_tree.specs.declared.inserts.DescentPlace.{DescentPlace}
 use Rattle.gx_tree.specs.declared.split.Split.{Split}
 use Rattle.gx_memory_tree.specs.Inserting.{IsFullAt, SplitsOrNot}

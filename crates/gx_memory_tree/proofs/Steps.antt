@@ -2,17 +2,17 @@
 use Rattle.std.proofs.Common.{◌≡◌, ◌≢◌, ◌∙◌, ◌<◌, ◌≤◌, ◌-◌, ◌^◌, ◌⊎◌, ◌==◌, ◌+◌, Bool, true, false, not, ◌&&◌, ◌||◌, List, [], ◌∷◌, ◌++◌, inl, inr, refl, sym, ap, subst, arith}
 use Rattle.std.proofs.lemmas.Bool.{eq-eqb, lt-ltb}
 use Rattle.gx_machine.specs.declared.entry.Entry.{Entry}
-use Rattle.gx_tree_laws.specs.Lists.{one_if, how_many}
-use Rattle.gx_tree_laws.specs.Trees.{Pair, Tree, Rules, IsLawful, size, standing, is_entry}
-use Rattle.gx_tree_laws.specs.Legal.{Legal}
-use Rattle.gx_tree_laws.specs.Steps.{Step, Splits, SplitsRoot, Sweeps, Adds, AreSteps, IsStep}
-use Rattle.gx_tree_laws.specs.Writes.{has_place, must_restart}
-use Rattle.gx_tree_laws.proofs.AllSteps.{descent_steps, legal_steps}
-use Rattle.gx_tree_laws.proofs.DescentFalls.{restart_falls, swept_falls, split_falls, root_split_falls}
-use Rattle.gx_tree_laws.proofs.DescentSteps.{descent_begins}
-use Rattle.gx_tree_laws.proofs.PageSteps.{legal_added, legal_swept, standing_added, standing_swept_plain}
-use Rattle.gx_tree_laws.proofs.Roots.{legal_root, standing_root}
-use Rattle.gx_tree_laws.proofs.Splits.{legal_split, standing_split}
+use Rattle.gx_node.specs.Lists.{one_if, how_many}
+use Rattle.gx_node.specs.Trees.{Pair, Tree, Rules, IsLawful, size, standing, is_entry}
+use Rattle.gx_node.specs.Legal.{Legal}
+use Rattle.gx_node.specs.Steps.{Step, Splits, SplitsRoot, Sweeps, Adds, AreSteps, IsStep}
+use Rattle.gx_node.specs.Writes.{has_place, must_restart}
+use Rattle.gx_node.proofs.AllSteps.{descent_steps, legal_steps}
+use Rattle.gx_node.proofs.DescentFalls.{restart_falls, swept_falls, split_falls, root_split_falls}
+use Rattle.gx_node.proofs.DescentSteps.{descent_begins}
+use Rattle.gx_node.proofs.PageSteps.{legal_added, legal_swept, standing_added, standing_swept_plain}
+use Rattle.gx_node.proofs.Roots.{legal_root, standing_root}
+use Rattle.gx_node.proofs.Splits.{legal_split, standing_split}
 use Rattle.gx_memory_tree.specs.declared.inserts.DescentPlace.{DescentPlace}
 use Rattle.gx_memory_tree.specs.Inserting.{CameFrom, GoesOn, HasAdded, HasSplit, HasSwept, IsFullAt, IsInsert, MakesRoom, MakesWay, SplitsOrNot, from_top, live_and}
 use Rattle.gx_node.specs.Keyed.{AreKeys}

@@ -1,12 +1,12 @@
 -- An insert at work, and what becomes of the tree.
 use Rattle.std.specs.Prelude.{◌≡◌, ◌≢◌, ◌<◌, ◌≤◌, ◌-◌, ◌^◌, ◌⊎◌, ℕ, Bool, true, false, not, ◌&&◌, List}
 use Rattle.gx_machine.specs.declared.entry.Entry.{Entry}
-use Rattle.gx_tree_laws.specs.Lists.{how_many}
-use Rattle.gx_tree_laws.specs.Trees.{Pair, Tree, Rules, Used, size, standing, is_entry}
-use Rattle.gx_tree_laws.specs.Legal.{Legal}
-use Rattle.gx_tree_laws.specs.Looks.{from_root}
-use Rattle.gx_tree_laws.specs.Steps.{Step, AreSteps, IsAdding, IsRootSplit, IsSplit, IsSweep}
-use Rattle.gx_tree_laws.specs.Writes.{IsDescent, descent_left, is_sweepable, must_restart}
+use Rattle.gx_node.specs.Lists.{how_many}
+use Rattle.gx_node.specs.Trees.{Pair, Tree, Rules, Used, size, standing, is_entry}
+use Rattle.gx_node.specs.Legal.{Legal}
+use Rattle.gx_node.specs.Looks.{from_root}
+use Rattle.gx_node.specs.Steps.{Step, AreSteps, IsAdding, IsRootSplit, IsSplit, IsSweep}
+use Rattle.gx_node.specs.Writes.{IsDescent, descent_left, is_sweepable, must_restart}
 use Rattle.gx_node.specs.Keyed.{AreKeys}
 use Rattle.gx_tree.specs.Writing.{live}
 use Rattle.gx_memory_tree.specs.declared.inserts.DescentPlace.{DescentPlace}

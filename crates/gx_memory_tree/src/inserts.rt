@@ -1,14 +1,14 @@
 //! A whole insert by the steps of a descent.
-ghost use Rattle.std.specs.Prelude.{◌≡◌, ◌≢◌, ◌<◌, ◌≤◌, ◌+◌, ◌^◌, Bool, length, Err, IfOk, IfErr, IfSome, IfNone, OnOk};
+ghost use Rattle.std.specs.Prelude.{◌≡◌, ◌<◌, ◌≤◌, ◌+◌, ◌^◌, Bool, length, Err, IfOk, IfErr, IfSome, IfNone, OnOk};
 ghost use Rattle.std.specs.Prelude.{OnErr};
 ghost use Rattle.gx_node.specs.declared.items.TheConstants.{MAX_ENTRIES};
-ghost use Rattle.gx_tree_laws.specs.Legal.{Legal};
-ghost use Rattle.gx_tree_laws.specs.Lists.{one_if};
-ghost use Rattle.gx_tree_laws.specs.Trees.{Pair, standing, is_entry};
+ghost use Rattle.gx_node.specs.Legal.{Legal};
+ghost use Rattle.gx_node.specs.Lists.{one_if};
+ghost use Rattle.gx_node.specs.Trees.{Pair, standing, is_entry};
 ghost use Rattle.gx_memory_tree.specs.Inserting.{GoesOn, HasAdded, IsFullAt, IsInsert, MakesRoom, MakesWay};
 ghost use Rattle.gx_memory_tree.specs.Inserting.{SplitsOrNot, from_top, live_and};
 ghost use Rattle.gx_node.specs.Keyed.{rules_of, AreKeys};
-ghost use Rattle.gx_node.specs.Owner.{IsWhy};
+ghost use Rattle.gx_node.specs.Owner.{IsWhyOfSplit};
 ghost use Rattle.gx_node.specs.Store.{node_at, tree_of};
 ghost use Rattle.gx_tree.specs.Writing.{live};
 
@@ -16,7 +16,7 @@ use gx_class::KeyClass;
 use gx_machine::Entry;
 use gx_node::MAX_ENTRIES;
 use gx_tree::{
-    Descended, Pages, PagesMut, StepFault, TraversalItem, add_step, descend_step, laws,
+    Descended, Pages, PagesMut, SplitFault, StepFault, TraversalItem, add_step, descend_step, laws,
     split_root_step, split_step, sweep_step,
 };
 
@@ -52,7 +52,7 @@ fn split_place<K: KeyClass, P: PagesMut<K>>(
     place: DescentPlace,
     most: usize,
     keys: &mut [K::Key],
-) -> Result<(), StepFault<P::Fault>>
+) -> Result<(), SplitFault<P::Fault>>
     requires most { (4 ≤ most) × (most ≤ MAX_ENTRIES) }
     requires space { MAX_ENTRIES ≤ length keys.old }
     ensures steady { P.steady pages.old → P.steady pages.new }
@@ -60,12 +60,12 @@ fn split_place<K: KeyClass, P: PagesMut<K>>(
         → OnOk result (SplitsOrNot (rules_of K.Key.Shape most) K.is_key (tree_of (P.store pages.old))
         (tree_of (P.store pages.new)) place) }
     ensures refused { P.steady pages.old → OnErr result (P.store pages.new ≡ P.store pages.old) }
-    ensures full { P.steady pages.old → result ≡ Err StepFault.PagesFull
+    ensures full { P.steady pages.old → result ≡ Err SplitFault.PagesFull
         → (P.store pages.new).room < length (P.store pages.new).nodes + 2 }
     ensures damaged { P.steady pages.old → IsFullAt (rules_of K.Key.Shape most) (tree_of (P.store pages.old)) place
-        → result ≡ Err StepFault.Damaged → 2 ^ 16 ≤ (node_at (P.store pages.new).nodes 1).level + 1 }
-    ensures memory { result ≢ Err StepFault.Memory }
-    ensures why { IfErr result (IsWhy (λ fault. (was : P) × P.why was pages.new fault)) }
+        → result ≡ Err (SplitFault.Step StepFault.Damaged)
+        → 2 ^ 16 ≤ (node_at (P.store pages.new).nodes 1).level + 1 }
+    ensures why { IfErr result (IsWhyOfSplit (λ fault. (was : P) × P.why was pages.new fault)) }
 {
     let page = place.item.page();
     if page == 1 {
@@ -87,7 +87,7 @@ fn make_room<K: KeyClass, P: PagesMut<K>>(
     place: DescentPlace,
     most: usize,
     keys: &mut [K::Key],
-) -> Result<DescentPlace, StepFault<P::Fault>>
+) -> Result<DescentPlace, SplitFault<P::Fault>>
     requires most { (4 ≤ most) × (most ≤ MAX_ENTRIES) }
     requires space { MAX_ENTRIES ≤ length keys.old }
     ensures steady { P.steady pages.old → P.steady pages.new }
@@ -96,13 +96,13 @@ fn make_room<K: KeyClass, P: PagesMut<K>>(
         → IfOk result (MakesRoom (rules_of K.Key.Shape most) K.is_key (tree_of (P.store pages.old))
         (tree_of (P.store pages.new)) place) }
     ensures refused { P.steady pages.old → OnErr result (P.store pages.new ≡ P.store pages.old) }
-    ensures full { P.steady pages.old → result ≡ Err StepFault.PagesFull
+    ensures full { P.steady pages.old → result ≡ Err SplitFault.PagesFull
         → (P.store pages.new).room < length (P.store pages.new).nodes + 2 }
     ensures damaged { P.steady pages.old → IsFullAt (rules_of K.Key.Shape most) (tree_of (P.store pages.old)) place
         → ((tree_of (P.store pages.old)).node place.item.page).level ≡ 0
-        → result ≡ Err StepFault.Damaged → 2 ^ 16 ≤ (node_at (P.store pages.new).nodes 1).level + 1 }
-    ensures memory { result ≢ Err StepFault.Memory }
-    ensures why { IfErr result (IsWhy (λ fault. (was : P) × P.why was pages.new fault)) }
+        → result ≡ Err (SplitFault.Step StepFault.Damaged)
+        → 2 ^ 16 ≤ (node_at (P.store pages.new).nodes 1).level + 1 }
+    ensures why { IfErr result (IsWhyOfSplit (λ fault. (was : P) × P.why was pages.new fault)) }
 {
     if sweep_step(pages, place.item.page(), |_| false)? {
         return Ok(place);
@@ -124,7 +124,7 @@ pub fn insert_step<K: KeyClass, P: PagesMut<K>>(
     entry: &Entry<K::Key>,
     most: usize,
     keys: &mut [K::Key],
-) -> Result<Option<DescentPlace>, StepFault<P::Fault>>
+) -> Result<Option<DescentPlace>, SplitFault<P::Fault>>
     requires most { (4 ≤ most) × (most ≤ MAX_ENTRIES) }
     requires space { MAX_ENTRIES ≤ length keys.old }
     ensures steady { P.steady pages.old → P.steady pages.new }
@@ -137,13 +137,13 @@ pub fn insert_step<K: KeyClass, P: PagesMut<K>>(
         → IfOk result (λ next. IfNone next (HasAdded (rules_of K.Key.Shape most) K.is_key (tree_of (P.store pages.old))
         (tree_of (P.store pages.new)) entry.now)) }
     ensures refused { P.steady pages.old → OnErr result (P.store pages.new ≡ P.store pages.old) }
-    ensures full { P.steady pages.old → result ≡ Err StepFault.PagesFull
+    ensures full { P.steady pages.old → result ≡ Err SplitFault.PagesFull
         → (P.store pages.new).room < length (P.store pages.new).nodes + 2 }
     ensures damaged { P.steady pages.old
         → IsInsert (rules_of K.Key.Shape most) K.is_key (tree_of (P.store pages.old)) entry.now place
-        → result ≡ Err StepFault.Damaged → 2 ^ 16 ≤ (node_at (P.store pages.new).nodes 1).level + 1 }
-    ensures memory { result ≢ Err StepFault.Memory }
-    ensures why { IfErr result (IsWhy (λ fault. (was : P) × P.why was pages.new fault)) }
+        → result ≡ Err (SplitFault.Step StepFault.Damaged)
+        → 2 ^ 16 ≤ (node_at (P.store pages.new).nodes 1).level + 1 }
+    ensures why { IfErr result (IsWhyOfSplit (λ fault. (was : P) × P.why was pages.new fault)) }
 {
     K::known(&entry.key);
     laws::keys_are_lawful::<K::Key>();
@@ -177,7 +177,7 @@ pub fn insert<K: KeyClass, P: PagesMut<K>>(
     entry: &Entry<K::Key>,
     most: usize,
     keys: &mut [K::Key],
-) -> Result<(), StepFault<P::Fault>>
+) -> Result<(), SplitFault<P::Fault>>
     requires steady { P.steady pages.old }
     requires most { (4 ≤ most) × (most ≤ MAX_ENTRIES) }
     requires space { MAX_ENTRIES ≤ length keys.old }
@@ -199,10 +199,10 @@ pub fn insert<K: KeyClass, P: PagesMut<K>>(
         (tree_of (P.store pages.new))) }
     ensures absent { OnErr result (standing (is_entry (rules_of K.Key.Shape most) entry.now.row entry.now.key)
         (tree_of (P.store pages.new)) ≡ 0) }
-    ensures full { result ≡ Err StepFault.PagesFull → (P.store pages.new).room < length (P.store pages.new).nodes + 2 }
-    ensures damaged { result ≡ Err StepFault.Damaged → 2 ^ 16 ≤ (node_at (P.store pages.new).nodes 1).level + 1 }
-    ensures memory { result ≢ Err StepFault.Memory }
-    ensures why { IfErr result (IsWhy (λ fault. (was : P) × P.why was pages.new fault)) }
+    ensures full { result ≡ Err SplitFault.PagesFull → (P.store pages.new).room < length (P.store pages.new).nodes + 2 }
+    ensures damaged { result ≡ Err (SplitFault.Step StepFault.Damaged)
+        → 2 ^ 16 ≤ (node_at (P.store pages.new).nodes 1).level + 1 }
+    ensures why { IfErr result (IsWhyOfSplit (λ fault. (was : P) × P.why was pages.new fault)) }
 {
     laws::keys_are_lawful::<K::Key>();
     let mut place = DescentPlace::top(pages);

@@ -3,7 +3,7 @@ ghost use Rattle.std.specs.Prelude.{◌≡◌, ◌<◌, ◌+◌, ◌-◌, ◌^�
 ghost use Rattle.std.specs.Prelude.{vec_len, vec_capacity, Err, IfOk, IfErr};
 ghost use Rattle.std.specs.List.{list_all};
 ghost use Rattle.gx_node.specs.Reading.{format_of, is_node};
-ghost use Rattle.gx_tree_laws.specs.Trees.{Used};
+ghost use Rattle.gx_node.specs.Trees.{Used};
 ghost use Rattle.gx_node.specs.Store.{node_at, node_of, numbered, tree_of};
 
 use gx_class::KeyClass;

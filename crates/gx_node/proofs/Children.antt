@@ -7,7 +7,7 @@ use Rattle.std.proofs.lemmas.List.{take-append-drop, length-append}
 use Rattle.std.proofs.lemmas.List.Elements.{All-nil, All-cons, All-head, All-tail}
 use Rattle.gx_page.specs.Bytes.{AreBytes, spell_32, number_32_at}
 use Rattle.gx_page.specs.Format.{IsItem}
-use Rattle.gx_tree_laws.specs.Trees.{Child}
+use Rattle.gx_node.specs.Trees.{Child}
 use Rattle.gx_node.specs.Entries.{child_bytes, IsChild}
 use Rattle.gx_node.specs.Reading.{Format, has_key, key_of, is_child, child_of}
 use Rattle.gx_node.proofs.Parts.{IsLawful, key_in_front, key_read, page_behind, page_written}

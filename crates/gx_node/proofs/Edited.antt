@@ -4,7 +4,7 @@ use Rattle.std.specs.List.{insert, remove, list_all}
 use Rattle.std.proofs.lemmas.Bool.{and_parts, and_from}
 use Rattle.std.proofs.lemmas.List.{take_more, drop_more, take_all, drop_all, length-take-le, get_or_at}
 use Rattle.std.proofs.lemmas.List.Edits.{insert_end}
-use Rattle.gx_tree_laws.specs.Lists.{staying}
+use Rattle.gx_node.specs.Lists.{staying}
 
 pub put_last : (items : List (List ℕ)) (item : List ℕ) → insert items (length items) item ≡ items ++ item ∷ []
 put_last items item = insert_end items item

@@ -7,8 +7,8 @@ use Rattle.std.proofs.lemmas.List.{map-append, map-set, length-append}
 use Rattle.gx_page.specs.Bytes.{spell_32, number_32_at}
 use Rattle.gx_page.specs.Contents.{Contents}
 use Rattle.gx_page.specs.Edits.{blank, with_items}
-use Rattle.gx_tree_laws.specs.Lists.{staying}
-use Rattle.gx_tree_laws.specs.Trees.{Child}
+use Rattle.gx_node.specs.Lists.{staying}
+use Rattle.gx_node.specs.Trees.{Child}
 use Rattle.gx_node.specs.Edits.{with_children, bounded_by}
 use Rattle.gx_node.specs.Entries.{child_bytes, IsChild}
 use Rattle.gx_node.specs.Reading.{Format, has_key, is_child, child_of, are_pairs, are_children, is_leaf, is_inner, inner_of}

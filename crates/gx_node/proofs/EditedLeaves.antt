@@ -8,8 +8,8 @@ use mir.Val.{bool_byte}
 use Rattle.gx_page.specs.Bytes.{spell_64, number_64, number_64_at}
 use Rattle.gx_page.specs.Contents.{Contents}
 use Rattle.gx_page.specs.Edits.{with_items}
-use Rattle.gx_tree_laws.specs.Lists.{staying}
-use Rattle.gx_tree_laws.specs.Trees.{Pair}
+use Rattle.gx_node.specs.Lists.{staying}
+use Rattle.gx_node.specs.Trees.{Pair}
 use Rattle.gx_node.specs.Edits.{with_pairs, marked_as}
 use Rattle.gx_node.specs.Entries.{mark_byte, pair_bytes, IsPair}
 use Rattle.gx_node.specs.Reading.{Format, has_key, is_pair, pair_of, are_pairs, is_leaf, leaf_of}

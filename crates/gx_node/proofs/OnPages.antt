@@ -5,7 +5,7 @@ use Rattle.std.specs.List.{list_all}
 use Rattle.std.proofs.lemmas.Bool.{and_parts, and_from, eq-eqb, eqb-true, ne_eqb, cases_Bool}
 use Rattle.gx_page.specs.Contents.{Contents}
 use Rattle.gx_page.specs.Format.{IsWellFormed}
-use Rattle.gx_tree_laws.specs.Trees.{Pair, Child, Node}
+use Rattle.gx_node.specs.Trees.{Pair, Child, Node}
 use Rattle.gx_node.specs.Entries.{HoldsPairs, HoldsChildren, HoldsNode}
 use Rattle.gx_node.specs.Reading.{Format, is_pair, pair_of, is_child, child_of, are_pairs, are_children, is_leaf, is_inner, is_node, leaf_of, inner_of}
 use Rattle.gx_node.proofs.Parts.{IsLawful}

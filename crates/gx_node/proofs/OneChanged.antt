@@ -2,9 +2,9 @@
 use Rattle.std.proofs.Common.{◌≡◌, ℕ, zero, suc, ◌+◌, ◌≤◌, ◌==◌, List, [], ◌∷◌, map, set, cond, refl, sym, ap, ◌∙◌, arith, Bool, true, false, Some}
 use Rattle.std.specs.Prelude.{if◌then◌else◌, slice_get}
 use Rattle.std.proofs.lemmas.Bool.{eq-eqb}
-use Rattle.gx_tree_laws.specs.Lists.{one_if, how_many}
-use Rattle.gx_tree_laws.specs.Trees.{Pair, Child, Rules, times, is_entry}
-use Rattle.gx_tree_laws.specs.Steps.{with_key, with_mark}
+use Rattle.gx_node.specs.Lists.{one_if, how_many}
+use Rattle.gx_node.specs.Trees.{Pair, Child, Rules, times, is_entry}
+use Rattle.gx_node.specs.Steps.{with_key, with_mark}
 use Rattle.gx_node.specs.Edits.{marked_as, bounded_by}
 
 module _ {X : Type 0} (test : X → Bool) (change : X → X) where

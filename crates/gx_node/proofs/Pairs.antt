@@ -7,7 +7,7 @@ use Rattle.std.proofs.lemmas.List.{take-append-drop, length-append}
 use Rattle.std.proofs.lemmas.List.Elements.{All-nil, All-cons, All-head, All-tail}
 use Rattle.gx_page.specs.Bytes.{AreBytes, spell_64, number_64_at}
 use Rattle.gx_page.specs.Format.{IsItem}
-use Rattle.gx_tree_laws.specs.Trees.{Pair}
+use Rattle.gx_node.specs.Trees.{Pair}
 use Rattle.gx_node.specs.Entries.{mark_byte, pair_bytes, IsPair}
 use Rattle.gx_node.specs.Reading.{Format, has_key, key_of, is_pair, pair_of}
 use Rattle.gx_node.proofs.Parts.{IsLawful, key_in_front, key_read, row_behind, mark_behind, row_written}

@@ -13,8 +13,8 @@ use Rattle.gx_page.specs.Bytes.{AreBytes, spell_64, number_64_at}
 use Rattle.gx_page.specs.Contents.{Contents}
 use Rattle.gx_page.specs.Edits.{with_items}
 use Rattle.gx_page.specs.Format.{IsItem, IsWellFormed}
-use Rattle.gx_tree_laws.specs.Lists.{Each, staying}
-use Rattle.gx_tree_laws.specs.Trees.{Pair, Child, Rules, is_entry}
+use Rattle.gx_node.specs.Lists.{Each, staying}
+use Rattle.gx_node.specs.Trees.{Pair, Child, Rules, is_entry}
 use Rattle.gx_node.specs.declared.items.TheConstants.{MAX_ENTRIES}
 use Rattle.gx_node.specs.Edits.{with_pairs, with_children, bounded_by}
 use Rattle.gx_node.specs.Entries.{mark_byte, child_bytes}

@@ -11,7 +11,7 @@ use Rattle.gx_page.specs.Format.{IsItem, IsWellFormed, Fits, total}
 use Rattle.gx_page.specs.Sizes.{NoneLonger}
 use Rattle.gx_page.proofs.Rooms.{few_fit}
 use Rattle.gx_class.specs.declared.class.TheConstants.{MAX_KEY}
-use Rattle.gx_tree_laws.specs.Lists.{staying}
+use Rattle.gx_node.specs.Lists.{staying}
 use Rattle.gx_node.specs.declared.items.TheConstants.{MAX_ENTRIES}
 use Rattle.gx_node.specs.Entries.{mark_byte}
 use Rattle.gx_node.specs.Reading.{Format, leaf_size, is_leaf}

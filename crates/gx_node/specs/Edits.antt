@@ -1,7 +1,7 @@
 -- What an edit leaves of a node: its page's number, level, sequence number and rightlink are as they were.
 use Rattle.std.specs.Prelude.{Bool, List}
-use Rattle.gx_tree_laws.specs.Trees.{Pair, Child, Node}
-use Rattle.gx_tree_laws.specs.Steps.{node_with}
+use Rattle.gx_node.specs.Trees.{Pair, Child, Node}
+use Rattle.gx_node.specs.Steps.{node_with}
 use Rattle.gx_machine.specs.declared.entry.Entry.{Entry}
 
 -- the node with these in place of its pairs, or of its children

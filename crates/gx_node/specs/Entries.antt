@@ -3,7 +3,7 @@ use Rattle.std.specs.Prelude.{◌≡◌, ◌⊎◌, ℕ, ◌^◌, ◌<◌, ◌�
 use Rattle.std.specs.List.{All}
 use Rattle.gx_page.specs.Bytes.{spell_32, spell_64}
 use Rattle.gx_page.specs.Contents.{Contents}
-use Rattle.gx_tree_laws.specs.Trees.{Pair, Child, Node}
+use Rattle.gx_node.specs.Trees.{Pair, Child, Node}
 
 -- the byte of a mark: 0 where the pair is live, 1 where it is marked as deleted
 abbrev pub mark_byte : Bool → ℕ

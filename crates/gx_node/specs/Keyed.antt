@@ -2,9 +2,9 @@
 use Rattle.std.specs.Prelude.{ℕ}
 use Rattle.std.specs.Ordering.{is_eq}
 use Rattle.gx_machine.specs.Keys.{Members}
-use Rattle.gx_tree_laws.specs.Lists.{Each}
-use Rattle.gx_tree_laws.specs.Trees.{Tree, Rules, Used}
-use Rattle.gx_tree_laws.specs.Steps.{Step, Splits, SplitsRoot, Widens, Adds, Marks, Sweeps}
+use Rattle.gx_node.specs.Lists.{Each}
+use Rattle.gx_node.specs.Trees.{Tree, Rules, Used}
+use Rattle.gx_node.specs.Steps.{Step, Splits, SplitsRoot, Widens, Adds, Marks, Sweeps}
 
 -- what the tree's laws are told of the keys of a type, from what its trait says of them, with so many entries a node
 abbrev pub rules_of : {B : Type 0} → Members B → ℕ → Rules B

@@ -3,9 +3,9 @@ use Rattle.std.specs.Prelude.{◌≡◌, ℕ, ◌<◌, ◌≤◌, ◌^◌, Bool,
 use Rattle.gx_page.specs.Contents.{Contents}
 use Rattle.gx_page.specs.Edits.{blank}
 use Rattle.gx_page.specs.Format.{IsWellFormed}
-use Rattle.gx_tree_laws.specs.Lists.{how_many}
-use Rattle.gx_tree_laws.specs.Trees.{Pair, Child, Rules, times, is_entry}
-use Rattle.gx_tree_laws.specs.Steps.{node_with, with_key, with_mark}
+use Rattle.gx_node.specs.Lists.{how_many}
+use Rattle.gx_node.specs.Trees.{Pair, Child, Rules, times, is_entry}
+use Rattle.gx_node.specs.Steps.{node_with, with_key, with_mark}
 use Rattle.gx_node.specs.Edits.{marked_as, bounded_by}
 use Rattle.gx_node.specs.Entries.{HoldsPairs, HoldsChildren}
 use Rattle.gx_node.specs.Reading.{Format, is_leaf, is_inner, leaf_of, inner_of}

@@ -1,3 +1,13 @@
+pub mod Lists
+pub mod Trees
+pub mod Legal
+pub mod Steps
+pub mod Reach
+pub mod Looks
+pub mod Writes
+pub mod Rightlinks
+pub mod Alike
+pub mod Worked
 pub mod Edits
 pub mod Entries
 pub mod Hits

@@ -1,8 +1,12 @@
 -- What a step leaves of its pages' owner.
 use Rattle.std.specs.Prelude.{ℕ, ◌≢◌, ◌≤◌, ◌⊎◌, Bool, true, false, List, [], ◌∷◌, ◌++◌, map}
-use Rattle.gx_tree_laws.specs.Trees.{times}
+use Rattle.gx_node.specs.Trees.{times}
 use Rattle.gx_node.specs.declared.fault.StepFault.{StepFault}
-use Rattle.gx_node.specs.declared.fault.StepFault.TheVariants.{Memory, Damaged, PagesFull, Pages}
+use Rattle.gx_node.specs.declared.fault.StepFault.TheVariants.{Damaged, Pages}
+use Rattle.gx_node.specs.declared.fault.LookFault.{LookFault}
+use Rattle.gx_node.specs.declared.fault.LookFault.TheVariants as look
+use Rattle.gx_node.specs.declared.fault.SplitFault.{SplitFault}
+use Rattle.gx_node.specs.declared.fault.SplitFault.TheVariants as split
 
 -- whatever has only gone on since a moment still has
 abbrev pub KeepsSince : {P : Type 0} → (P → P → ℕ → Type 0) → P → P → Type 0
@@ -15,9 +19,16 @@ KeepsSinceBut {P} since page old new = (was : P) (q : ℕ) → q ≢ page → si
 -- a step that pages were refused for says why
 abbrev pub IsWhy : {F : Type 0} → (F → Type 0) → StepFault F → Type 0
 IsWhy why (Pages fault) = why fault
-IsWhy why Memory = Unit {0}
 IsWhy why Damaged = Unit {0}
-IsWhy why PagesFull = Unit {0}
+
+-- and so do a look, and a split
+abbrev pub IsWhyOfLook : {F : Type 0} → (F → Type 0) → LookFault F → Type 0
+IsWhyOfLook why (look.Step fault) = IsWhy why fault
+IsWhyOfLook why look.Memory = Unit {0}
+
+abbrev pub IsWhyOfSplit : {F : Type 0} → (F → Type 0) → SplitFault F → Type 0
+IsWhyOfSplit why (split.Step fault) = IsWhy why fault
+IsWhyOfSplit why split.PagesFull = Unit {0}
 
 -- why pages are refused from here on is why they are refused from before on
 abbrev pub IsWhyLater : {P F : Type 0} → (P → P → F → Type 0) → P → P → Type 0

@@ -4,7 +4,7 @@ use Rattle.std.specs.List.{list_all, All}
 use Rattle.gx_class.specs.declared.class.KeyClass.{Ghosts}
 use Rattle.gx_page.specs.Bytes.{number_32_at, number_64_at}
 use Rattle.gx_page.specs.Contents.{Contents}
-use Rattle.gx_tree_laws.specs.Trees.{Pair, Child, Node}
+use Rattle.gx_node.specs.Trees.{Pair, Child, Node}
 
 -- what the reading of entries is told of a class: how many bytes a key is written in, which key bytes spell, and a key
 -- that stands for those that spell none

@@ -1,7 +1,7 @@
 -- What the code hands out, as the entries that it stands for.
 use Rattle.std.specs.Prelude.{ℕ, Bool}
 use Rattle.gx_machine.specs.declared.entry.Entry.{Entry}
-use Rattle.gx_tree_laws.specs.Trees.{Pair, Child}
+use Rattle.gx_node.specs.Trees.{Pair, Child}
 
 abbrev pub pair_seen : {B : Type 0} → Entry B × Bool → Pair B
 pair_seen p = record { row = p.0.row; key = p.0.key; marked = p.1 }

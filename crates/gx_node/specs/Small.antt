@@ -4,7 +4,7 @@ use Rattle.std.specs.Prelude.{ℕ, ◌+◌, ◌==◌, ◌&&◌, Bool, true, fals
 use Rattle.std.specs.List.{list_all, list_any, position_or_len}
 use Rattle.gx_page.specs.Bytes.{spell_64, number_16, number_64_at}
 use Rattle.gx_page.specs.Contents.{Contents}
-use Rattle.gx_tree_laws.specs.Lists.{staying}
+use Rattle.gx_node.specs.Lists.{staying}
 use Rattle.gx_node.specs.Entries.{mark_byte}
 use Rattle.gx_node.specs.Reading.{Format, inner_size, has_key, is_leaf}
 

@@ -5,8 +5,8 @@ use Rattle.gx_page.specs.Bytes.{AreBytes}
 use Rattle.gx_page.specs.Contents.{Contents}
 use Rattle.gx_page.specs.Edits.{with_items}
 use Rattle.gx_page.specs.Format.{IsWellFormed}
-use Rattle.gx_tree_laws.specs.Lists.{Each, staying}
-use Rattle.gx_tree_laws.specs.Trees.{Pair, Child, Rules, is_entry}
+use Rattle.gx_node.specs.Lists.{Each, staying}
+use Rattle.gx_node.specs.Trees.{Pair, Child, Rules, is_entry}
 use Rattle.gx_node.specs.declared.items.TheConstants.{MAX_ENTRIES}
 use Rattle.gx_node.specs.Edits.{with_pairs, with_children, marked_as, bounded_by}
 use Rattle.gx_node.specs.Reading.{Format, is_leaf, is_inner, is_node, leaf_of, inner_of}

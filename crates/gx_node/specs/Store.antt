@@ -2,7 +2,7 @@
 use Rattle.std.specs.Prelude.{◌≡◌, ℕ, zero, suc, ◌==◌, if◌then◌else◌, Bool, true, ◌&&◌, List, [], ◌∷◌, ◌++◌, length, slice_index_or, ◌-◌, slice_set}
 use Rattle.gx_page.specs.Contents.{Contents}
 use Rattle.gx_node.specs.Reading.{Format, leaf_of, inner_of}
-use Rattle.gx_tree_laws.specs.Trees.{Node, Tree}
+use Rattle.gx_node.specs.Trees.{Node, Tree}
 
 -- what the steps see of pages: the node of each page that is taken, page 1 first; the counter of splits; and how many
 -- pages there are, taken or not

@@ -1,8 +1,8 @@
 //! What the steps that write ask of whoever keeps the pages.
 ghost use Rattle.std.specs.Prelude.{◌≡◌, ◌≤◌, ◌<◌, ◌+◌, ◌-◌, ◌^◌, suc, ℕ, true, [], ◌∷◌, length, IfErr, OnOk};
 ghost use Rattle.gx_node.specs.Reading.{format_of, is_node};
-ghost use Rattle.gx_tree_laws.specs.Lists.{Each};
-ghost use Rattle.gx_tree_laws.specs.Trees.{Node};
+ghost use Rattle.gx_node.specs.Lists.{Each};
+ghost use Rattle.gx_node.specs.Trees.{Node};
 ghost use Rattle.gx_node.specs.Owner.{Prepares, KeepsSince, KeepsSinceBut, IsWhyLater, Asks};
 ghost use Rattle.gx_node.specs.Store.{node_of, node_at, with_node, with_page, with_split};
 

@@ -3,7 +3,7 @@ ghost use Rattle.std.specs.Prelude.{◌≡◌, ◌↔◌, IsTrue};
 ghost use Rattle.gx_page.specs.Format.{IsWellFormed};
 ghost use Rattle.gx_node.specs.Reading.{format_of, is_node, are_pairs, are_children};
 ghost use Rattle.gx_node.specs.Entries.{HoldsNode};
-ghost use Rattle.gx_tree_laws.specs.Trees.{Node};
+ghost use Rattle.gx_node.specs.Trees.{Node};
 
 use crate::entry::{is_child, is_pair};
 use gx_class::KeyClass;

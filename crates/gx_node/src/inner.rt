@@ -2,7 +2,7 @@
 ghost use Rattle.std.specs.Prelude.{◌≡◌, ◌↔◌, ℕ, ◌<◌, ◌≤◌, ◌-◌, true, map, min};
 ghost use Rattle.std.specs.Prelude.{length, IsOk, IfOk, IfErr, Some, slice_get};
 ghost use Rattle.std.specs.List.{IsFirstBest};
-ghost use Rattle.gx_tree_laws.specs.Trees.{Child};
+ghost use Rattle.gx_node.specs.Trees.{Child};
 ghost use Rattle.gx_node.specs.declared.passing.TheConstants.{BLOCK};
 ghost use Rattle.gx_node.specs.Entries.{HoldsChildren};
 ghost use Rattle.gx_node.specs.Hits.{IsNextHit, costs_less, hits_among};
@@ -26,7 +26,7 @@ pub struct Inner<'a, K: KeyClass> {
 }
 
 impl<'a, K: KeyClass> Model for Inner<'a, K> {
-    ghost use Rattle.gx_tree_laws.specs.Trees.{Node};
+    ghost use Rattle.gx_node.specs.Trees.{Node};
     ghost use Rattle.gx_node.specs.Reading.{format_of, inner_size, AreKeyed, inner_of};
 
     ghost Value = { Node K.Key };

@@ -1,8 +1,8 @@
 //! Edits of an inner node in place. None takes memory, and each leaves an inner node of the same page number, level,
 //! sequence number and rightlink. The greatest page taken, `used`, isn't read: it says which test the page passed.
 ghost use Rattle.std.specs.Prelude.{◌≡◌, ◌<◌, ◌≤◌, ◌∷◌, ◌++◌, [], true, length, Some, slice_get, slice_set};
-ghost use Rattle.gx_tree_laws.specs.Lists.{staying};
-ghost use Rattle.gx_tree_laws.specs.Trees.{Child};
+ghost use Rattle.gx_node.specs.Lists.{staying};
+ghost use Rattle.gx_node.specs.Trees.{Child};
 ghost use Rattle.gx_node.specs.Edits.{with_children, bounded_by};
 ghost use Rattle.gx_node.specs.Reading.{format_of, is_inner, inner_of};
 ghost use Rattle.gx_node.specs.Seen.{child_seen};

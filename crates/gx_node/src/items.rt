@@ -2,7 +2,7 @@
 ghost use Rattle.std.specs.Prelude.{◌≡◌, ◌<◌, ◌≤◌, [], ◌∷◌, ◌++◌, length};
 ghost use Rattle.gx_page.specs.Edits.{with_items};
 ghost use Rattle.gx_page.specs.Sizes.{NoneLonger};
-ghost use Rattle.gx_tree_laws.specs.Lists.{staying};
+ghost use Rattle.gx_node.specs.Lists.{staying};
 
 use gx_page::{Page, laws};
 

@@ -1,5 +1,5 @@
 //! Laws of the nodes on pages. Each function is its contract alone.
-ghost use Rattle.gx_tree_laws.specs.Trees.{Pair, Child};
+ghost use Rattle.gx_node.specs.Trees.{Pair, Child};
 ghost use Rattle.gx_node.specs.Hits.{BlocksAreAFilter, HitsAreAFilter};
 ghost use Rattle.gx_node.specs.Reading.{format_of};
 ghost use Rattle.gx_node.specs.Laws.{LeavesHold, HeldPairsAreRead, InnersHold, HeldChildrenAreRead};

@@ -1,7 +1,7 @@
 //! Leaves in place.
 ghost use Rattle.std.specs.Prelude.{◌≡◌, ◌↔◌, ◌<◌, ◌≤◌, ◌-◌, true, map, min};
 ghost use Rattle.std.specs.Prelude.{length, IsOk, IfOk, IfErr, Some, slice_get};
-ghost use Rattle.gx_tree_laws.specs.Trees.{Pair};
+ghost use Rattle.gx_node.specs.Trees.{Pair};
 ghost use Rattle.gx_node.specs.declared.passing.TheConstants.{BLOCK};
 ghost use Rattle.gx_node.specs.Entries.{HoldsPairs};
 ghost use Rattle.gx_node.specs.Hits.{IsNextHit, hits_among};
@@ -26,7 +26,7 @@ pub struct Leaf<'a, K: KeyClass> {
 }
 
 impl<'a, K: KeyClass> Model for Leaf<'a, K> {
-    ghost use Rattle.gx_tree_laws.specs.Trees.{Node};
+    ghost use Rattle.gx_node.specs.Trees.{Node};
     ghost use Rattle.gx_node.specs.Reading.{format_of, leaf_size, AreKeyed, leaf_of};
 
     ghost Value = { Node K.Key };

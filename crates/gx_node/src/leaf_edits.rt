@@ -1,8 +1,8 @@
 //! Edits of a leaf in place. None takes memory, and each leaves a leaf of the same page number, level,
 //! sequence number and rightlink.
 ghost use Rattle.std.specs.Prelude.{◌≡◌, ◌<◌, ◌≤◌, ◌∷◌, ◌++◌, [], true, length, Some, slice_get, slice_set};
-ghost use Rattle.gx_tree_laws.specs.Lists.{staying};
-ghost use Rattle.gx_tree_laws.specs.Trees.{Pair};
+ghost use Rattle.gx_node.specs.Lists.{staying};
+ghost use Rattle.gx_node.specs.Trees.{Pair};
 ghost use Rattle.gx_node.specs.Edits.{with_pairs, marked_as};
 ghost use Rattle.gx_node.specs.Reading.{format_of, is_leaf, leaf_of};
 ghost use Rattle.gx_node.specs.Seen.{pair_seen};

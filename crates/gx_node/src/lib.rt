@@ -1,7 +1,11 @@
-//! Nodes of the tree, read and written in place on their pages, and the scan of their keys; and what the steps of the
-//! tree ask of whoever keeps its pages.
+//! The laws of the tree; its nodes, read and written in place on their pages, and the scan of their keys; and what the
+//! steps of the tree ask of whoever keeps its pages.
+//!
+//! What a tree of pages is, when it is legal, what each step changes, and what a search or a write that is at work may
+//! rely on while others work, functions with empty bodies say, whose contracts are the laws (`tree_laws`, `alike`).
 #![tactic(auto)]
 
+pub mod alike;
 mod changing;
 mod check;
 mod entry;
@@ -16,11 +20,13 @@ mod pages;
 mod passing;
 mod scan;
 pub mod small;
+pub mod tree_laws;
+pub mod worked;
 
 pub use changing::{Edit, PagesMut};
 pub use check::is_node;
 pub use entry::read_key;
-pub use fault::StepFault;
+pub use fault::{LookFault, SplitFault, StepFault};
 pub use inner::Inner;
 pub use items::MAX_ENTRIES;
 pub use leaf::Leaf;

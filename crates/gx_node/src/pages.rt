@@ -1,8 +1,8 @@
 //! What the steps ask of whoever keeps the pages.
 ghost use Rattle.std.specs.Prelude.{◌≡◌, ◌≤◌, ℕ, true, List, [], ◌∷◌, length, IfErr, OnOk};
 ghost use Rattle.gx_node.specs.Reading.{format_of, is_node};
-ghost use Rattle.gx_tree_laws.specs.Lists.{Each};
-ghost use Rattle.gx_tree_laws.specs.Trees.{Used};
+ghost use Rattle.gx_node.specs.Lists.{Each};
+ghost use Rattle.gx_node.specs.Trees.{Used};
 ghost use Rattle.gx_node.specs.Owner.{Asking, Brings, KeepsSince, IsWhyLater, Asks};
 ghost use Rattle.gx_node.specs.Store.{Store, Stays, node_of, node_at, tree_of};
 

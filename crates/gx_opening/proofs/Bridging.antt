@@ -18,14 +18,14 @@ use Rattle.gx_index_laws.specs.Classes.{Class, known_of, tree_in}
 use Rattle.gx_geom.specs.declared.refusal.Refusal.{Refusal}
 use Rattle.gx_machine.specs.Keys.{Members}
 use Rattle.gx_recovery.specs.Known.{Limits}
-use Rattle.gx_readings.specs.Classes.{class_of, node_of, reading_of}
+use Rattle.gx_durable.specs.Classes.{class_of, node_of, reading_of}
 use Rattle.gx_node.specs.Keyed.{rules_of}
 use Rattle.gx_store.specs.Standing.{standing, standing_node}
 use Rattle.gx_store.specs.State.{IsSteady, Shelf}
 use Rattle.gx_store.proofs.Listed.{node_there, nodes_long}
-use Rattle.gx_tree_laws.specs.Alike.{AgreeOnUsed}
-use Rattle.gx_tree_laws.specs.Trees.{Tree}
-use Rattle.gx_tree_laws.proofs.AlikeTrees.{agree_back, legal_too, seek_too}
+use Rattle.gx_node.specs.Alike.{AgreeOnUsed}
+use Rattle.gx_node.specs.Trees.{Tree}
+use Rattle.gx_node.proofs.AlikeTrees.{agree_back, legal_too, seek_too}
 use Rattle.gx_opening.specs.Sound.{AllInPlace, AreSound, CanAllBeRead, IsSoundStore, IsSteadyStore, AreClean, Tells, shown_tree, tree_read}
 use Rattle.gx_opening.proofs.Sounding.{tells_so}
 

@@ -17,9 +17,9 @@ use Rattle.gx_durable.specs.Spelled.{Reading}
 use Rattle.gx_durable.specs.Bodies.{AreBodies}
 use Rattle.gx_found_log.specs.declared.found.FoundLog.{FoundLog}
 use Rattle.gx_found_log.specs.Found.{AreUndamaged, IsFound, LogRead, opened}
-use Rattle.gx_redo.specs.Laid.{Spares}
-use Rattle.gx_redo.specs.Redone.{HasSamePages, IsUngiven}
-use Rattle.gx_redo.specs.Restart.{RedoesFound}
+use Rattle.gx_found_log.specs.Laid.{Spares}
+use Rattle.gx_found_log.specs.Redone.{HasSamePages, IsUngiven}
+use Rattle.gx_found_log.specs.Restart.{RedoesFound}
 use Rattle.gx_opening.specs.Laid.{HasFoundLog, IsKeptOrFound, IsSpared, LogLaid, LaysFound, LaysLog}
 use Rattle.gx_opening.proofs.Sparing.{look_spares, look_spared, spares_fewer}
 

@@ -11,7 +11,7 @@ use Rattle.gx_legality.specs.declared.notes.NotedPair.{NotedPair}
 use Rattle.gx_legality.specs.Gathered.{Ascends}
 use Rattle.gx_legality.specs.Placing.{noted}
 use Rattle.gx_recovery.specs.Records.{Touch}
-use Rattle.gx_tree_laws.specs.Lists.{Each, SomeOf}
+use Rattle.gx_node.specs.Lists.{Each, SomeOf}
 use Rattle.gx_opening.specs.Noting.{note_of, AreLess, IsNoLess, IsPut, IsOfOne, AreNoted}
 
 module _ {X : Type 0} where

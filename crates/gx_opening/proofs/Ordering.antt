@@ -10,7 +10,7 @@ use Rattle.gx_machine.specs.declared.entry.Entry.{Entry}
 use Rattle.gx_machine.specs.Keys.{Members}
 use Rattle.gx_node.specs.Reading.{Format}
 use Rattle.gx_pool.specs.Bringing.{OnlyRead}
-use Rattle.gx_redo.specs.Laid.{Spares}
+use Rattle.gx_found_log.specs.Laid.{Spares}
 use Rattle.gx_opening.specs.Formatted.{Counted, Says, Settles}
 use Rattle.gx_opening.specs.Laid.{IsKeptOrFound, IsSpared, LaysLog}
 use Rattle.gx_opening.specs.Sound.{IsCause}

@@ -30,10 +30,10 @@ use Rattle.gx_store.specs.State.{IsHeld, IsInOrder, IsSteady, Shelf}
 use Rattle.gx_store.specs.declared.fault.StoreFault.{StoreFault}
 use Rattle.gx_store.specs.declared.fault.StoreFault.TheVariants as store_fault
 use Rattle.gx_store.proofs.Listed.{nodes_long}
-use Rattle.gx_tree_laws.specs.Legal.{Legal}
-use Rattle.gx_tree_laws.specs.Lists.{Each, SomeOf}
-use Rattle.gx_tree_laws.proofs.Sums.{each_map}
-use Rattle.gx_tree_laws.specs.Trees.{Rules, Tree, Used}
+use Rattle.gx_node.specs.Legal.{Legal}
+use Rattle.gx_node.specs.Lists.{Each, SomeOf}
+use Rattle.gx_node.proofs.Sums.{each_map}
+use Rattle.gx_node.specs.Trees.{Rules, Tree, Used}
 use Rattle.gx_opening.specs.Noting.{AreNoted, AreOfOthers, IsOfOne, note_of}
 use Rattle.gx_opening.specs.Sound.{AllInPlace, AreClean, CanAllBeRead, IsDamage, IsReadRight, IsSoundStore, OnlyReadsStore, Tells, shown_tree}
 

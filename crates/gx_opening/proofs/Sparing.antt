@@ -4,7 +4,7 @@ use Rattle.gx_disk.specs.Device.{Device, Elapses, IsSettled, MayLeave, Rests}
 use Rattle.gx_disk.specs.Looks.{Looks}
 use Rattle.gx_disk.specs.Sectors.{sector_of}
 use Rattle.gx_disk.proofs.Leaving.{call_leaves, leaves_joined, leaves_weaker, rested_image}
-use Rattle.gx_redo.specs.Laid.{HasAsRead, Spares}
+use Rattle.gx_found_log.specs.Laid.{HasAsRead, Spares}
 
 module _ (Spared : ℕ → Type 0) where
   -- what a device that reads the same may leave where all is settled

@@ -29,7 +29,7 @@ use Rattle.std.specs.Prelude.{IfOk, IfErr}
 use Rattle.gx_recovery.specs.Analysis.{Analysis}
 use Rattle.gx_recovery.specs.Damage.{records_of}
 use Rattle.gx_recovery.specs.Redo.{redone}
-use Rattle.gx_redo.specs.Redone.{HasSamePages}
+use Rattle.gx_found_log.specs.Redone.{HasSamePages}
 use Rattle.gx_durable.specs.Area.{area_of}
 
 -- an image says one thing

@@ -28,9 +28,9 @@ use Rattle.gx_store.specs.State.{Shelf}
 use Rattle.gx_store.specs.declared.fault.StoreFault.{StoreFault}
 use Rattle.gx_node.specs.Keyed.{rules_of}
 use Rattle.gx_node.specs.Store.{tree_of}
-use Rattle.gx_tree_laws.specs.Lists.{Each, SomeOf}
-use Rattle.gx_tree_laws.specs.Trees.{Rules, Tree}
-use Rattle.gx_tree_laws.specs.Writes.{IsSeek}
+use Rattle.gx_node.specs.Lists.{Each, SomeOf}
+use Rattle.gx_node.specs.Trees.{Rules, Tree}
+use Rattle.gx_node.specs.Writes.{IsSeek}
 use Rattle.gx_opening.specs.declared.damage.Damage.{Damage}
 use Rattle.gx_opening.specs.declared.damage.Damage.TheVariants.{Log, TooManyPages, Unreadable, Broken}
 use Rattle.gx_opening.specs.Shown.{FoundShows, IndexShows, IsBroken, IsLeftOut, PagesShow, Shows, Starts, TreeShows, damage_of}

@@ -19,8 +19,8 @@ use Rattle.gx_recovery.specs.Life.{AllWritten}
 use Rattle.gx_recovery.specs.Records.{Record}
 use Rattle.gx_recovery.specs.Redo.{redone}
 use Rattle.gx_recovery.specs.Renewal as renewal
-use Rattle.gx_redo.specs.Laid.{Spares}
-use Rattle.gx_redo.specs.Redone.{HasSamePages, IsUngiven}
+use Rattle.gx_found_log.specs.Laid.{Spares}
+use Rattle.gx_found_log.specs.Redone.{HasSamePages, IsUngiven}
 
 module _ {E P : Type 0} (k : Known E P) (r : Reading E P) where
   -- The log of what is seen is undamaged; an image has the same log, and after it the same pages.

@@ -6,7 +6,7 @@ use Rattle.gx_legality.specs.declared.notes.NotedPair.{NotedPair}
 use Rattle.gx_legality.specs.Gathered.{Ascends}
 use Rattle.gx_legality.specs.Placing.{noted}
 use Rattle.gx_recovery.specs.Records.{Touch}
-use Rattle.gx_tree_laws.specs.Lists.{Each, SomeOf}
+use Rattle.gx_node.specs.Lists.{Each, SomeOf}
 
 -- a touch's note
 abbrev pub note_of : {E : Type 0} → Touch E → NotedPair E

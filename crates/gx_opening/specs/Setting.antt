@@ -11,7 +11,7 @@ use Rattle.gx_node.specs.Reading.{format_of, is_node}
 use Rattle.gx_recovery.specs.Analysis.{Analysis}
 use Rattle.gx_recovery.specs.Known.{Limits}
 use Rattle.gx_recovery.specs.Records.{Touch}
-use Rattle.gx_readings.specs.Classes.{known_at, reading_by}
+use Rattle.gx_durable.specs.Classes.{known_at, reading_by}
 use Rattle.gx_store.specs.State.{Shelf}
 use Rattle.gx_opening.specs.declared.damage.Damage.{Damage}
 use Rattle.gx_opening.specs.declared.standing.Standing.{Standing}

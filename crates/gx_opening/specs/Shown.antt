@@ -23,9 +23,9 @@ use Rattle.gx_store.specs.Standing.{store_of}
 use Rattle.gx_store.specs.State.{Shelf}
 use Rattle.gx_node.specs.Keyed.{rules_of}
 use Rattle.gx_node.specs.Store.{tree_of}
-use Rattle.gx_tree_laws.specs.Lists.{SomeOf}
-use Rattle.gx_tree_laws.specs.Trees.{Rules, Tree}
-use Rattle.gx_tree_laws.specs.Writes.{IsSeek}
+use Rattle.gx_node.specs.Lists.{SomeOf}
+use Rattle.gx_node.specs.Trees.{Rules, Tree}
+use Rattle.gx_node.specs.Writes.{IsSeek}
 use Rattle.gx_opening.specs.declared.damage.Damage.{Damage}
 use Rattle.gx_opening.specs.declared.damage.Damage.TheVariants.{Log, TooManyPages, Unreadable, Broken}
 

@@ -24,11 +24,11 @@ use Rattle.gx_store.specs.State.{IsHeld, IsInOrder, IsSteady, Shelf}
 use Rattle.gx_store.specs.declared.fault.StoreFault.{StoreFault}
 use Rattle.gx_store.specs.declared.fault.StoreFault.TheVariants as store_fault
 use Rattle.gx_node.specs.Store as store
-use Rattle.gx_tree_laws.specs.Legal.{Legal}
-use Rattle.gx_tree_laws.specs.Lists.{Each}
-use Rattle.gx_tree_laws.specs.Trees as trees
-use Rattle.gx_tree_laws.specs.Trees.{Rules}
-use Rattle.gx_tree_laws.specs.Writes.{IsSeek}
+use Rattle.gx_node.specs.Legal.{Legal}
+use Rattle.gx_node.specs.Lists.{Each}
+use Rattle.gx_node.specs.Trees as trees
+use Rattle.gx_node.specs.Trees.{Rules}
+use Rattle.gx_node.specs.Writes.{IsSeek}
 
 -- each page in use reads as one with its number that passes
 abbrev pub CanAllBeRead : (Contents → Bool) → ℕ → List ℕ → Type 0

@@ -21,9 +21,9 @@ use Rattle.gx_durable.specs.Spelled.{Reading}
 use Rattle.gx_found_log.specs.declared.found.FoundLog.{FoundLog}
 use Rattle.gx_found_log.specs.Found.{HasUndamaged}
 use Rattle.gx_index_laws.specs.Classes.{Page, known_of}
-use Rattle.gx_readings.specs.Classes.{class_of, reading_of}
+use Rattle.gx_durable.specs.Classes.{class_of, reading_of}
 use Rattle.gx_opening.specs.Formatted.{IsAllowed, IsLarge, MaySettle, Says, head_of}
-use Rattle.gx_redo.specs.Laid.{Spares}
+use Rattle.gx_found_log.specs.Laid.{Spares}
 use Rattle.gx_opening.specs.Laid.{HasFoundLog, IsKeptOrFound, IsLaid, IsSpared}
 use Rattle.gx_opening.specs.Sound.{AreSound, IsCause}
 use Rattle.gx_opening.specs.Writing.{IsInOrder, IsUnfit, IsUnwritten, SyncsFirst}

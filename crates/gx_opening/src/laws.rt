@@ -4,8 +4,8 @@ ghost use Rattle.gx_node.specs.Reading.{format_of};
 ghost use Rattle.gx_opening.specs.Standing.{FoundStands, SoundIsGood};
 
 use gx_disk::SectorDisk;
-use gx_readings::ReadKeys;
-use gx_readings::laws::what_stands_is_legal;
+use gx_durable::ReadKeys;
+use gx_durable::class_laws::what_stands_is_legal;
 
 /// Pages that are found sound are good for the log that was laid on them. So at each moment of that, whatever a crash
 /// may leave that wasn't there before stands for what the log keeps, as it was found.

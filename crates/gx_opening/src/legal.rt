@@ -15,15 +15,15 @@ ghost use Rattle.gx_opening.specs.Setting.{IsSoundStoreAs, AreSoundAs};
 
 use crate::notes::notes_of;
 use crate::reader::StoreReader;
-use gx_analysis::{Analysis, Touch};
 use gx_disk::SectorDisk;
+use gx_durable::ReadKeys;
 use gx_geom::Refusal;
 use gx_legality::laws::what_breaks_a_rule_is_not_legal;
 use gx_legality::{LegalityFault, are_in_order, test_tree};
 use gx_machine::Entry;
 use gx_node::Pages;
 use gx_pool::Pool;
-use gx_readings::ReadKeys;
+use gx_recovery::{Analysis, Touch};
 use gx_store::laws::{a_store_starts, going_on};
 use gx_store::{NodeTest, PageStore, StoreFault};
 use std::alloc::Global;

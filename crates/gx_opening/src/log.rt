@@ -5,16 +5,15 @@ ghost use Rattle.gx_durable.specs.Area.{HasPages};
 ghost use Rattle.gx_found_log.specs.Found.{FaultsTold};
 ghost use Rattle.gx_node.specs.declared.items.TheConstants.{MAX_ENTRIES};
 ghost use Rattle.gx_recovery.specs.Known.{Limits};
-ghost use Rattle.gx_readings.specs.Classes.{known_at, reading_by};
+ghost use Rattle.gx_durable.specs.Classes.{known_at, reading_by};
 ghost use Rattle.gx_opening.specs.Laid.{LaysFound, LaysLogOf};
 
 use gx_disk::SectorDisk;
-use gx_found_log::{FoundLog, read_class_log};
+use gx_durable::{OfClass, ReadKeys};
+use gx_found_log::{FoundLog, read_class_log, redo_log};
 use gx_geom::Refusal;
 use gx_glog::PLACES;
 use gx_machine::Entry;
-use gx_readings::{OfClass, ReadKeys};
-use gx_redo::redo_log;
 use std::alloc::Global;
 
 // Lays the pages of a log that was found.

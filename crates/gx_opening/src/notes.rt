@@ -2,8 +2,8 @@
 ghost use Rattle.std.specs.Prelude.{◌≡◌, ◌≤◌, length, take, drop, IfOk};
 ghost use Rattle.gx_opening.specs.Noting.{AreLess, AreNoted, IsNoLess, IsPut};
 
-use gx_analysis::Touch;
 use gx_legality::NotedPair;
+use gx_recovery::Touch;
 use std::alloc::{AllocError, Global};
 use std::cmp::Ordering;
 

@@ -15,12 +15,12 @@ use crate::formatted::formatted_for;
 use crate::legal::test_pages;
 use crate::log::lay_log;
 use gx_disk::SectorDisk;
+use gx_durable::ReadKeys;
+use gx_durable::class_laws::what_stands_is_legal;
 use gx_found_log::FoundLog;
 use gx_geom::Refusal;
 use gx_glog::Parameters;
 use gx_machine::Entry;
-use gx_readings::ReadKeys;
-use gx_readings::laws::what_stands_is_legal;
 use std::alloc::Global;
 
 /// An index that stands on a device.

@@ -15,13 +15,13 @@ use Rattle.gx_machine.specs.Sessions.{Locks, Session, locks_of, lock_for}
 use Rattle.gx_machine.specs.Machine.{is_session, session_at}
 use Rattle.gx_txn.specs.Tables.{Held, nothing_held, with_locks, locks_for}
 use Rattle.gx_txn.proofs.AsMachine.{same_decision}
-use Rattle.gx_engine_laws.specs.Slots as slots
-use Rattle.gx_engine_laws.specs.Slots.{Slot, with_slot}
-use Rattle.gx_engine_laws.specs.Engines.{Engine, IsSame, session_of, sessions_of}
-use Rattle.gx_engine_laws.specs.Asking.{least_barring, claims_held, asked_with, ask_slot, ask_in, ask}
-use Rattle.gx_engine_laws.specs.Events.{IsEvent, Asks}
-use Rattle.gx_engine_laws.proofs.Places.{session_of_slot}
-use Rattle.gx_engine_laws.proofs.Asks.{same_least, same_held}
+use Rattle.gx_events.specs.Slots as slots
+use Rattle.gx_events.specs.Slots.{Slot, with_slot}
+use Rattle.gx_events.specs.Engines.{Engine, IsSame, session_of, sessions_of}
+use Rattle.gx_events.specs.Asking.{least_barring, claims_held, asked_with, ask_slot, ask_in, ask}
+use Rattle.gx_events.specs.Events.{IsEvent, Asks}
+use Rattle.gx_events.proofs.Places.{session_of_slot}
+use Rattle.gx_events.proofs.Asks.{same_least, same_held}
 use Rattle.gx_phases.specs.declared.phase.Phase.{Phase}
 use Rattle.gx_phases.specs.declared.phase.Phase.TheVariants as phase
 use Rattle.gx_phases.specs.States.{State, slot_of, slots_of, note_of, phase_at, held_at, with_phase, with_session, HoldsNothing, engine_of, IsKept}

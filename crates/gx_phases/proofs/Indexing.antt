@@ -17,12 +17,12 @@ use Rattle.gx_machine.specs.Sessions.{Locks, no_locks}
 use Rattle.gx_machine.specs.Machine.{is_session}
 use Rattle.gx_machine.proofs.Places.{session_bounds}
 use Rattle.gx_txn.specs.Tables.{Held, nothing_held, held_by, with_held, with_locks, locks_for}
-use Rattle.gx_engine_laws.specs.Slots as slots
-use Rattle.gx_engine_laws.specs.Slots.{Slot, slot_at, with_slot}
-use Rattle.gx_engine_laws.specs.Engines.{Engine}
-use Rattle.gx_engine_laws.specs.Asking.{ask_in, ask}
-use Rattle.gx_engine_laws.specs.Events as events
-use Rattle.gx_engine_laws.specs.Events.{Event, IsEvent}
+use Rattle.gx_events.specs.Slots as slots
+use Rattle.gx_events.specs.Slots.{Slot, slot_at, with_slot}
+use Rattle.gx_events.specs.Engines.{Engine}
+use Rattle.gx_events.specs.Asking.{ask_in, ask}
+use Rattle.gx_events.specs.Events as events
+use Rattle.gx_events.specs.Events.{Event, IsEvent}
 use Rattle.gx_index_laws.specs.Classes.{Class, IsLawful, is_live}
 use Rattle.gx_index_laws.specs.States as index
 use Rattle.gx_index_laws.specs.Whole.{IsWhole}

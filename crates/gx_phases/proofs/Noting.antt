@@ -8,7 +8,7 @@ use Rattle.gx_machine.specs.Sets.{InOrder}
 use Rattle.gx_txn.specs.declared.note.Note as txn
 use Rattle.gx_txn.specs.Notes.{entries_of, noting, of_entry, with_first_mark}
 use Rattle.gx_txn.proofs.FirstAndLast.{of_entry-noting}
-use Rattle.gx_engine_laws.specs.Slots.{noted, WithNote}
+use Rattle.gx_events.specs.Slots.{noted, WithNote}
 use Rattle.gx_phases.specs.States.{note_of}
 
 module _ {B : Type 0} (k : Keys B) where

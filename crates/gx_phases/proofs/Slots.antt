@@ -8,9 +8,9 @@ use Rattle.gx_machine.specs.Sessions.{locks_of}
 use Rattle.gx_machine.specs.declared.entry.Entry.{Entry}
 use Rattle.gx_machine.specs.Keys.{Keys}
 use Rattle.gx_txn.specs.Tables.{Held, nothing_held}
-use Rattle.gx_engine_laws.specs.Slots as slots
-use Rattle.gx_engine_laws.specs.Slots.{Slot, slot_at}
-use Rattle.gx_engine_laws.specs.Engines.{session_of, sessions_of}
+use Rattle.gx_events.specs.Slots as slots
+use Rattle.gx_events.specs.Slots.{Slot, slot_at}
+use Rattle.gx_events.specs.Engines.{session_of, sessions_of}
 use Rattle.gx_phases.specs.declared.phase.Phase.{Phase}
 use Rattle.gx_phases.specs.declared.phase.Phase.TheVariants as phase
 use Rattle.gx_phases.specs.States.{slot_of, slots_of, phase_at, held_at, HoldsNothing}

@@ -12,7 +12,7 @@ use Rattle.gx_machine.specs.Keys.{Keys}
 use Rattle.gx_machine.specs.Machine.{is_session}
 use Rattle.gx_machine.specs.Sessions.{Locks}
 use Rattle.gx_txn.specs.Tables.{held_by, with_locks, locks_for}
-use Rattle.gx_engine_laws.specs.Events.{Event, Asks, RefusesAsk}
+use Rattle.gx_events.specs.Events.{Event, Asks, RefusesAsk}
 use Rattle.gx_phases.specs.declared.phase.Phase.{Phase}
 use Rattle.gx_phases.specs.declared.phase.Phase.TheVariants as phase
 use Rattle.gx_phases.specs.States.{State, phase_at, with_phase_of, with_session, with_transaction}

@@ -5,7 +5,7 @@ use Rattle.gx_machine.specs.declared.reply.Reply.TheVariants as reply
 use Rattle.gx_machine.specs.declared.reply.Asked.{Asked}
 use Rattle.gx_machine.specs.declared.reply.Asked.TheVariants as asked
 use Rattle.gx_machine.specs.Machine.{is_session}
-use Rattle.gx_engine_laws.specs.Asking.{ask_in}
+use Rattle.gx_events.specs.Asking.{ask_in}
 use Rattle.gx_index_laws.specs.Classes.{Class}
 use Rattle.gx_index_laws.specs.States as index
 use Rattle.gx_index_laws.specs.Happening as happening

@@ -3,7 +3,7 @@ use Rattle.std.specs.Prelude.{ℕ, ◌≡◌, Bool, Some, List, map, take}
 use Rattle.gx_machine.specs.declared.entry.Entry.{Entry}
 use Rattle.gx_machine.specs.Keys.{Keys}
 use Rattle.gx_txn.specs.declared.note.Note.{Note}
-use Rattle.gx_engine_laws.specs.Slots.{noted}
+use Rattle.gx_events.specs.Slots.{noted}
 use Rattle.gx_phases.specs.States.{note_of}
 
 -- of the notes, the first so many are restored: their entries are as live as the notes say

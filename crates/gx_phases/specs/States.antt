@@ -10,9 +10,9 @@ use Rattle.gx_machine.specs.Sets.{InOrder}
 use Rattle.gx_txn.specs.declared.note.Note as txn
 use Rattle.gx_txn.specs.Notes.{entries_of}
 use Rattle.gx_txn.specs.Tables.{Held, nothing_held, with_held, claims}
-use Rattle.gx_engine_laws.specs.Slots as slots
-use Rattle.gx_engine_laws.specs.Slots.{Slot, Note}
-use Rattle.gx_engine_laws.specs.Engines.{Engine}
+use Rattle.gx_events.specs.Slots as slots
+use Rattle.gx_events.specs.Slots.{Slot, Note}
+use Rattle.gx_events.specs.Engines.{Engine}
 use Rattle.gx_phases.specs.declared.phase.Phase.{Phase}
 use Rattle.gx_phases.specs.declared.phase.Phase.TheVariants as phase
 

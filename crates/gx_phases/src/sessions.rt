@@ -71,7 +71,7 @@ impl<B: Shape, W: Drop> Sessions<B, W> {
     ghost use Rattle.gx_machine.specs.declared.entry.Entry.{Entry};
     ghost use Rattle.gx_machine.specs.declared.call.Call.TheVariants.{Insert};
     ghost use Rattle.gx_machine.specs.declared.limits.TheConstants.{LAST_NUMBER};
-    ghost use Rattle.gx_engine_laws.specs.Events.{IsEvent};
+    ghost use Rattle.gx_events.specs.Events.{IsEvent};
     ghost use Rattle.gx_txn.specs.Tables.{held_by, claimed_in, locks_for, IsKept as HeldIsKept};
     ghost use Rattle.gx_phases.specs.States.{fresh_state, engine_of, phase_at, with_phase_of, IsKept};
     ghost use Rattle.gx_phases.specs.Moves.{is_open, asks_commit, HasWrite, is_undoing, waits_for};

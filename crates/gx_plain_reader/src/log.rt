@@ -226,16 +226,19 @@ impl Log {
         Ok(())
     }
 
-    /// A small change of a page.
+    /// A small change of a page; none where its key is none of the class, which fits no page.
     fn test_change(
         &mut self,
         alloc: Global,
         image: &[u8],
         page: u32,
-        small: Small,
+        small: Option<Small>,
     ) -> Result<(), Damage> {
         let Some(at) = self.place(page) else {
             return self.test(false, rules::NO_IMAGE);
+        };
+        let Some(small) = small else {
+            return self.test(false, rules::UNFIT);
         };
         let fits = self.fits(alloc, page, page_at(image, at)?, &small)?;
         self.test(fits, rules::UNFIT)?;
@@ -259,7 +262,7 @@ impl Log {
             Some(marked) => Small::Mark(entry, marked),
             None => Small::Add(entry),
         };
-        self.test_change(alloc, image, told.leaf, small)
+        self.test_change(alloc, image, told.leaf, Some(small))
     }
 
     /// A commit's or an end's transaction.
@@ -321,8 +324,7 @@ impl Log {
                 self.test_small(alloc, image, touching, Some(*marked))
             }
             Logged::Add(touching) => self.test_small(alloc, image, touching, None),
-            Logged::Adjust(page, Some(small)) => self.test_change(alloc, image, *page, *small),
-            Logged::Adjust(_, None) => self.test(false, rules::KEY),
+            Logged::Adjust(page, small) => self.test_change(alloc, image, *page, *small),
         }
     }
 

@@ -14,7 +14,7 @@ use Rattle.gx_pool.specs.Marks.{clean, empty, is_dirty, is_held}
 use Rattle.gx_pool.specs.State.{State, Kept, IsSound, IsSpare, NoneDirty, mark_at, place_of, kept, stamp_of, clean_count, dirty_count, is_clean_at, is_clean_page, is_counted, held_clean}
 use Rattle.gx_pool.specs.Edits.{changed, changed_at, later, stamped}
 use Rattle.gx_pool.proofs.Places.{kept_none, kept_some, some-injective}
-use Rattle.gx_pool.proofs.Counting.{counted_set, none_counted, one_fewer, one_more, as_many, counted_at, counts_joined, all_counted, one_counted, false_of, Matched, no_more_counted}
+use Rattle.gx_pool.proofs.Counting.{counted_set, none_counted, one_fewer, one_more, as_many, counted_at, counts_joined, all_counted, one_counted, false_of, no_more_counted}
 
 -- ---- the frames of pages that are held
 

@@ -21,3 +21,9 @@ pub mod SoundRecords
 pub mod Unnamed
 pub mod Bodies
 pub mod Listing
+pub mod Placing
+pub mod Searching
+pub mod Bridging
+pub mod Fitting
+pub mod Heads
+pub mod Telling

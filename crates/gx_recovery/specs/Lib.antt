@@ -13,3 +13,7 @@ pub mod Machines
 pub mod Damages
 pub mod Worked
 pub mod WorkedLife
+pub mod Kept
+pub mod Broken
+pub mod Telling
+pub mod Texts

@@ -2,15 +2,30 @@
 //!
 //! A log is a list of records over entries and pages. Of these the crate knows only what [`Meaning`] names: which
 //! entries are live in given pages, and which pages are good. It knows no device and no tree.
+//!
+//! What a restart learns from a log before it redoes anything is an [`Analysis`]: the numbers, what open transactions
+//! have touched, and which transactions are closed (the analysis pass of Mohan and others, ARIES, 1992).
+//! A log that is damaged is refused.
 #![tactic(auto)]
 
 ghost use Rattle.gx_recovery.specs.Known.{Known, Limits};
 
 use gx_machine::{MAX_CLAIMS, SESSIONS};
 
+mod analysis;
+pub mod analysis_laws;
+mod closed;
 pub mod laws;
 pub mod machine_laws;
+mod rule;
+mod touch;
+mod touched;
 pub mod worked;
+
+pub use analysis::Analysis;
+pub use closed::CLOSINGS;
+pub use rule::LogRule;
+pub use touch::Touch;
 
 /// How many transactions of a log may be open at once: one for each session.
 pub const TRANSACTIONS: usize = SESSIONS;

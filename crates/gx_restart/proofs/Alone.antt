@@ -14,8 +14,8 @@ use Rattle.gx_disk.specs.Device.{Device}
 use Rattle.gx_disk.proofs.Leaving.{leaves_joined, leaves_weaker, nothing_leaves}
 use Rattle.gx_page.specs.Contents.{Contents}
 use Rattle.gx_node.specs.Reading.{Format, format_of, is_node}
-use Rattle.gx_engine_laws.specs.Engines.{Engine, SeenAs, session_of}
-use Rattle.gx_engine_laws.specs.Events as laws
+use Rattle.gx_events.specs.Engines.{Engine, SeenAs, session_of}
+use Rattle.gx_events.specs.Events as laws
 use Rattle.gx_recovery.specs.Known.{Limits}
 use Rattle.gx_recovery.specs.Records.{Record}
 use Rattle.gx_index_laws.specs.Classes.{Class, IsLawful, Page}
@@ -23,13 +23,13 @@ use Rattle.gx_index_laws.specs.Happening.{AreHappening}
 use Rattle.gx_index_laws.specs.States as index
 use Rattle.gx_index_laws.specs.States.{engine_of}
 use Rattle.gx_durable.specs.Spelled.{Reading}
-use Rattle.gx_readings.specs.Classes.{class_of, reading_of}
+use Rattle.gx_durable.specs.Classes.{class_of, reading_of}
 use Rattle.gx_events.specs.declared.event.Event.{Event}
 use Rattle.gx_events.specs.declared.event.Event.TheVariants.{Ask, Move, LogStep, WritePage, CheckpointStep, Sweep}
 use Rattle.gx_events.specs.declared.outcome.Outcome.{Outcome}
 use Rattle.gx_events.specs.declared.outcome.Outcome.TheVariants.{Nothing, Refused}
 use Rattle.gx_events.specs.declared.driver.Next.TheVariants.{Run, Done}
-use Rattle.gx_events.specs.Engines.{AreOf}
+use Rattle.gx_events.specs.Steps.{AreOf}
 use Rattle.gx_engine.specs.Holds.{Holds}
 use Rattle.gx_engine.specs.Running.{AreSteps, StandsForOne}
 use Rattle.gx_engine.specs.States.{Parts}

@@ -8,7 +8,7 @@ use Rattle.gx_machine.specs.Keys.{Members}
 use Rattle.gx_page.specs.Contents.{Contents}
 use Rattle.gx_node.specs.Reading.{format_of, is_node}
 use Rattle.gx_recovery.specs.Known.{Limits}
-use Rattle.gx_readings.specs.Classes.{class_of, reading_of}
+use Rattle.gx_durable.specs.Classes.{class_of, reading_of}
 use Rattle.gx_store.specs.Standing.{standing_node}
 use Rattle.gx_store.proofs.Listed.{nodes_long}
 use Rattle.gx_events.specs.declared.outcome.Need.{Need}

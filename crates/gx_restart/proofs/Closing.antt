@@ -43,7 +43,7 @@ use Rattle.gx_opening.proofs.Heads.{formatted_head}
 use Rattle.gx_pool.specs.Area.{IsPassing, bytes_of, first_of}
 use Rattle.gx_pool.specs.Readable.{IsReadable}
 use Rattle.gx_pool.specs.State.{State as Frames, kept}
-use Rattle.gx_readings.specs.Classes.{class_of}
+use Rattle.gx_durable.specs.Classes.{class_of}
 use Rattle.gx_recovery.specs.Analysis.{Analysis, analysis, number_of}
 use Rattle.gx_recovery.specs.Coming.{IsGood}
 use Rattle.gx_recovery.specs.Damage.{IsLog, records_of}

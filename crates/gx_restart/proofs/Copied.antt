@@ -40,7 +40,7 @@ use Rattle.gx_opening.proofs.Stood.{one_saying}
 use Rattle.gx_opening.specs.Sound.{IsCause}
 use Rattle.gx_opening.specs.Standing.{IsFormatted, LaysSafely, known_for, limits_of, reading}
 use Rattle.gx_opening.specs.Writing.{IsInOrder}
-use Rattle.gx_readings.specs.Classes.{class_of}
+use Rattle.gx_durable.specs.Classes.{class_of}
 use Rattle.gx_restart.specs.Beginning.{HasFailed, IsSameDevice}
 use Rattle.gx_restart.specs.Copied.{AreEnough, IsCopy, IsFront, refusal_of_copy}
 use Rattle.gx_restart.specs.Opened.{IsRefused}

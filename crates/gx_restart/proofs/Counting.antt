@@ -3,9 +3,9 @@ use Rattle.std.proofs.Common.{◌≡◌, ℕ, zero, suc, ◌+◌, ◌<◌, ◌�
 use Rattle.std.specs.Prelude.{slice_get}
 use Rattle.std.proofs.lemmas.List.{take_more}
 use Rattle.std.proofs.lemmas.Option.{get_or_from_slice_get}
-use Rattle.gx_tree_laws.specs.Lists.{how_many, one_if}
-use Rattle.gx_tree_laws.specs.Trees.{Node}
-use Rattle.gx_tree_laws.proofs.Sums.{sum_over-append}
+use Rattle.gx_node.specs.Lists.{how_many, one_if}
+use Rattle.gx_node.specs.Trees.{Node}
+use Rattle.gx_node.proofs.Sums.{sum_over-append}
 use Rattle.gx_restart.specs.Sizes.{live_on, live_up_to}
 
 pub at_most_one : (b : Bool) → one_if b ≤ 1

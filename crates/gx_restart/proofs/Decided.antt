@@ -10,13 +10,13 @@ use Rattle.gx_machine.proofs.Places.{at_idle}
 use Rattle.gx_machine.specs.Keys.{Keys, Members}
 use Rattle.gx_machine.specs.Machine.{Machine, session_at}
 use Rattle.gx_machine.specs.Sessions.{Session, is_unanswered}
-use Rattle.gx_engine_laws.specs.Engines.{SeenAs, opened_machine}
+use Rattle.gx_events.specs.Engines.{SeenAs, opened_machine}
 use Rattle.gx_recovery.specs.Known.{Limits}
 use Rattle.gx_recovery.specs.Records.{Record}
 use Rattle.gx_index_laws.specs.Classes.{Class, IsLawful, Page}
 use Rattle.gx_index_laws.specs.States as index
 use Rattle.gx_index_laws.specs.States.{engine_of}
-use Rattle.gx_readings.specs.Classes.{class_of}
+use Rattle.gx_durable.specs.Classes.{class_of}
 use Rattle.gx_script.specs.declared.line.Line.{Line}
 use Rattle.gx_script.specs.Scripts.{IsScript}
 use Rattle.gx_plain.specs.Boxes.{box_keys}

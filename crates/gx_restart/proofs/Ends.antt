@@ -11,9 +11,9 @@ use Rattle.gx_disk.specs.Moments.{Leaves}
 use Rattle.gx_disk.proofs.Leaving.{leaves_joined, leaves_weaker, nothing_leaves}
 use Rattle.gx_durable.specs.Head.{head_in}
 use Rattle.gx_durable.proofs.Crashes.{crash_leaves}
-use Rattle.gx_engine_laws.specs.Slots as slots
-use Rattle.gx_engine_laws.specs.Slots.{Slot}
-use Rattle.gx_engine_laws.specs.Engines.{session_of}
+use Rattle.gx_events.specs.Slots as slots
+use Rattle.gx_events.specs.Slots.{Slot}
+use Rattle.gx_events.specs.Engines.{session_of}
 use Rattle.gx_engine.specs.declared.start.NotOpened.{NotOpened}
 use Rattle.gx_engine.specs.States.{Parts}
 use Rattle.gx_glog.specs.declared.parameters.Parameters.{Parameters}
@@ -31,7 +31,7 @@ use Rattle.gx_opening.proofs.Stood.{one_saying}
 use Rattle.gx_phases.specs.declared.phase.Phase.{Phase}
 use Rattle.gx_phases.specs.declared.phase.Phase.TheVariants as phase
 use Rattle.gx_phases.specs.States.{phase_at, slot_of, slots_of}
-use Rattle.gx_readings.specs.Classes.{class_of}
+use Rattle.gx_durable.specs.Classes.{class_of}
 use Rattle.gx_txn.specs.Tables.{Held}
 use Rattle.gx_restart.specs.Beginning.{HasBegun, HasNotBegun, HoldsFound, IsSameDevice}
 use Rattle.gx_restart.specs.Keeping.{ArePagesGood, IsKept, KeepsItsSet, OpensSafely, StandsForFound}

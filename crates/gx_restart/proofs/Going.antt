@@ -11,7 +11,7 @@ use Rattle.gx_machine.specs.Keys.{Members, keys_of}
 use Rattle.gx_machine.specs.Machine.{is_session}
 use Rattle.gx_disk.specs.Device.{Device}
 use Rattle.gx_node.specs.Reading.{format_of, is_node}
-use Rattle.gx_readings.specs.Classes.{known_at, reading_of}
+use Rattle.gx_durable.specs.Classes.{known_at, reading_of}
 use Rattle.gx_events.specs.declared.event.Event.{Event}
 use Rattle.gx_events.specs.declared.event.Event.TheVariants.{Ask, Move, LogStep, WritePage, CheckpointStep, Sweep}
 use Rattle.gx_events.specs.declared.outcome.Outcome.{Outcome}

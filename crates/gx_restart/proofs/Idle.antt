@@ -2,7 +2,7 @@
 use Rattle.std.proofs.Common.{◌≡◌, ◌≤◌, ℕ, Bool, List}
 use Rattle.gx_disk.specs.Device.{Device}
 use Rattle.gx_durable.specs.Area.{area_of}
-use Rattle.gx_engine_laws.specs.Engines.{stood}
+use Rattle.gx_events.specs.Engines.{stood}
 use Rattle.gx_engine.specs.States.{Parts}
 use Rattle.gx_index_laws.specs.States.{engine_of}
 use Rattle.gx_machine.specs.Keys.{Members, keys_of}
@@ -10,7 +10,7 @@ use Rattle.gx_machine.proofs.SetsByTests.{set_of_a_test_that_agrees}
 use Rattle.gx_node.specs.Reading.{Format}
 use Rattle.gx_index_laws.specs.Classes.{IsLawful}
 use Rattle.gx_opening.specs.Standing.{known_for, limits_of, reading}
-use Rattle.gx_readings.specs.Classes.{class_of}
+use Rattle.gx_durable.specs.Classes.{class_of}
 use Rattle.gx_recovery.specs.Analysis.{number_of}
 use Rattle.gx_recovery.specs.Damage.{records_of}
 use Rattle.gx_recovery.specs.Known.{Limits}

@@ -1,7 +1,6 @@
 -- What an event of an opening leaves of the sessions and of the device.
 use Rattle.std.proofs.Common.{◌≡◌, inl, inr, ℕ, zero, suc, ◌+◌, ◌-◌, ◌<◌, ◌≤◌, Bool, true, false, ◌||◌, Option, None, Some, List, [], ◌∷◌, refl, ap, sym, ◌∙◌, subst, arith}
 use Rattle.std.specs.Prelude.{nat_le, Result, Ok, Err, slice_set}
-use Rattle.gx_record.specs.Writing.{write_record}
 use Rattle.gx_geom.specs.declared.refusal.Refusal.{Refusal}
 use Rattle.gx_geom.specs.declared.refusal.Refusal.TheVariants as refusal
 use Rattle.gx_machine.specs.declared.entry.Entry.{Entry}
@@ -22,7 +21,8 @@ use Rattle.gx_glog.specs.declared.stage.Turn.{Turn}
 use Rattle.gx_pool.specs.Marks.{is_gated}
 use Rattle.gx_pool.specs.State.{Kept, kept, stamp_of}
 use Rattle.gx_pool.specs.Bringing.{OnlyRead}
-use Rattle.gx_storage.specs.Changes.{IsUnlogged, MarkIsLogged, begun}
+use Rattle.gx_store.specs.State.{Shelf}
+use Rattle.gx_storage.specs.Changes.{IsUnlogged, MarkIsLogged}
 use Rattle.gx_storage.specs.State.{Volume}
 use Rattle.gx_txn.specs.declared.note.Note.{Note}
 use Rattle.gx_events.specs.declared.event.Event.{Event}
@@ -315,13 +315,13 @@ module _ {B D : Type 0} (state : D → Device) where
     read_on : (old new : Parts B D) → OnlyRead (at old) (at new) → (at old).faults ≤ (at new).faults → HasGoneOn (at old) (at new)
     read_on old new read faults = record { sectors = read.sectors; honest = read.honest; faults = faults }
 
-    unlogged_device : (old new : Parts B D) → IsUnlogged known r f passes (begun old.volume (write_record key)) (at old) (at new) old.volume new.volume → HasGoneOn (at old) (at new)
-    unlogged_device old new is = read_on old new (is.since 0).goes_on.device (is.since 0).goes_on.faults
+    unlogged_device : (old new : Parts B D) (was : Shelf D) → IsUnlogged known r f passes was (at old) (at new) old.volume new.volume → HasGoneOn (at old) (at new)
+    unlogged_device old new was is = read_on old new (is.since 0).goes_on.device (is.since 0).goes_on.faults
 
     sought_device : (old new : Parts B D) (transaction : ℕ) (n : Note B) (leaf : ℕ) (sought : Sought)
         → MarkIsLogged known r f passes spelling key transaction n.entry leaf n.before (at old) (at new) old.volume new.volume sought → HasGoneOn (at old) (at new)
     sought_device old new transaction n leaf (Here slot before) is = read_on old new is.goes_on.device is.goes_on.faults
-    sought_device old new transaction n leaf (Right next) is = unlogged_device old new is
+    sought_device old new transaction n leaf (Right next) is = unlogged_device old new _ is
 
     -- a session that undoes: with its next note restored, or sought further to the right
     sought_moves : (s : ℕ) (old new : Parts B D) (restored : ℕ) (n : Note B) (leaf : ℕ) (sought : Sought) → OnlyUndoes old → (phase_at (s - 1) old.sessions.phases ≡ phase.Free → ⊥)
@@ -340,13 +340,13 @@ module _ {B D : Type 0} (state : D → Device) where
     restore_moves s restored n leaf old new outcome.More undoes busy comes =
         sought_moves s old new restored n leaf comes.0 undoes busy (sought_device old new _ n leaf comes.0 comes.1.logged) comes.2
     restore_moves s restored n leaf old new (outcome.Help help) undoes busy comes =
-        let same = unlogged_device old new comes.0 in
+        let same = unlogged_device old new _ comes.0 in
         let phases : new.sessions.phases ≡ old.sessions.phases = ap (λ (x : Parts B D). x.sessions.phases) comes.2 in
         (with_phases old new undoes phases same, (ap (λ (x : Parts B D). x.sessions.failed) comes.2, busy_same (s - 1) old new phases))
     restore_moves s restored n leaf old new (outcome.Replied (reply.Refused refusal.Device)) undoes busy comes =
-        (with_phases old new undoes (ap (λ (x : Parts B D). x.sessions.phases) comes.2) (unlogged_device old new comes.0), comes.1)
+        (with_phases old new undoes (ap (λ (x : Parts B D). x.sessions.phases) comes.2) (unlogged_device old new _ comes.0), comes.1)
     restore_moves s restored n leaf old new (outcome.Replied (reply.Refused refusal.Damaged)) undoes busy comes =
-        (with_phases old new undoes (ap (λ (x : Parts B D). x.sessions.phases) comes.2) (unlogged_device old new comes.0), tt)
+        (with_phases old new undoes (ap (λ (x : Parts B D). x.sessions.phases) comes.2) (unlogged_device old new _ comes.0), tt)
     restore_moves s restored n leaf old new other undoes busy comes = absurd comes
 
     end_moves : (s : ℕ) (old new : Parts B D) (given : Outcome B) → OnlyUndoes old → WorksOff old → EndComes s old new given → Moves s old new given

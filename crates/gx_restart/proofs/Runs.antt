@@ -11,12 +11,12 @@ use Rattle.gx_machine.specs.declared.reply.Reply.{Reply}
 use Rattle.gx_machine.specs.declared.reply.Reply.TheVariants as reply
 use Rattle.gx_machine.specs.Machine.{is_session}
 use Rattle.gx_machine.specs.Sessions.{Locks}
-use Rattle.gx_engine_laws.specs.Slots as slots
-use Rattle.gx_engine_laws.specs.Slots.{Note, Slot, slot_at}
-use Rattle.gx_engine_laws.specs.Engines.{Engine, IsSame}
-use Rattle.gx_engine_laws.specs.Events as laws
-use Rattle.gx_engine_laws.specs.Events.{MeetsFault}
-use Rattle.gx_engine_laws.proofs.WhatStood.{event_stood}
+use Rattle.gx_events.specs.Slots as slots
+use Rattle.gx_events.specs.Slots.{Note, Slot, slot_at}
+use Rattle.gx_events.specs.Engines.{Engine, IsSame}
+use Rattle.gx_events.specs.Events as laws
+use Rattle.gx_events.specs.Events.{MeetsFault}
+use Rattle.gx_events.proofs.WhatStood.{event_stood}
 use Rattle.gx_index_laws.specs.Classes.{Class, IsLawful}
 use Rattle.gx_index_laws.specs.Happening.{AreHappening, Happens}
 use Rattle.gx_index_laws.specs.Openings.{is_fault, is_in_opening}
@@ -30,7 +30,7 @@ use Rattle.gx_events.specs.declared.event.Event.{Event}
 use Rattle.gx_events.specs.declared.event.Event.TheVariants.{Ask, Move, LogStep, WritePage, CheckpointStep, Sweep}
 use Rattle.gx_events.specs.declared.outcome.Outcome.{Outcome}
 use Rattle.gx_events.specs.declared.outcome.Outcome.TheVariants as outcome
-use Rattle.gx_events.specs.Engines.{AreOf, GoesOn, IsEnd, IsJust, IsMove, IsSync, IsWork}
+use Rattle.gx_events.specs.Steps.{AreOf, GoesOn, IsEnd, IsJust, IsMove, IsSync, IsWork}
 use Rattle.gx_restart.specs.Undoing.{IsOfOpening, IsRefusal, MayUndo}
 
 true_not : true ≡ false → ⊥

@@ -12,12 +12,12 @@ use Rattle.gx_machine.specs.Sets.{has, including, including_all, IsSetOf}
 use Rattle.gx_machine.proofs.SessionMoves.{same_itself}
 use Rattle.gx_machine.proofs.SetLaws.{has-including, same_is}
 use Rattle.gx_machine.proofs.SetsByTests.{one_set_of_a_test, set_of_a_test_that_agrees, set_that_is_gathered}
-use Rattle.gx_tree_laws.specs.Legal.{Legal}
-use Rattle.gx_tree_laws.specs.Lists.{Each, how_many, one_if, sum_over, total}
-use Rattle.gx_tree_laws.specs.Trees.{Pair, Rules, Tree, Used, is_entry, leaves, standing, times}
-use Rattle.gx_tree_laws.specs.Trees as trees
-use Rattle.gx_tree_laws.proofs.Chains.{each_linked, one_at, one_off}
-use Rattle.gx_tree_laws.proofs.Sums.{at_page, at_page_other, at_page_same, each_always, how_many-flat_map, sum_over_le, total_add, total_at_page, total_none, total_same}
+use Rattle.gx_node.specs.Legal.{Legal}
+use Rattle.gx_node.specs.Lists.{Each, how_many, one_if, sum_over, total}
+use Rattle.gx_node.specs.Trees.{Pair, Rules, Tree, Used, is_entry, leaves, standing, times}
+use Rattle.gx_node.specs.Trees as trees
+use Rattle.gx_node.proofs.Chains.{each_linked, one_at, one_off}
+use Rattle.gx_node.proofs.Sums.{at_page, at_page_other, at_page_same, each_always, how_many-flat_map, sum_over_le, total_add, total_at_page, total_none, total_same}
 use Rattle.gx_restart.specs.Sizes.{live_up_to}
 
 -- What a list of pages has of each page.

@@ -11,11 +11,11 @@ use Rattle.gx_disk.specs.Device.{Device}
 use Rattle.gx_machine.specs.Keys.{Members}
 use Rattle.gx_page.specs.Contents.{Contents}
 use Rattle.gx_node.specs.Reading.{format_of, is_node}
-use Rattle.gx_tree_laws.specs.Trees.{Node, Tree}
+use Rattle.gx_node.specs.Trees.{Node, Tree}
 use Rattle.gx_node.specs.Store.{node_of}
 use Rattle.gx_recovery.specs.Known.{Limits}
 use Rattle.gx_index_laws.specs.Classes.{known_of}
-use Rattle.gx_readings.specs.Classes.{class_of, reading_of}
+use Rattle.gx_durable.specs.Classes.{class_of, reading_of}
 use Rattle.gx_storage.specs.Keeps.{ShowsTheLogs}
 use Rattle.gx_script.specs.Writes.{IsPut, IsCut}
 use Rattle.gx_script.proofs.WriteLemmas.{cut_more, put_cut, put_then}

@@ -9,7 +9,7 @@ use Rattle.gx_geom.specs.Rectangles.{Rectangle}
 use Rattle.gx_page.specs.Contents.{Contents}
 use Rattle.gx_node.specs.Reading.{Format, leaf_of, inner_of, pair_of, child_of}
 use Rattle.gx_node.specs.Store.{node_of}
-use Rattle.gx_tree_laws.specs.Trees.{Node}
+use Rattle.gx_node.specs.Trees.{Node}
 use Rattle.gx_script.specs.Writes.{IsPut}
 use Rattle.gx_script.proofs.WriteLemmas.{put_more, put_nothing, texts_more}
 use Rattle.gx_restart.specs.declared.text.stop.Stop.{Stop}

@@ -1,6 +1,5 @@
 -- As many pages are in use after the events of an opening as before.
 use Rattle.std.proofs.Common.{◌≡◌, ℕ, ◌+◌, ◌-◌, Bool, true, false, Option, None, Some, List, refl, ap, sym, ◌∙◌}
-use Rattle.gx_record.specs.Writing.{write_record}
 use Rattle.gx_geom.specs.declared.refusal.Refusal.TheVariants as refusal
 use Rattle.gx_class.specs.declared.class.KeyClass.{Ghosts}
 use Rattle.gx_machine.specs.declared.entry.Entry.{Entry}
@@ -10,10 +9,9 @@ use Rattle.gx_machine.specs.Machine.{is_session}
 use Rattle.gx_disk.specs.Device.{Device}
 use Rattle.gx_node.specs.Reading.{Format, format_of, is_node}
 use Rattle.gx_node.specs.Store as store
-use Rattle.gx_record.specs.Rec as rec
 use Rattle.gx_tree.specs.declared.seek.Sought.{Sought}
 use Rattle.gx_tree.specs.declared.seek.Sought.TheVariants.{Here, Right}
-use Rattle.gx_recovery.specs.Analysis.{Analysis, analysis}
+use Rattle.gx_recovery.specs.Analysis.{Analysis, analysis, read}
 use Rattle.gx_recovery.specs.Known.{Known, Limits}
 use Rattle.gx_recovery.specs.Logged.{all_records, appended}
 use Rattle.gx_recovery.specs.Records.{Record}
@@ -23,10 +21,13 @@ use Rattle.gx_index_laws.specs.States as index
 use Rattle.gx_index_laws.proofs.Standing.{known_lawful}
 use Rattle.gx_durable.specs.Spelled.{Reading, record_read}
 use Rattle.gx_durable.proofs.Reading.{one_more}
-use Rattle.gx_readings.specs.Classes.{class_of, known_at, reading_of}
+use Rattle.gx_durable.specs.Classes.{class_of, known_at, reading_of}
 use Rattle.gx_store.specs.Standing.{standing_node}
+use Rattle.gx_store.specs.State.{Shelf}
 use Rattle.gx_store.proofs.Listed.{nodes_long}
-use Rattle.gx_storage.specs.Changes.{IsUnlogged, MarkIsLogged, begun, image_at}
+use Rattle.gx_storage.specs.Changes.{IsUnlogged, MarkIsLogged}
+use Rattle.gx_storage.specs.Imaged.{is_imaged}
+use Rattle.gx_storage.specs.Small.{mark_said}
 use Rattle.gx_txn.specs.declared.note.Note.{Note}
 use Rattle.gx_phases.specs.declared.phase.Phase.{Phase}
 use Rattle.gx_phases.specs.declared.phase.Phase.TheVariants as phase
@@ -64,30 +65,34 @@ module _ {C B D : Type 0} (shape : Members B) (proper : B → Bool) (said : List
   f = format_of class
 
   module _ (old new : Parts B D) (bodies : List (List (Record (Entry B) (Page B)))) (i : index.State B) (h : Holds c r f (is_node f) (at old) old bodies i) where
-    unlogged : IsUnlogged (known_at shape proper) r f (is_node f) (begun old.volume (write_record class.KEY)) (at old) (at new) old.volume new.volume → SameUsed old new
-    unlogged is = sym (is.keeps l bodies i.log (known_lawful c lc) h.keeps).keeps.used ∙ h.keeps.used
+    unlogged : (was : Shelf D) → IsUnlogged (known_at shape proper) r f (is_node f) was (at old) (at new) old.volume new.volume → SameUsed old new
+    unlogged was is = sym (is.keeps l bodies i.log (known_lawful c lc) h.keeps).keeps.used ∙ h.keeps.used
 
-    -- a write takes no page
-    with_write : (tx row : ℕ) (key : List ℕ) (before after : Bool) (leaf : ℕ) (image : List ℕ)
-        → (analysis k (all_records (appended (record_read r (rec.Write tx row key before after leaf image)) i.log))).used ≡ (analysis k (all_records i.log)).used
-    with_write tx row key before after leaf image =
-        let x = record_read r (rec.Write tx row key before after leaf image) in
-        ap (λ (log : List (Record (Entry B) (Page B))). (analysis k log).used) (one_more i.log x) ∙ ap (λ (a : Analysis (Entry B)). a.used) (analysis-snoc k (all_records i.log) x)
+    -- a mark's record takes no page
+    with_record : (x : Record (Entry B) (Page B)) → (read k (analysis k (all_records i.log)) x).used ≡ (analysis k (all_records i.log)).used
+        → (analysis k (all_records (appended x i.log))).used ≡ (analysis k (all_records i.log)).used
+    with_record x same =
+        ap (λ (log : List (Record (Entry B) (Page B))). (analysis k log).used) (one_more i.log x) ∙ ap (λ (a : Analysis (Entry B)). a.used) (analysis-snoc k (all_records i.log) x) ∙ same
+
+    with_mark : (small : Bool) (tx row : ℕ) (key : B) (before after : Bool) (leaf : ℕ) (seen : List ℕ) (s : Shelf D)
+        → (analysis k (all_records (appended (record_read r (mark_said class.spelling small tx row key before after leaf seen s)) i.log))).used ≡ (analysis k (all_records i.log)).used
+    with_mark true tx row key before after leaf seen s = with_record (record_read r (mark_said class.spelling true tx row key before after leaf seen s)) refl
+    with_mark false tx row key before after leaf seen s = with_record (record_read r (mark_said class.spelling false tx row key before after leaf seen s)) refl
 
     sought_used : (transaction : ℕ) (n : Note B) (leaf : ℕ) (sought : Sought)
         → MarkIsLogged (known_at shape proper) r f (is_node f) class.spelling class.KEY transaction n.entry leaf n.before (at old) (at new) old.volume new.volume sought → SameUsed old new
     sought_used transaction n leaf (Here slot before) is =
         let shows = (is.keeps l bodies i.log (known_lawful c lc) h.keeps).shows in
         sym (nodes_long (standing_node f new.volume.shelf.frames (at new).seen) new.volume.shelf.used) ∙ shows.used
-        ∙ with_write transaction n.entry.row (class.spelling n.entry.key) before n.before leaf (image_at (at new).seen new.volume.shelf leaf) ∙ h.keeps.used
-    sought_used transaction n leaf (Right next) is = unlogged is
+        ∙ with_mark (is_imaged old.volume.imaged leaf) transaction n.entry.row n.entry.key before n.before leaf (at new).seen new.volume.shelf ∙ h.keeps.used
+    sought_used transaction n leaf (Right next) is = unlogged _ is
 
     restore_used : (s restored : ℕ) (n : Note B) (leaf : ℕ) (given : Outcome B)
         → RestoreComes (known_at shape proper) r f (is_node f) class.is_key (keys_of shape) class.spelling class.KEY (at old) (at new) s restored n leaf old new given → SameUsed old new
     restore_used s restored n leaf outcome.More comes = sought_used (transaction_of s old.sessions) n leaf comes.0 comes.1.logged
-    restore_used s restored n leaf (outcome.Help help) comes = unlogged comes.0
-    restore_used s restored n leaf (outcome.Replied (reply.Refused refusal.Device)) comes = unlogged comes.0
-    restore_used s restored n leaf (outcome.Replied (reply.Refused refusal.Damaged)) comes = unlogged comes.0
+    restore_used s restored n leaf (outcome.Help help) comes = unlogged _ comes.0
+    restore_used s restored n leaf (outcome.Replied (reply.Refused refusal.Device)) comes = unlogged _ comes.0
+    restore_used s restored n leaf (outcome.Replied (reply.Refused refusal.Damaged)) comes = unlogged _ comes.0
     restore_used s restored n leaf other comes = absurd comes
 
     end_used : (s : ℕ) (given : Outcome B) → EndComes s old new given → SameUsed old new

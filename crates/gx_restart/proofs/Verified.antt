@@ -6,9 +6,9 @@ use Rattle.gx_geom.specs.declared.refusal.Refusal.{Refusal}
 use Rattle.gx_geom.specs.declared.refusal.Refusal.TheVariants as refusal
 use Rattle.gx_disk.specs.Device.{Device}
 use Rattle.gx_durable.specs.Area.{area_of}
-use Rattle.gx_engine_laws.specs.Engines.{stood}
-use Rattle.gx_engine_laws.specs.Slots as slots
-use Rattle.gx_engine_laws.specs.Slots.{Slot, noted_in}
+use Rattle.gx_events.specs.Engines.{stood}
+use Rattle.gx_events.specs.Slots as slots
+use Rattle.gx_events.specs.Slots.{Slot, noted_in}
 use Rattle.gx_engine.specs.declared.start.NotOpened.{NotOpened}
 use Rattle.gx_engine.specs.States.{Parts}
 use Rattle.gx_index_laws.specs.Classes.{Class, IsLawful, is_live}
@@ -20,11 +20,11 @@ use Rattle.gx_machine.proofs.SetsByTests.{set_of_a_test_that_agrees}
 use Rattle.gx_node.specs.Reading.{Format}
 use Rattle.gx_opening.specs.Formatted.{Counted, faults_of}
 use Rattle.gx_opening.specs.Standing.{known_for, limits_of, reading}
-use Rattle.gx_readings.specs.Classes.{class_of}
+use Rattle.gx_durable.specs.Classes.{class_of}
 use Rattle.gx_recovery.specs.Damage.{records_of}
 use Rattle.gx_recovery.specs.Known.{Limits}
 use Rattle.gx_recovery.specs.Standing.{stands_for}
-use Rattle.gx_tree_laws.specs.Trees.{Tree, is_entry, standing}
+use Rattle.gx_node.specs.Trees.{Tree, is_entry, standing}
 use Rattle.gx_restart.specs.Opened.{IsOpened}
 use Rattle.gx_restart.specs.Sizes.{live_up_to}
 use Rattle.gx_restart.specs.Undoing.{IsIdle}

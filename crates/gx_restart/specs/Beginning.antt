@@ -6,7 +6,7 @@ use Rattle.gx_disk.specs.Device.{Device}
 use Rattle.gx_disk.specs.Moments.{Leaves}
 use Rattle.gx_durable.specs.Area.{area_of}
 use Rattle.gx_durable.specs.Fitting.{AreGood}
-use Rattle.gx_engine_laws.specs.Engines.{stood}
+use Rattle.gx_events.specs.Engines.{stood}
 use Rattle.gx_engine.specs.declared.start.Start.{Start}
 use Rattle.gx_engine.specs.Holds.{Holds}
 use Rattle.gx_engine.specs.Starting.{cut_off}
@@ -21,7 +21,7 @@ use Rattle.gx_machine.specs.Keys.{Members}
 use Rattle.gx_node.specs.Reading.{Format, is_node}
 use Rattle.gx_opening.specs.declared.standing.Standing.{Standing}
 use Rattle.gx_opening.specs.Standing.{known_for, limits_of, reading}
-use Rattle.gx_readings.specs.Classes.{class_of}
+use Rattle.gx_durable.specs.Classes.{class_of}
 use Rattle.gx_recovery.specs.Analysis.{analysis, number_of}
 use Rattle.gx_recovery.specs.Damage.{records_of}
 use Rattle.gx_recovery.specs.Records.{Record}

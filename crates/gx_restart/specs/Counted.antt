@@ -4,9 +4,9 @@ use Rattle.gx_class.specs.declared.class.KeyClass.{Ghosts}
 use Rattle.gx_disk.specs.Device.{Device}
 use Rattle.gx_machine.specs.Keys.{Members}
 use Rattle.gx_node.specs.Reading.{format_of, is_node}
-use Rattle.gx_tree_laws.specs.Trees.{Tree}
+use Rattle.gx_node.specs.Trees.{Tree}
 use Rattle.gx_recovery.specs.Known.{Limits}
-use Rattle.gx_readings.specs.Classes.{class_of, reading_of}
+use Rattle.gx_durable.specs.Classes.{class_of, reading_of}
 use Rattle.gx_engine.specs.States.{Parts}
 use Rattle.gx_restart.specs.Reading.{OfItsTree}
 use Rattle.gx_restart.specs.Sizes.{live_on, live_up_to}

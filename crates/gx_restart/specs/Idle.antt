@@ -1,7 +1,7 @@
 -- An engine that is seen as a machine in which no session has a transaction.
 use Rattle.std.specs.Prelude.{ℕ, Bool, List}
 use Rattle.gx_disk.specs.Device.{Device}
-use Rattle.gx_engine_laws.specs.Engines.{SeenAs, opened_machine}
+use Rattle.gx_events.specs.Engines.{SeenAs, opened_machine}
 use Rattle.gx_engine.specs.Holds.{Holds}
 use Rattle.gx_engine.specs.States.{Parts}
 use Rattle.gx_index_laws.specs.Classes.{Page}
@@ -10,7 +10,7 @@ use Rattle.gx_index_laws.specs.States.{engine_of}
 use Rattle.gx_machine.specs.declared.entry.Entry.{Entry}
 use Rattle.gx_machine.specs.Keys.{Members, keys_of}
 use Rattle.gx_node.specs.Reading.{Format, is_node}
-use Rattle.gx_readings.specs.Classes.{class_of, reading_of}
+use Rattle.gx_durable.specs.Classes.{class_of, reading_of}
 use Rattle.gx_recovery.specs.Known.{Limits}
 use Rattle.gx_recovery.specs.Records.{Record}
 

@@ -3,7 +3,7 @@ use Rattle.std.specs.Prelude.{◌⊎◌, ℕ, Bool, List, Err}
 use Rattle.gx_geom.specs.declared.refusal.Refusal.{Refusal}
 use Rattle.gx_disk.specs.Device.{Device, MayLeave}
 use Rattle.gx_durable.specs.Area.{area_of}
-use Rattle.gx_engine_laws.specs.Engines.{SeenAs, opened_machine}
+use Rattle.gx_events.specs.Engines.{SeenAs, opened_machine}
 use Rattle.gx_engine.specs.States.{Parts}
 use Rattle.gx_glog.specs.declared.parameters.Parameters.{Parameters}
 use Rattle.gx_index_laws.specs.States.{engine_of}
@@ -14,7 +14,7 @@ use Rattle.gx_node.specs.Reading.{Format}
 use Rattle.gx_opening.specs.declared.standing.Standing.{Standing}
 use Rattle.gx_opening.specs.Formatted.{MaySettle}
 use Rattle.gx_opening.specs.Standing.{IsFormatted, IsUnlaid, IsUnsound, Stands, known_for, limits_of, reading}
-use Rattle.gx_readings.specs.Classes.{class_of}
+use Rattle.gx_durable.specs.Classes.{class_of}
 use Rattle.gx_recovery.specs.Analysis.{number_of}
 use Rattle.gx_recovery.specs.Damage.{records_of}
 use Rattle.gx_recovery.specs.Standing.{stands_for}

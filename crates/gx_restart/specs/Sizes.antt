@@ -1,7 +1,7 @@
 -- How many pairs of a tree aren't marked.
 use Rattle.std.specs.Prelude.{ℕ, not}
-use Rattle.gx_tree_laws.specs.Lists.{how_many, total}
-use Rattle.gx_tree_laws.specs.Trees.{Node}
+use Rattle.gx_node.specs.Lists.{how_many, total}
+use Rattle.gx_node.specs.Trees.{Node}
 
 -- on a node
 abbrev pub live_on : {B : Type 0} → Node B → ℕ

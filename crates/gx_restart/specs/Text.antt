@@ -2,7 +2,7 @@
 use Rattle.std.specs.Prelude.{ℕ, zero, suc, Bool, true, false, codes, decimal, List, [], ◌∷◌, ◌++◌}
 use Rattle.std.specs.List.{flat_map}
 use Rattle.gx_geom.specs.Rectangles.{Rectangle, corners_text}
-use Rattle.gx_tree_laws.specs.Trees.{Pair, Child, Node, Tree, size}
+use Rattle.gx_node.specs.Trees.{Pair, Child, Node, Tree, size}
 
 -- the first line: the last commit's number, the greatest page taken, and the counter of splits
 abbrev pub head_line : ℕ → ℕ → ℕ → List ℕ

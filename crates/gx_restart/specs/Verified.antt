@@ -17,7 +17,7 @@ use Rattle.gx_opening.specs.Formatted.{MaySettle, Says}
 use Rattle.gx_opening.specs.Laid.{IsSpared}
 use Rattle.gx_opening.specs.Sound.{AreSound}
 use Rattle.gx_opening.specs.Standing.{IsFormatted, known_for, limits_of, reading}
-use Rattle.gx_readings.specs.Classes.{class_of}
+use Rattle.gx_durable.specs.Classes.{class_of}
 use Rattle.gx_recovery.specs.Analysis.{analysis, number_of}
 use Rattle.gx_recovery.specs.Damage.{records_of}
 use Rattle.gx_recovery.specs.Redo.{redone}

@@ -3,7 +3,7 @@ ghost use Rattle.std.specs.Prelude.{◌≡◌, OnOk, IfErr, true};
 ghost use Rattle.std.specs.Io.KnownBytes.{Appends};
 ghost use Rattle.gx_node.specs.Reading.{format_of, is_node};
 ghost use Rattle.gx_recovery.specs.Known.{Limits};
-ghost use Rattle.gx_readings.specs.Classes.{class_of, reading_of};
+ghost use Rattle.gx_durable.specs.Classes.{class_of, reading_of};
 ghost use Rattle.gx_script.specs.Noting.{TakesNoMore};
 ghost use Rattle.gx_script.specs.Writes.{IsCut};
 ghost use Rattle.gx_engine.specs.Resting.{KeepsSessions};
@@ -18,8 +18,8 @@ use crate::text::{self, Stop};
 use crate::{DumpFault, Index};
 use gx_class::KeyClass;
 use gx_disk::SectorDisk;
+use gx_durable::ReadKeys;
 use gx_geom::{Box2, Refusal, Shape};
-use gx_readings::ReadKeys;
 use gx_script::Noted;
 use std::io::Write;
 

@@ -2,18 +2,18 @@
 ghost use Rattle.std.specs.Prelude.{◌≡◌, false};
 ghost use Rattle.gx_node.specs.Reading.{format_of, is_node};
 ghost use Rattle.gx_recovery.specs.Known.{Limits};
-ghost use Rattle.gx_readings.specs.Classes.{class_of, reading_of};
+ghost use Rattle.gx_durable.specs.Classes.{class_of, reading_of};
 ghost use Rattle.gx_restart.specs.Alone.{RunsOn};
 ghost use Rattle.gx_restart.specs.Called.{CallsBy, CallsIndex, EndsWhereHeld};
 ghost use Rattle.gx_engine.specs.Made.{Makes};
 
 use gx_class::Probing;
 use gx_disk::SectorDisk;
+use gx_durable::ReadKeys;
 use gx_engine::{Engine, drive};
 use gx_events::Event;
 use gx_geom::Refusal;
 use gx_machine::{Call, Reply};
-use gx_readings::ReadKeys;
 use std::marker::Model;
 
 /// An index for one thread: an engine whose calls are asked one after another, each run to its end. Contracts see its

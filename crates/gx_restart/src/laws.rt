@@ -9,13 +9,13 @@ ghost use Rattle.gx_recovery.specs.Known.{Limits};
 ghost use Rattle.gx_recovery.specs.Records.{Record};
 ghost use Rattle.gx_index_laws.specs.Classes.{Class, IsLawful, Page};
 ghost use Rattle.gx_index_laws.specs.States as index;
-ghost use Rattle.gx_readings.specs.Classes.{class_of, reading_of};
+ghost use Rattle.gx_durable.specs.Classes.{class_of, reading_of};
 ghost use Rattle.gx_engine.specs.Holds.{Holds};
 ghost use Rattle.gx_engine.specs.States.{Parts};
 ghost use Rattle.gx_script.specs.declared.line.Line.{Line};
 ghost use Rattle.gx_script.specs.Scripts.{IsScript};
 ghost use Rattle.gx_plain.specs.Boxes.{box_keys};
-ghost use Rattle.gx_engine_laws.specs.Engines.{opened_machine};
+ghost use Rattle.gx_events.specs.Engines.{opened_machine};
 ghost use Rattle.gx_plain.specs.Decided.{AnswersDecided, Rests, decided_text, seen_by_calls};
 ghost use Rattle.gx_plain.specs.Index as plain;
 ghost use Rattle.gx_plain.specs.OneRun.{IsOneRun};
@@ -31,8 +31,8 @@ pub mod idle;
 
 use gx_class::KeyClass;
 use gx_disk::SectorDisk;
+use gx_durable::ReadKeys;
 use gx_geom::{Box2, Shape};
-use gx_readings::ReadKeys;
 
 /// A call of an index that goes on, over an engine that holds an index's state, is a run of the machine as which that
 /// state is seen: the call is asked and given its reply, and nothing else is asked or replied. So the reply is the

@@ -18,13 +18,13 @@ mod undo;
 use begin::begin_engine;
 use gx_class::Probing;
 use gx_disk::SectorDisk;
+use gx_durable::ReadKeys;
 use gx_engine::laws::a_class_is_lawful;
 use gx_engine::{Engine, NotOpened};
 use gx_geom::Refusal;
 use gx_index_laws::measures::what_a_call_has_left_is_bounded;
 use gx_opening::laws::what_is_found_stands;
 use gx_opening::{Standing, find};
-use gx_readings::ReadKeys;
 use std::alloc::Global;
 use undo::finish;
 

@@ -8,9 +8,9 @@ ghost use Rattle.gx_engine.specs.Made.{Makes};
 use crate::Index;
 use gx_class::{KeyClass, Probing};
 use gx_disk::SectorDisk;
+use gx_durable::ReadKeys;
 use gx_geom::{Box2, Shape};
 use gx_machine::{Call, Reply};
-use gx_readings::ReadKeys;
 use gx_script::{Answers, Noted, ScriptFault, Transfer};
 use std::io::{Read, Write};
 

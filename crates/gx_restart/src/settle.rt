@@ -2,7 +2,7 @@
 ghost use Rattle.std.specs.Prelude.{Err, OnOk, ◌≡◌, ◌≢◌};
 ghost use Rattle.gx_node.specs.Reading.{format_of, is_node};
 ghost use Rattle.gx_recovery.specs.Known.{Limits};
-ghost use Rattle.gx_readings.specs.Classes.{class_of, reading_of};
+ghost use Rattle.gx_durable.specs.Classes.{class_of, reading_of};
 ghost use Rattle.gx_restart.specs.Alone.{RunsOn};
 ghost use Rattle.gx_engine.specs.Made.{Makes};
 ghost use Rattle.gx_engine.specs.Repeated.{IsFlushing};
@@ -12,10 +12,10 @@ ghost use Rattle.gx_restart.specs.Settled.{IsExhausted, Settles, SettlesOn};
 use crate::Index;
 use gx_class::Probing;
 use gx_disk::SectorDisk;
+use gx_durable::ReadKeys;
 use gx_engine::repeat;
 use gx_events::Event;
 use gx_geom::Refusal;
-use gx_readings::ReadKeys;
 
 impl<D: SectorDisk, K: ReadKeys + Probing> Index<D, K> {
     // Makes a step of the checkpoint or of the log over and over, until it has nothing to do.

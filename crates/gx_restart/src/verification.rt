@@ -18,10 +18,10 @@ use copy::copied;
 use entries::count_entries;
 use gx_class::Probing;
 use gx_disk::{MIN_SECTORS, MemDisk, SectorDisk};
+use gx_durable::ReadKeys;
 use gx_engine::laws::a_class_is_lawful;
 use gx_engine::{Engine, NotOpened};
 use gx_geom::Refusal;
-use gx_readings::ReadKeys;
 use std::alloc::Global;
 
 /// What stands on a device that was verified.

@@ -38,6 +38,8 @@ use Rattle.gx_durable.proofs.Stamping.{fewer_placed, step_placed, told_kept}
 use Rattle.gx_store.specs.Faults.{CanBeRead, is_taken}
 use Rattle.gx_store.specs.State.{Shelf}
 use Rattle.gx_storage.specs.Formed.{AreFormed}
+use Rattle.gx_storage.specs.Imaged.{AllImaged}
+use Rattle.gx_storage.proofs.Imaging.{same_imaged}
 use Rattle.gx_storage.specs.State.{Volume}
 use Rattle.gx_storage.specs.Keeps.{Keeps}
 use Rattle.gx_storage.specs.Flushing.{KeepsOn, StepsLog, WritesGated}
@@ -126,10 +128,10 @@ rests_none k r log d bodies s up idle =
 module _ {B : Type 0} (k : Known (Entry B) (Page B)) (r : Reading (Entry B) (Page B)) (f : Format B) (passes : ℕ → Contents → Bool) {D : Type 0} (d e : Device) (v w : Volume D) where
   -- A call that leaves the pages, where the records leave the same of them as before.
   pub keeps_on : (fr : State) → w.shelf ≡ record v.shelf { disk = w.shelf.disk; frames = fr } → ((p : ℕ) → kept fr p ≡ kept v.shelf.frames p) → e.honest ≡ d.honest → LeavesPages d e
-      → (bodies now : List (List (Record (Entry B) (Page B)))) (s t : Logged (Entry B) (Page B)) → Keeps k r f passes d v bodies s → Runs k r w.log w.shelf.frames e now t → AllSaid w.shelf.frames t → AllPlaced w.log w.shelf.frames
+      → (bodies now : List (List (Record (Entry B) (Page B)))) (s t : Logged (Entry B) (Page B)) → Keeps k r f passes d v bodies s → Runs k r w.log w.shelf.frames e now t → AllSaid w.shelf.frames t → AllPlaced w.log w.shelf.frames → AllImaged w.imaged t
       → (analysis k (all_records t)).used ≡ (analysis k (all_records s)).used → (analysis k (all_records t)).counter ≡ (analysis k (all_records s)).counter
       → ((p : ℕ) → redone t.area (all_records t) p ≡ redone s.area (all_records s) p) → Keeps k r f passes e w now t
-  keeps_on fr only same honest leaves bodies now s t old runs said placed used counter pages =
+  keeps_on fr only same honest leaves bodies now s t old runs said placed imaged used counter pages =
       let frames_are : w.shelf.frames ≡ fr = ap (λ (x : Shelf D). x.frames) only in
       let used_is : w.shelf.used ≡ v.shelf.used = ap (λ (x : Shelf D). x.used) only in
       let pages_are : w.shelf.pages ≡ v.shelf.pages = ap (λ (x : Shelf D). x.pages) only in
@@ -149,13 +151,14 @@ module _ {B : Type 0} (k : Known (Entry B) (Page B)) (r : Reading (Entry B) (Pag
         counter = counter ∙ old.counter ∙ sym (ap (λ (x : Shelf D). x.counter) only);
         pages = old.pages ∙ sym pages_are;
         formed = λ p j is. old.formed p j (sym (kept_is p) ∙ is);
+        imaged = imaged;
       }
 
   -- a step of the log
-  pub log_keeps : (result : Result Stage Refusal) → w.shelf ≡ record v.shelf { disk = w.shelf.disk; frames = told_frames result w.log v.shelf.frames } → e.honest ≡ d.honest
+  pub log_keeps : (result : Result Stage Refusal) → w.shelf ≡ record v.shelf { disk = w.shelf.disk; frames = told_frames result w.log v.shelf.frames } → w.imaged ≡ v.imaged → e.honest ≡ d.honest
       → (d.honest ≡ true → On v.log d.seen d.pending → LeavesPages d e) → Goes v.log w.log result
       → StepKeepsRunning k r v.log w.log v.shelf.frames w.shelf.frames d e result → StepsLog k r f passes d e v w result
-  log_keeps result only honest leaves goes steps bodies s l old =
+  log_keeps result only bits honest leaves goes steps bodies s l old =
       let now = steps bodies s l old.steady.honest old.runs old.said in
       let t : Logged (Entry B) (Page B) = with_batch v.log.stage v.log.filling s in
       let all : all_records (stepped result t) ≡ all_records s =
@@ -164,6 +167,7 @@ module _ {B : Type 0} (k : Known (Entry B) (Page B)) (r : Reading (Entry B) (Pag
       record {
         keeps = keeps_on (told_frames result w.log v.shelf.frames) only (told_same result w.log v.shelf.frames) honest (leaves old.steady.honest old.runs.up.on) bodies _ s (stepped result t) old
             now.runs now.said (step_placed v.shelf.frames v.log w.log w.shelf.frames result (ap (λ (x : Shelf D). x.frames) only) goes old.placed)
+            (same_imaged v.imaged w.imaged s (stepped result t) bits all old.imaged)
             (ap (λ (x : List (Record (Entry B) (Page B))). (analysis k x).used) all)
             (ap (λ (x : List (Record (Entry B) (Page B))). (analysis k x).counter) all)
             (λ p. ap (λ (a : ℕ → Page B). redone a (all_records (stepped result t)) p) area ∙ ap (λ (x : List (Record (Entry B) (Page B))). redone s.area x p) all);
@@ -171,8 +175,8 @@ module _ {B : Type 0} (k : Known (Entry B) (Page B)) (r : Reading (Entry B) (Pag
       }
 
   -- a sync, and all that leaves log and frames
-  pub sync_keeps : w.log ≡ v.log → w.shelf ≡ record v.shelf { disk = w.shelf.disk } → e.honest ≡ d.honest → (d.honest ≡ true → LeavesPages d e) → StaysUp k r d e → KeepsOn k r f passes d e v w
-  sync_keeps log only honest leaves up bodies s l old =
+  pub sync_keeps : w.log ≡ v.log → w.shelf ≡ record v.shelf { disk = w.shelf.disk } → w.imaged ≡ v.imaged → e.honest ≡ d.honest → (d.honest ≡ true → LeavesPages d e) → StaysUp k r d e → KeepsOn k r f passes d e v w
+  sync_keeps log only bits honest leaves up bodies s l old =
       let now = up v.log bodies s l old.steady.honest old.runs.up in
       let frames_are : w.shelf.frames ≡ v.shelf.frames = ap (λ (x : Shelf D). x.frames) only in
       let R : State → Type 0 = λ x. Runs k r v.log x e bodies s in
@@ -183,15 +187,16 @@ module _ {B : Type 0} (k : Known (Entry B) (Page B)) (r : Reading (Entry B) (Pag
       record {
         keeps = keeps_on v.shelf.frames only (λ p. refl) honest (leaves old.steady.honest) bodies bodies s s old
             (subst L (sym log) (subst R (sym frames_are) (record { up = now.0; stamped = old.runs.stamped })))
-            (subst S (sym frames_are) old.said) (subst Q (sym log) (subst P (sym frames_are) old.placed)) refl refl (λ p. refl);
+            (subst S (sym frames_are) old.said) (subst Q (sym log) (subst P (sym frames_are) old.placed))
+            (same_imaged v.imaged w.imaged s s bits refl old.imaged) refl refl (λ p. refl);
         safely = now.1;
       }
 
   -- a page's write
-  pub write_keeps : (page : ℕ) → WritesAtMost d e v.shelf.frames w.shelf.frames page → w.log ≡ v.log → w.shelf ≡ record v.shelf { disk = w.shelf.disk; frames = w.shelf.frames } → e.honest ≡ d.honest
+  pub write_keeps : (page : ℕ) → WritesAtMost d e v.shelf.frames w.shelf.frames page → w.log ≡ v.log → w.shelf ≡ record v.shelf { disk = w.shelf.disk; frames = w.shelf.frames } → w.imaged ≡ v.imaged → e.honest ≡ d.honest
       → (d.honest ≡ true → IsBacked v.shelf.frames d.seen → KeepsShown d e v.shelf.frames w.shelf.frames) → (d.honest ≡ true → CanBeRead passes d v.shelf → CanBeRead passes e w.shelf)
       → PageKeepsRunning k r v.shelf.frames w.shelf.frames d e → WritesGated k r f passes d e v w
-  write_keeps page at_most log only honest shown readable runs bodies s l closed old =
+  write_keeps page at_most log only bits honest shown readable runs bodies s l closed old =
       let now = runs v.log bodies s l old.steady.honest closed old.runs in
       let L : Log → Type 0 = λ x. Runs k r x w.shelf.frames e bodies (rewritten r k.pages e.seen s) in
       record {
@@ -206,6 +211,7 @@ module _ {B : Type 0} (k : Known (Entry B) (Page B)) (r : Reading (Entry B) (Pag
           counter = old.counter ∙ sym (ap (λ (x : Shelf D). x.counter) only);
           pages = old.pages ∙ sym (ap (λ (x : Shelf D). x.pages) only);
           formed = still_formed v.shelf.frames w.shelf.frames at_most.contents old.formed;
+          imaged = same_imaged v.imaged w.imaged s (rewritten r k.pages e.seen s) bits refl old.imaged;
         };
         beside = now.beside;
         safely = now.safely;

@@ -1,30 +1,32 @@
 -- A step of a descent over frames and device, as an index's: where it begins again, and where it goes down.
-use Rattle.std.proofs.Common.{◌≡◌, ◌≢◌, ◌∙◌, sym, ap, subst, inr, ℕ, ◌<◌, ◌≤◌, Bool, true, not, ◌&&◌, ◌||◌, ◌==◌, List, [], ◌∷◌, length, Some, arith}
-use Rattle.std.specs.Prelude.{nat_lt}
+use Rattle.std.proofs.Common.{◌≡◌, ◌≢◌, ◌∙◌, sym, ap, refl, subst, inr, ℕ, ◌<◌, ◌≤◌, Bool, true, false, not, ◌&&◌, ◌||◌, ◌==◌, List, [], ◌∷◌, length, Some, arith}
+use Rattle.std.specs.Prelude.{is_some, nat_lt}
 use Rattle.std.proofs.lemmas.Bool.{lt-ltb}
 use Rattle.gx_machine.specs.declared.entry.Entry.{Entry}
 use Rattle.gx_machine.specs.declared.call.Call.{Call}
 use Rattle.gx_machine.specs.Sessions.{Locks}
 use Rattle.gx_disk.specs.Device.{Device}
 use Rattle.gx_page.specs.Contents.{Contents}
-use Rattle.gx_tree_laws.specs.Alike.{AgreeOnUsed}
-use Rattle.gx_tree_laws.specs.Legal.{ChildFits, Legal}
-use Rattle.gx_tree_laws.specs.Looks.{from_root}
-use Rattle.gx_tree_laws.specs.Reach.{TraversalItem}
-use Rattle.gx_tree_laws.specs.Steps.{IsWidening, Widens}
-use Rattle.gx_tree_laws.specs.Trees.{Node, Pair, Tree, Used, child_pages, size, times}
-use Rattle.gx_tree_laws.specs.Writes.{IsDescent, has_place, must_restart}
-use Rattle.gx_tree_laws.proofs.AlikeLooks.{descent_too}
-use Rattle.gx_tree_laws.proofs.AlikeTrees.{agree_back}
-use Rattle.gx_tree_laws.proofs.Chains.{some_child}
+use Rattle.gx_node.specs.Alike.{AgreeOnUsed}
+use Rattle.gx_node.specs.Legal.{ChildFits, Legal}
+use Rattle.gx_node.specs.Looks.{from_root}
+use Rattle.gx_node.specs.Reach.{TraversalItem}
+use Rattle.gx_node.specs.Steps.{IsWidening, Widens}
+use Rattle.gx_node.specs.Trees.{Child, Node, Pair, Tree, Used, child_pages, size, times}
+use Rattle.gx_node.specs.Writes.{IsDescent, has_place, must_restart}
+use Rattle.gx_node.proofs.AlikeLooks.{descent_too}
+use Rattle.gx_node.proofs.AlikeTrees.{agree_back}
+use Rattle.gx_node.proofs.Chains.{some_child}
 use Rattle.gx_node.specs.Reading.{Format}
 use Rattle.gx_tree.specs.Descending.{IsChoice, StepsDown}
 use Rattle.gx_tree.specs.declared.descent.Descended.TheVariants.{Down, Widened}
 use Rattle.gx_node.specs.Keyed.{AreKeys}
 use Rattle.gx_node.specs.Store.{Store, tree_of}
-use Rattle.gx_tree.proofs.Ways.{named}
+use Rattle.gx_tree.proofs.Ways.{each_slot, named}
 use Rattle.gx_tree.proofs.Widens.{went_down, went_widened, went_widening}
-use Rattle.gx_engine_laws.specs.Slots.{Note, Working, slot_at}
+use Rattle.gx_events.specs.Slots.{Note, Working, slot_at}
+use Rattle.gx_recovery.specs.Given.{change_fits, given}
+use Rattle.gx_recovery.specs.Logged.{all_records}
 use Rattle.gx_recovery.specs.Records.{Record}
 use Rattle.gx_index_laws.specs.Classes.{Class, IsLawful, Page, known_of}
 use Rattle.gx_index_laws.specs.Happening.{with_record, with_work}
@@ -36,13 +38,18 @@ use Rattle.gx_index_laws.proofs.Answering.{descent_again, descent_of}
 use Rattle.gx_index_laws.proofs.Measuring.{goes_down, restarts, widens}
 use Rattle.gx_index_laws.proofs.Standing.{is_legal}
 use Rattle.gx_durable.specs.Spelled.{record_read}
-use Rattle.gx_readings.specs.Classes.{reading_of}
+use Rattle.gx_durable.specs.Small.{SetKey}
+use Rattle.gx_durable.specs.Classes.{change_of, reading_of}
 use Rattle.gx_store.specs.Standing.{store_of}
-use Rattle.gx_storage.specs.Changes.{page_given}
+use Rattle.gx_storage.specs.Imaged.{is_imaged}
 use Rattle.gx_storage.specs.Keeps.{Keeps, StaysWith}
 use Rattle.gx_storage.specs.Numbers.{HasOwnNumber}
+use Rattle.gx_storage.specs.Small.{widen_said}
 use Rattle.gx_storage.specs.State.{Volume}
 use Rattle.gx_storage.specs.Sweeps.{WorksWith}
+use Rattle.gx_storage.proofs.Recording.{AreNodes}
+use Rattle.gx_storage.proofs.SmallSteps.{changed_step, changed_works}
+use Rattle.gx_storage.proofs.SmallWidens.{widen_fits}
 use Rattle.gx_storage.proofs.Stepping.{given_step, given_works, shown_legal, shows, stands, stood, used_few}
 use Rattle.gx_storage.proofs.Stepping as stepping
 
@@ -144,41 +151,15 @@ module _ {B D : Type 0} (c : Class B) (law : IsLawful c) (said : List ℕ → B)
               (goes_down c law old whole s locks notes call slot entry parent item at next.page space named_there);
         }
 
-    -- its bound is widened first, with the page's record
-    module _ (own : HasOwnNumber e.seen w.shelf item.page)
-        (after : StaysWith (known_of c) (reading_of said f) f passes d e w bodies old.log (record_read (reading_of said f) (page_given item.page e.seen w.shelf)))
-        (key : B) (widened : IsWidening c.rules shown shown_now item.page next.page entry.key key) where
-      abbrev pub given : Record (Entry B) (Page B)
-      given = record_read (reading_of said f) (page_given item.page e.seen w.shelf)
-
-      as_many : w.shelf.used ≡ v.shelf.used
-      as_many =
-          let now = stands c law said f passes d e v w bodies old whole keeps in
-          let before = stood c law said f passes d e v w bodies old whole keeps in
-          sym now ∙ (widened.changes).used ∙ before
-
-      high : item.page ≤ w.shelf.used
-      high =
-          let before = stood c law said f passes d e v w bodies old whole keeps in
-          let there = (widened.changes).there.1 in
-          omega (arith, as_many, before, there)
-
-      pub widens_works : WorksWith c (reading_of said f) f passes e w bodies old given
-      widens_works =
-          given_works c law said f passes d e v w bodies old whole keeps (item.page ∷ []) ((((widened.changes).there.0, high), own), tt) after
-          (let few = used_few c law said f passes d e v w bodies old whole keeps in omega (arith, few, as_many))
-          (Widens item.page next.page entry.key key) tt tt widened
-
-      logged : IsWidening c.rules t (tree_now c (with_record given old)) item.page next.page entry.key key
-      logged =
-          given_step c law said f passes d e v w bodies old whole keeps (item.page ∷ []) ((((widened.changes).there.0, high), own), tt) after
-          (Widens item.page next.page entry.key key) widened
-
-      pub widens_to : next.seen ≡ v.shelf.counter → IsDescent c.rules shown_now next entry.key → GoesTo (with_record given old) item.page next
+    -- its bound is widened first, with a record
+    module _ (x : Record (Entry B) (Page B)) (after : StaysWith (known_of c) (reading_of said f) f passes d e w bodies old.log x)
+        (works : WorksWith c (reading_of said f) f passes e w bodies old x) (key : B)
+        (logged : IsWidening c.rules t (tree_now c (with_record x old)) item.page next.page entry.key key) where
+      pub widens_to : next.seen ≡ v.shelf.counter → IsDescent c.rules shown_now next entry.key → GoesTo (with_record x old) item.page next
       widens_to seen descent =
-          let j : State B = with_record given old in
+          let j : State B = with_record x old in
           let then_tree : Tree B = tree_now c j in
-          let then_descent : DescendsFor c then_tree (slot_at s j.slots) entry parent item = descent_of c law j widens_works.comes.happens.whole s entry parent item at in
+          let then_descent : DescendsFor c then_tree (slot_at s j.slots) entry parent item = descent_of c law j works.comes.happens.whole s entry parent item at in
           let used : Used then_tree item.page =
           ((logged.changes).there.0, (let same = (logged.changes).used in let there = (logged.changes).there.1 in omega (arith, same, there))) in
           let level : (then_tree.node item.page).level ≡ (t.node item.page).level = ap (λ (n : Node B). n.level) (logged.changes).changed in
@@ -193,7 +174,7 @@ module _ {B D : Type 0} (c : Class B) (law : IsLawful c) (said : List ℕ → B)
             };
             lower =
                 subst (λ n. work_left c (with_work s (Descends entry item.page (record { page = next.page; seen = n })) j) s < work_left c old s) now
-                (widens c law old whole s locks notes call slot entry parent item at given next.page entry.key key logged space named_there);
+                (widens c law old whole s locks notes call slot entry parent item at x next.page entry.key key logged space named_there);
           }
 
   -- the step that goes down, by what a class says of its unions
@@ -211,18 +192,76 @@ module _ {B D : Type 0} (c : Class B) (law : IsLawful c) (said : List ℕ → B)
         (subst (λ (x : Store B). IsDescent c.rules (tree_of x) next entry.key) step.2
         (went_down c.rules IsKey cost joined join.is_key join.first join.second join.least before now item entry.key keys is_key next legal_shown shown_descent step))
 
-    module _ (next : TraversalItem) (slot_there : ℕ) (key : B) (step : StepsDown cost joined c.rules.most before now item entry.key (Widened next slot_there key))
-        (own : HasOwnNumber e.seen w.shelf item.page)
-        (after : StaysWith (known_of c) (reading_of said f) f passes d e w bodies old.log (record_read (reading_of said f) (page_given item.page e.seen w.shelf))) where
+    module _ (was : AreNodes f passes v.shelf) (spelling : B → List ℕ) (reads : (k : B) → IsKey k → f.reading (spelling k) ≡ Some k)
+        (next : TraversalItem) (slot_there : ℕ) (key : B) (step : StepsDown cost joined c.rules.most before now item entry.key (Widened next slot_there key))
+        (own : HasOwnNumber e.seen w.shelf item.page) where
       widening : IsWidening c.rules shown shown_now item.page next.page entry.key key
       widening =
           went_widening c.rules IsKey cost joined join.is_key join.first join.second join.least before now item entry.key keys is_key next slot_there key step legal_shown shown_descent
 
-      pub widened_works : WorksWith c (reading_of said f) f passes e w bodies old (record_read (reading_of said f) (page_given item.page e.seen w.shelf))
-      widened_works = let way = step.0 in widens_works cost slot_there next way.1.0 way.1.1 own after key widening
+      used_then : v.shelf.used ≡ shown.used
+      used_then = sym (stood c law said f passes d e v w bodies old whole keeps)
 
-      pub widened_to : GoesTo (with_record (record_read (reading_of said f) (page_given item.page e.seen w.shelf)) old) item.page next
-      widened_to =
-          let way = step.0 in
-          widens_to cost slot_there next way.1.0 way.1.1 own after key widening step.1
-          (went_widened c.rules IsKey cost joined join.is_key join.first join.second join.least before now item entry.key keys is_key next slot_there key step legal_shown shown_descent law.rules)
+      used_now : w.shelf.used ≡ shown.used
+      used_now = sym (stands c law said f passes d e v w bodies old whole keeps) ∙ (widening.changes).used
+
+      low : 0 < item.page
+      low = (widening.changes).there.0
+
+      high_then : item.page ≤ v.shelf.used
+      high_then = let there = (widening.changes).there.1 in let used = used_then in omega (arith, there, used)
+
+      high_now : item.page ≤ w.shelf.used
+      high_now = let there = (widening.changes).there.1 in let used = used_now in omega (arith, there, used)
+
+      its_key : IsKey key
+      its_key =
+          let way = step.0.1 in
+          let bound = each_slot (λ (x : Child B). IsKey x.key) (shown.node item.page).children slot_there (record { key = way.0; page = next.page }) (way.1).at
+          (keys.children item.page shown_descent.there) in
+          subst IsKey (sym way.2) (join.is_key way.0 entry.key bound is_key)
+
+      -- what the log gives of the page takes the bound
+      fits : is_imaged v.imaged item.page ≡ true → change_fits (known_of c) (change_of f (SetKey slot_there (spelling key))) (given item.page (all_records old.log)) ≡ true
+      fits bit =
+          let way = step.0.1 in
+          widen_fits (known_of c) said f passes d v bodies old.log keeps was item.page low high_then bit slot_there (record { key = way.0; page = next.page }) (way.1).inner (way.1).at
+          (spelling key) (ap is_some (reads key its_key))
+
+      -- the record of the bound, and what it does to an index: nothing that a session sees
+      abbrev pub told : Bool → Record (Entry B) (Page B)
+      told small = record_read (reading_of said f) (widen_said spelling small item.page slot_there key e.seen w.shelf)
+
+      record IsTold (small : Bool) : Type 0 where
+        pub works : WorksWith c (reading_of said f) f passes e w bodies old (told small)
+        pub logged : IsWidening c.rules t (tree_now c (with_record (told small) old)) item.page next.page entry.key key
+
+      is_told : (small : Bool) → is_imaged v.imaged item.page ≡ small → StaysWith (known_of c) (reading_of said f) f passes d e w bodies old.log (told small) → IsTold small
+      is_told true bit after = record {
+        works =
+            changed_works c law said f passes d e v w bodies old whole keeps item.page (change_of f (SetKey slot_there (spelling key))) low high_now after
+            (Widens item.page next.page entry.key key) tt tt (fits bit) widening;
+        logged =
+            changed_step c law said f passes d e v w bodies old whole keeps item.page (change_of f (SetKey slot_there (spelling key))) low high_now after
+            (Widens item.page next.page entry.key key) widening;
+      }
+      is_told false bit after =
+          let few : w.shelf.used ≤ c.pages = (let few = used_few c law said f passes d e v w bodies old whole keeps in let before = used_then in let after = used_now in omega (arith, few, before, after)) in
+          record {
+            works =
+                given_works c law said f passes d e v w bodies old whole keeps (item.page ∷ []) (((low, high_now), own), tt) after few (Widens item.page next.page entry.key key) tt tt widening;
+            logged = given_step c law said f passes d e v w bodies old whole keeps (item.page ∷ []) (((low, high_now), own), tt) after (Widens item.page next.page entry.key key) widening;
+          }
+
+      module _ (after : StaysWith (known_of c) (reading_of said f) f passes d e w bodies old.log (told (is_imaged v.imaged item.page))) where
+        its : IsTold (is_imaged v.imaged item.page)
+        its = is_told (is_imaged v.imaged item.page) refl after
+
+        pub widened_works : WorksWith c (reading_of said f) f passes e w bodies old (told (is_imaged v.imaged item.page))
+        widened_works = its.works
+
+        pub widened_to : GoesTo (with_record (told (is_imaged v.imaged item.page)) old) item.page next
+        widened_to =
+            let way = step.0 in
+            widens_to cost slot_there next way.1.0 way.1.1 (told (is_imaged v.imaged item.page)) after its.works key its.logged step.1
+            (went_widened c.rules IsKey cost joined join.is_key join.first join.second join.least before now item entry.key keys is_key next slot_there key step legal_shown shown_descent law.rules)

@@ -11,8 +11,8 @@ use Rattle.gx_page.specs.Reading.{read_of}
 use Rattle.gx_pool.specs.Area.{bytes_of, IsPassing}
 use Rattle.gx_pool.specs.Laws.{IsPassed, shown, shown_of}
 use Rattle.gx_pool.specs.State.{Kept, kept}
-use Rattle.gx_tree_laws.specs.Lists.{Each}
-use Rattle.gx_tree_laws.specs.Trees.{Node, Used}
+use Rattle.gx_node.specs.Lists.{Each}
+use Rattle.gx_node.specs.Trees.{Node, Used}
 use Rattle.gx_node.specs.Entries.{IsChild, IsPair}
 use Rattle.gx_node.specs.Laws.{InnersHold, LeavesHold}
 use Rattle.gx_node.specs.Reading.{Format, are_children, are_pairs, inner_of, is_node, leaf_of}

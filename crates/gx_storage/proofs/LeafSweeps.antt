@@ -1,21 +1,23 @@
 -- A sweep that a descent makes of its full leaf over frames and device, as an index's: the descent stays there, with less left.
-use Rattle.std.proofs.Common.{◌≡◌, ◌∙◌, sym, refl, subst, ℕ, ◌<◌, ◌≤◌, Bool, true, List, [], ◌∷◌, Some, arith}
+use Rattle.std.proofs.Common.{◌≡◌, ◌∙◌, sym, refl, subst, ℕ, ◌<◌, ◌≤◌, Bool, true, false, List, [], ◌∷◌, Some, arith}
 use Rattle.std.proofs.Math.Path.{fun_ext}
 use Rattle.gx_machine.specs.declared.entry.Entry.{Entry}
 use Rattle.gx_machine.specs.declared.call.Call.{Call}
 use Rattle.gx_machine.specs.Sessions.{Locks}
 use Rattle.gx_disk.specs.Device.{Device}
 use Rattle.gx_page.specs.Contents.{Contents}
-use Rattle.gx_tree_laws.specs.Lists.{how_many}
-use Rattle.gx_tree_laws.specs.Reach.{TraversalItem}
-use Rattle.gx_tree_laws.specs.Steps.{IsSweep, Sweeps}
-use Rattle.gx_tree_laws.specs.Trees.{Node, Pair, Tree}
-use Rattle.gx_tree_laws.specs.Writes.{is_sweepable}
+use Rattle.gx_node.specs.Lists.{how_many}
+use Rattle.gx_node.specs.Reach.{TraversalItem}
+use Rattle.gx_node.specs.Steps.{IsStep, IsSweep, Sweeps}
+use Rattle.gx_node.specs.Trees.{Node, Pair, Tree}
+use Rattle.gx_node.specs.Writes.{is_sweepable}
 use Rattle.gx_node.specs.Edits.{entry_of}
 use Rattle.gx_node.specs.Reading.{Format}
 use Rattle.gx_tree.specs.Writing.{Swept}
-use Rattle.gx_engine_laws.specs.Slots.{Note, Working, slot_at}
-use Rattle.gx_engine_laws.specs.Wants.{is_claimed}
+use Rattle.gx_events.specs.Slots.{Note, Working, slot_at}
+use Rattle.gx_events.specs.Wants.{is_claimed}
+use Rattle.gx_recovery.specs.Given.{change_fits, given}
+use Rattle.gx_recovery.specs.Logged.{all_records}
 use Rattle.gx_recovery.specs.Records.{Record}
 use Rattle.gx_index_laws.specs.Classes.{Class, IsLawful, Page, known_of}
 use Rattle.gx_index_laws.specs.Happening.{with_record}
@@ -23,15 +25,17 @@ use Rattle.gx_index_laws.specs.Measures.{claims_pair, work_left}
 use Rattle.gx_index_laws.specs.States.{Descends, State, tree_now}
 use Rattle.gx_index_laws.specs.Whole.{IsWhole}
 use Rattle.gx_index_laws.proofs.Measuring.{sweeps}
+use Rattle.gx_durable.specs.Small.{RemoveSlots}
 use Rattle.gx_durable.specs.Spelled.{record_read}
-use Rattle.gx_readings.specs.Classes.{reading_of}
+use Rattle.gx_durable.specs.Classes.{change_of, reading_of}
 use Rattle.gx_store.specs.Standing.{store_of}
-use Rattle.gx_storage.specs.Changes.{page_given}
 use Rattle.gx_storage.specs.Keeps.{Keeps, StaysWith}
 use Rattle.gx_storage.specs.Numbers.{HasOwnNumber}
+use Rattle.gx_storage.specs.Small.{sweep_said}
 use Rattle.gx_storage.specs.State.{Volume}
 use Rattle.gx_storage.specs.Sweeps.{WorksWith}
 use Rattle.gx_storage.proofs.Descending.{same_node}
+use Rattle.gx_storage.proofs.SmallSteps.{changed_step, changed_works}
 use Rattle.gx_storage.proofs.Stepping.{given_step, given_works, stands, stood, used_few}
 use Rattle.gx_storage.proofs.Stepping as stepping
 
@@ -42,15 +46,16 @@ module _ {B D : Type 0} (c : Class B) (law : IsLawful c) (said : List ℕ → B)
     (keeps : Keeps (known_of c) (reading_of said f) f passes d v bodies old.log)
     (test : Entry B → Bool) (claims : (x : Entry B) → test x ≡ is_claimed c.keys x old.slots)
     (swept : Swept test (store_of f d.seen v.shelf) (store_of f e.seen w.shelf) item.page true) (own : HasOwnNumber e.seen w.shelf item.page)
-    (after : StaysWith (known_of c) (reading_of said f) f passes d e w bodies old.log (record_read (reading_of said f) (page_given item.page e.seen w.shelf))) where
+    (small : Bool) (slots : List ℕ) (after : StaysWith (known_of c) (reading_of said f) f passes d e w bodies old.log (record_read (reading_of said f) (sweep_said small item.page slots e.seen w.shelf)))
+    (fits : small ≡ true → change_fits (known_of c) (change_of f (RemoveSlots slots)) (given item.page (all_records old.log)) ≡ true) where
   abbrev shown : Tree B
   shown = stepping.shown c law said f passes d e v w bodies old whole
 
   abbrev shown_now : Tree B
   shown_now = stepping.shown_now c law said f passes d e v w bodies old whole
 
-  abbrev pub given : Record (Entry B) (Page B)
-  given = record_read (reading_of said f) (page_given item.page e.seen w.shelf)
+  abbrev pub logged : Record (Entry B) (Page B)
+  logged = record_read (reading_of said f) (sweep_said small item.page slots e.seen w.shelf)
 
   -- what is spared is what any session claims
   same_test : ◌≡◌ {A = Pair B → Bool} (λ x. test (entry_of x)) (claims_pair c old.slots)
@@ -77,14 +82,29 @@ module _ {B D : Type 0} (c : Class B) (law : IsLawful c) (said : List ℕ → B)
       let there = (sweep.changes).there.1 in
       omega (arith, as_many, before, there)
 
-  pub sweep_works : WorksWith c (reading_of said f) f passes e w bodies old given
-  sweep_works =
-      given_works c law said f passes d e v w bodies old whole keeps (item.page ∷ []) ((((sweep.changes).there.0, high), own), tt) after
+  works_by : (b : Bool) → StaysWith (known_of c) (reading_of said f) f passes d e w bodies old.log (record_read (reading_of said f) (sweep_said b item.page slots e.seen w.shelf))
+      → (b ≡ true → change_fits (known_of c) (change_of f (RemoveSlots slots)) (given item.page (all_records old.log)) ≡ true)
+      → WorksWith c (reading_of said f) f passes e w bodies old (record_read (reading_of said f) (sweep_said b item.page slots e.seen w.shelf))
+  works_by true stays fit =
+      changed_works c law said f passes d e v w bodies old whole keeps item.page (change_of f (RemoveSlots slots)) (sweep.changes).there.0 high stays
+      (Sweeps item.page (claims_pair c old.slots)) tt (λ x is. is) (fit refl) sweep
+  works_by false stays fit =
+      given_works c law said f passes d e v w bodies old whole keeps (item.page ∷ []) ((((sweep.changes).there.0, high), own), tt) stays
       (let few = used_few c law said f passes d e v w bodies old whole keeps in omega (arith, few, as_many))
       (Sweeps item.page (claims_pair c old.slots)) tt (λ x is. is) sweep
 
-  pub sweep_lowers : work_left c (with_record given old) s < work_left c old s
-  sweep_lowers =
-      sweeps c law old whole s locks notes call slot entry parent item at given
-      (given_step c law said f passes d e v w bodies old whole keeps (item.page ∷ []) ((((sweep.changes).there.0, high), own), tt) after
-      (Sweeps item.page (claims_pair c old.slots)) sweep) some
+  pub sweep_works : WorksWith c (reading_of said f) f passes e w bodies old logged
+  sweep_works = works_by small after fits
+
+  step_by : (b : Bool) → StaysWith (known_of c) (reading_of said f) f passes d e w bodies old.log (record_read (reading_of said f) (sweep_said b item.page slots e.seen w.shelf))
+      → IsStep c.rules (tree_now c old) (Sweeps item.page (claims_pair c old.slots))
+      (tree_now c (with_record (record_read (reading_of said f) (sweep_said b item.page slots e.seen w.shelf)) old))
+  step_by true stays =
+      changed_step c law said f passes d e v w bodies old whole keeps item.page (change_of f (RemoveSlots slots)) (sweep.changes).there.0 high stays
+      (Sweeps item.page (claims_pair c old.slots)) sweep
+  step_by false stays =
+      given_step c law said f passes d e v w bodies old whole keeps (item.page ∷ []) ((((sweep.changes).there.0, high), own), tt) stays
+      (Sweeps item.page (claims_pair c old.slots)) sweep
+
+  pub sweep_lowers : work_left c (with_record logged old) s < work_left c old s
+  sweep_lowers = sweeps c law old whole s locks notes call slot entry parent item at logged (step_by small after) some

@@ -1,28 +1,30 @@
 -- What the setting of a mark leaves.
 use Rattle.std.proofs.Common.{◌≡◌, subst, ℕ, Bool}
 use Rattle.gx_disk.specs.Device.{Device}
-use Rattle.gx_tree_laws.specs.Trees.{Pair}
+use Rattle.gx_node.specs.Trees.{Node, Pair}
 use Rattle.gx_node.specs.Reading.{Format}
 use Rattle.gx_node.specs.Store.{Store, tree_of}
+use Rattle.gx_tree.specs.Seeking.{Seeks}
 use Rattle.gx_tree.specs.Writing.{SetsMark}
 use Rattle.gx_tree.specs.declared.seek.Sought.{Sought}
 use Rattle.gx_tree.specs.declared.seek.Sought.TheVariants.{Here, Right}
 use Rattle.gx_store.specs.Standing.{store_of}
 use Rattle.gx_store.specs.State.{Shelf}
 use Rattle.gx_storage.specs.Changes.{begun}
+use Rattle.gx_storage.specs.Changing.{HasWanted}
 use Rattle.gx_storage.specs.State.{Volume}
 
 module _ {B : Type 0} (wants : Pair B → Bool) (old new : Store B) (a : ℕ) (marked : Bool) where
-  -- of a pair that is here: as many pages are taken and counted
-  here_numbers : (slot : ℕ) (before : Bool) → SetsMark wants old new a marked (Here slot before) → ((tree_of new).used ≡ (tree_of old).used) × ((tree_of new).counter ≡ (tree_of old).counter)
-  here_numbers slot before ((level, found), changes) = let one = changes found.0 found.1 in (one.used, one.counter)
-
-  pub marked_numbers : (sought : Sought) (slot : ℕ) (before : Bool) → sought ≡ Here slot before → SetsMark wants old new a marked sought
-      → ((tree_of new).used ≡ (tree_of old).used) × ((tree_of new).counter ≡ (tree_of old).counter)
-  marked_numbers sought slot before is did = here_numbers slot before (subst {A = Sought} (λ s. SetsMark wants old new a marked s) is did)
-
   pub unmarked_stays : (sought : Sought) (next : ℕ) → sought ≡ Right next → SetsMark wants old new a marked sought → new ≡ old
   unmarked_stays sought next is did = (subst {A = Sought} (λ s. SetsMark wants old new a marked s) is did).1
+
+-- what was sought in a leaf that is as it was
+pub found_here : {B : Type 0} (wants : Pair B → Bool) (node : Node B) (sought : Sought) (slot : ℕ) (before : Bool) → sought ≡ Here slot before → Seeks wants node sought → HasWanted wants node
+found_here wants node sought slot before is seeks = (slot, before, subst {A = Sought} (λ s. Seeks wants node s) is seeks)
+
+pub unmarked_right : {B : Type 0} (wants : Pair B → Bool) (old new : Store B) (a : ℕ) (marked : Bool) (sought : Sought) (next : ℕ) → sought ≡ Right next → new ≡ old
+    → Seeks wants ((tree_of new).node a) sought → SetsMark wants old new a marked (Right next)
+unmarked_right wants old new a marked sought next is same seeks = (subst {A = Store _} (λ t. Seeks wants ((tree_of t).node a) (Right next)) same (subst {A = Sought} (λ s. Seeks wants ((tree_of new).node a) s) is seeks), same)
 
 -- since before the event began
 pub marked_since : {B D : Type 0} (f : Format B) (state : D → Device) (v : Volume D) (size : ℕ) (u : Shelf D) (wants : Pair B → Bool) (new : Store B) (a : ℕ) (marked : Bool) (sought found : Sought)

@@ -109,7 +109,7 @@ module _ {B D : Type 0} (k : Known (Entry B) (Page B)) (r : Reading (Entry B) (P
 
   -- where each page is, and nothing was taken or counted, the volume keeps the same state
   pub stays_same : (most : ℕ) → ((q : ℕ) → IsAsItWas d e v.shelf.frames t.frames q) → t.used ≡ v.shelf.used → t.counter ≡ v.shelf.counter
-      → StaysSame k r f passes d e (record { log = v.log; shelf = t; most = most }) bodies s
+      → StaysSame k r f passes d e (record { log = v.log; shelf = t; most = most; imaged = v.imaged }) bodies s
   stays_same most same used counter = record {
     keeps = record {
       runs = record { up = now_up.0; stamped = now_stamped (λ p stamp is. inl (sym (same p).stamp ∙ is)) };
@@ -122,6 +122,7 @@ module _ {B D : Type 0} (k : Known (Entry B) (Page B)) (r : Reading (Entry B) (P
       counter = keeps.counter ∙ sym counter;
       pages = keeps.pages ∙ sym on.pages;
       formed = λ p j is. now_formed p j is (same p);
+      imaged = keeps.imaged;
     };
     leaves = now_up.1.leaves;
   }

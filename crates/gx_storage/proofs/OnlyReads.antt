@@ -32,7 +32,7 @@ module _ {B D : Type 0} (known : Limits → Known (Entry B) (Page B)) (r : Readi
   -- whatever place and room the event was told that it has
   pub begun_reads : (batch : ℕ) (room : Bool) → ((q : ℕ) → IsSince passes (state v.shelf.disk) (state t.disk) (record v.shelf { batch = batch; has_room = room }) t q)
       → Stays (IsSteady (state v.shelf.disk) v.shelf.frames) (store_of f (state v.shelf.disk).seen v.shelf) (store_of f (state t.disk).seen t)
-      → IsUnlogged known r f passes (record v.shelf { batch = batch; has_room = room }) (state v.shelf.disk) (state t.disk) v (record { log = v.log; shelf = t; most = v.most })
+      → IsUnlogged known r f passes (record v.shelf { batch = batch; has_room = room }) (state v.shelf.disk) (state t.disk) v (record { log = v.log; shelf = t; most = v.most; imaged = v.imaged })
   begun_reads batch room since stays = record {
     log = refl;
     keeps = λ l bodies s lawful keeps.
@@ -40,10 +40,11 @@ module _ {B D : Type 0} (known : Limits → Known (Entry B) (Page B)) (r : Readi
         (sym (nodes_long (standing_node f t.frames (state t.disk).seen) t.used) ∙ stays.used ∙ nodes_long (standing_node f v.shelf.frames (state v.shelf.disk).seen) v.shelf.used) stays.counter;
     since = since;
     most = refl;
+    imaged = refl;
   }
 
   -- a step that begins no event
   pub only_reads : ((was : Shelf D) (q : ℕ) → IsSince passes (state was.disk) (state v.shelf.disk) was v.shelf q → IsSince passes (state was.disk) (state t.disk) was t q)
       → Stays (IsSteady (state v.shelf.disk) v.shelf.frames) (store_of f (state v.shelf.disk).seen v.shelf) (store_of f (state t.disk).seen t)
-      → IsUnlogged known r f passes v.shelf (state v.shelf.disk) (state t.disk) v (record { log = v.log; shelf = t; most = v.most })
+      → IsUnlogged known r f passes v.shelf (state v.shelf.disk) (state t.disk) v (record { log = v.log; shelf = t; most = v.most; imaged = v.imaged })
   only_reads since stays = begun_reads v.shelf.batch v.shelf.has_room (λ q. since v.shelf q (begins passes (state v.shelf.disk) v.shelf q)) stays

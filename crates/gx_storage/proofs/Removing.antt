@@ -1,7 +1,7 @@
 -- Whether any element of a list passes a test.
 use Rattle.std.proofs.Common.{◌≡◌, ◌∙◌, ap, refl, ℕ, zero, suc, ◌<◌, Bool, true, false, List, [], ◌∷◌, length, Option, None, Some, arith}
 use Rattle.std.specs.Prelude.{slice_get}
-use Rattle.gx_tree_laws.specs.Lists.{how_many, one_if}
+use Rattle.gx_node.specs.Lists.{how_many, one_if}
 
 module _ {X : Type 0} (test : X → Bool) where
   -- none before this place passes

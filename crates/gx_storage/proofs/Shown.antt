@@ -12,7 +12,7 @@ use Rattle.gx_page.proofs.Images.{read-image}
 use Rattle.gx_pool.specs.Area.{bytes_of}
 use Rattle.gx_pool.specs.Laws.{IsBacked, shown_of}
 use Rattle.gx_pool.specs.State.{State, Kept, kept}
-use Rattle.gx_tree_laws.specs.Alike.{AgreeOnUsed}
+use Rattle.gx_node.specs.Alike.{AgreeOnUsed}
 use Rattle.gx_node.specs.Reading.{Format}
 use Rattle.gx_recovery.specs.Known.{Known, IsLawful}
 use Rattle.gx_recovery.specs.Records.{Record}
@@ -26,7 +26,7 @@ use Rattle.gx_recovery.proofs.Renewals.{log_fits}
 use Rattle.gx_recovery.proofs.Tests.{and_first}
 use Rattle.gx_index_laws.specs.Classes.{Page}
 use Rattle.gx_durable.specs.Stored.{bytes_by, stored, IsStored}
-use Rattle.gx_readings.specs.Classes.{node_of, page_of, reading_of}
+use Rattle.gx_durable.specs.Classes.{node_of, page_of, reading_of}
 use Rattle.gx_store.specs.Standing.{standing, standing_node}
 use Rattle.gx_store.proofs.Listed.{node_there, nodes_long}
 use Rattle.gx_store.proofs.Shown.{stands_shown}
@@ -44,7 +44,7 @@ used_fits k l log is =
 
 module _ {B : Type 0} (said : List ℕ → B) (f : Format B) where
   -- what is read of the bytes that a page is, is what is shown of it
-  bytes_shown : (o : Option Kept) (on_device : List ℕ) → ((k : Kept) → o ≡ Some k → IsWellFormed k.page) → read_of (bytes_by o on_device) ≡ shown_of o (read_of on_device)
+  pub bytes_shown : (o : Option Kept) (on_device : List ℕ) → ((k : Kept) → o ≡ Some k → IsWellFormed k.page) → read_of (bytes_by o on_device) ≡ shown_of o (read_of on_device)
   bytes_shown None on_device formed = refl
   bytes_shown (Some k) on_device formed = read-image k.page (formed k refl)
 

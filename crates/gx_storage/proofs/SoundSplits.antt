@@ -8,17 +8,17 @@ use Rattle.gx_machine.specs.Sessions.{Locks}
 use Rattle.gx_disk.specs.Device.{Device}
 use Rattle.gx_disk.specs.declared.layout.TheConstants.{MAX_PAGES}
 use Rattle.gx_page.specs.Contents.{Contents}
-use Rattle.gx_tree_laws.specs.Legal.{Legal}
-use Rattle.gx_tree_laws.specs.Lists.{Each}
-use Rattle.gx_tree_laws.specs.Looks.{from_root}
-use Rattle.gx_tree_laws.specs.Reach.{TraversalItem}
-use Rattle.gx_tree_laws.specs.Steps.{IsRootSplit, IsSplit, Splits, SplitsRoot}
-use Rattle.gx_tree_laws.specs.Trees.{Node, Tree, Used, child_pages, size, times}
-use Rattle.gx_tree_laws.proofs.Splits.{split_used}
+use Rattle.gx_node.specs.Legal.{Legal}
+use Rattle.gx_node.specs.Lists.{Each}
+use Rattle.gx_node.specs.Looks.{from_root}
+use Rattle.gx_node.specs.Reach.{TraversalItem}
+use Rattle.gx_node.specs.Steps.{IsRootSplit, IsSplit, Splits, SplitsRoot}
+use Rattle.gx_node.specs.Trees.{Node, Tree, Used, child_pages, size, times}
+use Rattle.gx_node.proofs.Splits.{split_used}
 use Rattle.gx_node.specs.Reading.{Format}
 use Rattle.gx_tree.specs.Splitting.{HasNoPlace}
 use Rattle.gx_tree.proofs.Restarts.{restarts}
-use Rattle.gx_engine_laws.specs.Slots.{Note, Working, slot_at}
+use Rattle.gx_events.specs.Slots.{Note, Working, slot_at}
 use Rattle.gx_recovery.specs.Records.{Record}
 use Rattle.gx_recovery.proofs.Tests.{true_or_false}
 use Rattle.gx_index_laws.specs.Classes.{Class, IsLawful, Page, known_of}
@@ -30,7 +30,7 @@ use Rattle.gx_index_laws.proofs.Answering.{descent_again}
 use Rattle.gx_index_laws.proofs.Measuring.{splits, splits_root}
 use Rattle.gx_index_laws.proofs.Standing.{is_legal}
 use Rattle.gx_durable.specs.Spelled.{record_read}
-use Rattle.gx_readings.specs.Classes.{reading_of}
+use Rattle.gx_durable.specs.Classes.{reading_of}
 use Rattle.gx_storage.specs.Giving.{pages_given, placed, rising}
 use Rattle.gx_storage.specs.Keeps.{Keeps, StaysWith}
 use Rattle.gx_storage.specs.Numbers.{HasOwnNumber}

@@ -10,11 +10,11 @@ use Rattle.gx_page.specs.Contents.{Contents}
 use Rattle.gx_pool.specs.State.{kept}
 use Rattle.gx_record.specs.Rec.{Pages}
 use Rattle.gx_record.specs.Format.{IsInRange, IsPage}
-use Rattle.gx_tree_laws.specs.Lists.{Each, staying, going}
-use Rattle.gx_tree_laws.specs.Legal.{Legal}
-use Rattle.gx_tree_laws.specs.Trees.{Node, Rules, Tree, Used, size}
-use Rattle.gx_tree_laws.specs.Steps.{IsSplit, IsRootSplit, with_key}
-use Rattle.gx_tree_laws.proofs.Sums.{length_parted}
+use Rattle.gx_node.specs.Lists.{Each, staying, going}
+use Rattle.gx_node.specs.Legal.{Legal}
+use Rattle.gx_node.specs.Trees.{Node, Rules, Tree, Used, size}
+use Rattle.gx_node.specs.Steps.{IsSplit, IsRootSplit, with_key}
+use Rattle.gx_node.proofs.Sums.{length_parted}
 use Rattle.gx_node.specs.Reading.{Format}
 use Rattle.gx_tree.specs.Splitting.{DidSplit, DidSplitRoot}
 use Rattle.gx_node.specs.Store.{Store, node_at, tree_of}
@@ -26,7 +26,7 @@ use Rattle.gx_index_laws.specs.Classes.{Page}
 use Rattle.gx_glog.specs.State.{Log}
 use Rattle.gx_durable.specs.Spelled.{images_read}
 use Rattle.gx_durable.specs.Stored.{images_of}
-use Rattle.gx_readings.specs.Classes.{reading_of}
+use Rattle.gx_durable.specs.Classes.{reading_of}
 use Rattle.gx_store.specs.Since.{GoesOn, IsAsItWas, IsSince, IsStamped}
 use Rattle.gx_store.specs.Standing.{nodes_to, standing_node, store_of}
 use Rattle.gx_store.specs.State.{Shelf, IsHeld, IsSteady}
@@ -34,6 +34,7 @@ use Rattle.gx_store.proofs.Changing.{there}
 use Rattle.gx_store.proofs.Listed.{nodes_long}
 use Rattle.gx_store.proofs.Shown.{stands_kept}
 use Rattle.gx_storage.specs.Changes.{IsLast, IsLogged, begun, has_room}
+use Rattle.gx_storage.specs.Imaged.{imaged_with}
 use Rattle.gx_storage.specs.Numbers.{HasOwnNumber}
 use Rattle.gx_storage.specs.Giving.{IsGiven, contents_at, pages_given, placed, rising}
 use Rattle.gx_storage.specs.State.{Volume}
@@ -157,26 +158,27 @@ module _ {B D : Type 0} (known : Limits → Known (Entry B) (Page B)) (said : Li
   among_given q [] = refl
   among_given q (page ∷ pages) = ap (λ b. (page == q) || b) (among_given q pages)
 
-  pub logged_pages : (pages : List ℕ) (log : Log) → SteppedBut passes state v size t pages → Each (IsGiven (state t.disk).seen t) pages → AreNodes f passes t
+  pub logged_pages : (pages : List ℕ) (log : Log) (imaged : List Bool) → imaged ≡ imaged_with (pages_given pages (state t.disk).seen t) v.imaged → SteppedBut passes state v size t pages → Each (IsGiven (state t.disk).seen t) pages → AreNodes f passes t
       → IsLast known (reading_of said f) (pages_given pages (state t.disk).seen t) v.log log
-      → IsLogged known (reading_of said f) f passes size (state v.shelf.disk) (state t.disk) v (record { log = log; shelf = t; most = v.most }) (pages_given pages (state t.disk).seen t)
-  logged_pages pages log did given right last = record {
+      → IsLogged known (reading_of said f) f passes size (state v.shelf.disk) (state t.disk) v (record { log = log; shelf = t; most = v.most; imaged = imaged }) (pages_given pages (state t.disk).seen t)
+  logged_pages pages log imaged bits did given right last = record {
     logs = last.logs;
     keeps = λ l bodies s lawful keeps.
         pages_stay_with (known l) said f passes (state v.shelf.disk) (state t.disk) v v.log.used (has_room v.log size) t bodies s lawful keeps did.goes_on (omega arith) right
-        known l refl (contents_at (state t.disk).seen t pages) log v.most (all_there pages given) last
+        known l refl (contents_at (state t.disk).seen t pages) log v.most imaged bits (all_there pages given) last
         (λ q other. did.others q (sym (among_given q pages) ∙ other));
     goes_on = did.goes_on;
     others = λ q other. did.others q (sym (among_given q pages) ∙ other);
     most = refl;
+    imaged = bits;
   }
 
   -- the same of the pages in another spelling
-  pub logged_these : (these pages : List ℕ) (log : Log) → these ≡ pages → SteppedBut passes state v size t pages → Each (IsGiven (state t.disk).seen t) these → AreNodes f passes t
+  pub logged_these : (these pages : List ℕ) (log : Log) (imaged : List Bool) → these ≡ pages → imaged ≡ imaged_with (pages_given these (state t.disk).seen t) v.imaged → SteppedBut passes state v size t pages → Each (IsGiven (state t.disk).seen t) these → AreNodes f passes t
       → IsLast known (reading_of said f) (pages_given these (state t.disk).seen t) v.log log
-      → IsLogged known (reading_of said f) f passes size (state v.shelf.disk) (state t.disk) v (record { log = log; shelf = t; most = v.most }) (pages_given pages (state t.disk).seen t)
-  logged_these these pages log same did given right last =
-      logged_pages pages log did (subst {A = List ℕ} (λ x. Each (IsGiven (state t.disk).seen t) x) same given) right
+      → IsLogged known (reading_of said f) f passes size (state v.shelf.disk) (state t.disk) v (record { log = log; shelf = t; most = v.most; imaged = imaged }) (pages_given pages (state t.disk).seen t)
+  logged_these these pages log imaged same bits did given right last =
+      logged_pages pages log imaged (subst {A = List ℕ} (λ x. imaged ≡ imaged_with (pages_given x (state t.disk).seen t) v.imaged) same bits) did (subst {A = List ℕ} (λ x. Each (IsGiven (state t.disk).seen t) x) same given) right
       (subst {A = List ℕ} (λ x. IsLast known (reading_of said f) (pages_given x (state t.disk).seen t) v.log log) same last)
 
 -- three pages in a record are in range

@@ -7,13 +7,13 @@ use Rattle.std.proofs.lemmas.Bool.{eq-eqb, le-leb, lt-ltb, leb-true, ltb-true, n
 use Rattle.gx_machine.specs.declared.entry.Entry.{Entry}
 use Rattle.gx_disk.specs.Device.{Device}
 use Rattle.gx_page.specs.Contents.{Contents}
-use Rattle.gx_tree_laws.specs.Alike.{AgreeOnUsed}
-use Rattle.gx_tree_laws.specs.Legal.{Legal}
-use Rattle.gx_tree_laws.specs.Lists.{Each}
-use Rattle.gx_tree_laws.specs.Steps.{IsStep, Step}
-use Rattle.gx_tree_laws.specs.Trees.{Tree, Used}
-use Rattle.gx_tree_laws.proofs.AlikeSteps.{step_too}
-use Rattle.gx_tree_laws.proofs.AlikeTrees.{agree_back, legal_too}
+use Rattle.gx_node.specs.Alike.{AgreeOnUsed}
+use Rattle.gx_node.specs.Legal.{Legal}
+use Rattle.gx_node.specs.Lists.{Each}
+use Rattle.gx_node.specs.Steps.{IsStep, Step}
+use Rattle.gx_node.specs.Trees.{Tree, Used}
+use Rattle.gx_node.proofs.AlikeSteps.{step_too}
+use Rattle.gx_node.proofs.AlikeTrees.{agree_back, legal_too}
 use Rattle.gx_node.specs.Reading.{Format}
 use Rattle.gx_recovery.specs.Analysis.{analysis}
 use Rattle.gx_recovery.specs.Damage.{image_fits, is_page}
@@ -35,7 +35,7 @@ use Rattle.gx_index_laws.proofs.Standing.{is_legal, is_log, known_lawful}
 use Rattle.gx_durable.specs.Spelled.{Reading, images_read, record_read}
 use Rattle.gx_durable.specs.Stored.{images_of}
 use Rattle.gx_durable.proofs.Reading.{one_more}
-use Rattle.gx_readings.specs.Classes.{reading_of}
+use Rattle.gx_durable.specs.Classes.{reading_of}
 use Rattle.gx_store.specs.Standing.{standing_node}
 use Rattle.gx_store.proofs.Listed.{nodes_long}
 use Rattle.gx_storage.specs.Giving.{contents_at, pages_given}

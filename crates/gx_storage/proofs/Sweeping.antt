@@ -6,10 +6,10 @@ use Rattle.gx_machine.specs.declared.entry.Entry.{Entry}
 use Rattle.gx_recovery.proofs.Logs.{and_all}
 use Rattle.gx_disk.specs.Device.{Device}
 use Rattle.gx_page.specs.Contents.{Contents}
-use Rattle.gx_tree_laws.specs.Lists.{how_many, staying}
-use Rattle.gx_tree_laws.specs.Trees.{Node}
-use Rattle.gx_tree_laws.specs.Writes.{is_sweepable}
-use Rattle.gx_tree_laws.proofs.Sums.{length_parted}
+use Rattle.gx_node.specs.Lists.{how_many, staying}
+use Rattle.gx_node.specs.Trees.{Node}
+use Rattle.gx_node.specs.Writes.{is_sweepable}
+use Rattle.gx_node.proofs.Sums.{length_parted}
 use Rattle.gx_node.specs.Reading.{Format}
 use Rattle.gx_node.specs.Store.{Store, node_at, tree_of}
 use Rattle.gx_tree.specs.Sweeping.{FitsLeaf, Planned, PlansSweep, TakesOut, slots_from, slots_of, takes_none}
@@ -17,7 +17,7 @@ use Rattle.gx_tree.specs.Writing.{Swept}
 use Rattle.gx_tree.proofs.Swept.{is_swept, is_unswept, sweep_size}
 use Rattle.gx_node.specs.Owner.{IsWhy}
 use Rattle.gx_node.specs.declared.fault.StepFault.{StepFault}
-use Rattle.gx_node.specs.declared.fault.StepFault.TheVariants.{Damaged, Memory, Pages, PagesFull}
+use Rattle.gx_node.specs.declared.fault.StepFault.TheVariants.{Damaged, Pages}
 use Rattle.gx_node.specs.Edits.{entry_of}
 use Rattle.gx_store.specs.Faults as faults
 use Rattle.gx_store.specs.declared.fault.StoreFault.{StoreFault}
@@ -27,8 +27,10 @@ use Rattle.gx_store.specs.Standing.{standing_node, store_of}
 use Rattle.gx_store.specs.State.{Shelf, IsHeld, IsSteady}
 use Rattle.gx_store.proofs.Listed.{nodes_long}
 use Rattle.gx_storage.specs.Bringing.{has_removable}
-use Rattle.gx_storage.specs.Changes.{begun}
+use Rattle.gx_glog.specs.State.{Log}
+use Rattle.gx_storage.specs.Changes.{begun, begun_at, has_room}
 use Rattle.gx_storage.specs.State.{Volume}
+use Rattle.gx_storage.proofs.OnlyReads.{since_begun}
 use Rattle.gx_storage.proofs.Writing.{Stepped, same_node, stepped_since}
 
 -- ---- a leaf that is swept isn't as it was
@@ -112,9 +114,7 @@ held_anew read batch page room held = record { from = held.from; to = held.to; k
 -- why pages were refused, told otherwise
 pub whys : {A : Type 0} (old new : StoreFault → Type 0) → ((why : StoreFault) → old why → new why) → (result : Result A (StepFault StoreFault)) → IfErr result (IsWhy old) → IfErr result (IsWhy new)
 whys old new goes (Ok done) is = tt
-whys old new goes (Err Memory) is = tt
 whys old new goes (Err Damaged) is = tt
-whys old new goes (Err PagesFull) is = tt
 whys old new goes (Err (Pages why)) is = goes why is
 
 -- of an event that only read, which begins anew
@@ -125,6 +125,25 @@ why_anew passes d e s read batch room fault.NoRoom is = absurd (let no : true �
 why_anew passes d e s read batch room (fault.TooFewFrames wanted) is = record { more = is.more; few = is.few; two = is.two }
 why_anew passes d e s read batch room fault.Device is = is
 why_anew passes d e s read batch room fault.Damaged is = is
+
+-- so where the event had begun, and begins anew
+module _ {D : Type 0} (passes : ℕ → Contents → Bool) (state : D → Device) (log : Log) (size : ℕ) (s start read u : Shelf D)
+    (started : start ≡ record s { batch = log.used; has_room = true }) (begins : u ≡ begun_at log size read) where
+  pub since_anew : (q : ℕ) → ((was : Shelf D) → IsSince passes (state was.disk) (state start.disk) was start q → IsSince passes (state was.disk) (state read.disk) was read q)
+      → IsSince passes (state s.disk) (state u.disk) (begun_at log size s) u q
+  since_anew q keeps =
+      subst {A = Shelf D} (λ x. IsSince passes (state s.disk) (state x.disk) (begun_at log size s) x q) (sym begins)
+      (begun_anew passes state s read log.used true (has_room log size) q
+      (since_begun passes state (record { log = log; shelf = s; most = 0; imaged = [] }) read start log.used q true started keeps))
+
+  pub whys_anew : {A : Type 0} (result : Result A (StepFault StoreFault)) → IfErr result (IsWhy (λ x. faults.IsWhy passes (state start.disk) (state read.disk) start read x))
+      → IfErr result (IsWhy (λ x. faults.IsWhy passes (state s.disk) (state u.disk) (begun_at log size s) u x))
+  whys_anew result is =
+      whys (λ x. faults.IsWhy passes (state start.disk) (state read.disk) start read x) (λ x. faults.IsWhy passes (state s.disk) (state u.disk) (begun_at log size s) u x)
+      (λ why said. subst {A = Shelf D} (λ y. faults.IsWhy passes (state s.disk) (state y.disk) (begun_at log size s) y why) (sym begins)
+      (why_anew passes (state s.disk) (state read.disk) s read log.used (has_room log size) why
+      (subst {A = Shelf D} (λ x. faults.IsWhy passes (state x.disk) (state read.disk) x read why) started said)))
+      result is
 
 -- a plan that takes something is of a leaf that has something to take
 pub takes_some : {B : Type 0} (plan : Planned) (test : Entry B → Bool) (node : Node B) → PlansSweep test node plan → takes_none plan ≡ false → has_removable test node ≡ true

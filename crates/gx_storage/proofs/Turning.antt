@@ -1,5 +1,5 @@
 -- What a turn and its head keep of pages with their log.
-use Rattle.std.proofs.Common.{◌≡◌, ◌∙◌, sym, ap, refl, subst, inl, ℕ, Bool, true, List, [], ◌++◌, Option, None, Some, Result, Ok, Err, arith}
+use Rattle.std.proofs.Common.{◌≡◌, ◌∙◌, sym, ap, refl, subst, inl, ℕ, Bool, true, List, [], ◌++◌, length, Option, None, Some, Result, Ok, Err, arith}
 use Rattle.std.proofs.Math.Path.{fun_ext}
 use Rattle.std.proofs.lemmas.List.{append-nil}
 use Rattle.gx_geom.specs.declared.refusal.Refusal.{Refusal}
@@ -41,7 +41,9 @@ use Rattle.gx_store.specs.State.{Shelf}
 use Rattle.gx_storage.specs.State.{Volume}
 use Rattle.gx_storage.specs.Keeps.{Keeps}
 use Rattle.gx_storage.specs.Flushing.{KeepsOn, MayTurn, ReadyToTurn, TurnsOn}
+use Rattle.gx_storage.specs.Imaged.{AllImaged, imaged_after}
 use Rattle.gx_storage.proofs.Calling.{keeps_on, rests_none}
+use Rattle.gx_storage.proofs.Imaging.{nothing_imaged, same_imaged}
 
 -- frames that are told of a turn have the same pages
 turned_pages : (call : Turn) (frames : State) (p : ℕ) → kept (told_turn call frames) p ≡ kept frames p
@@ -78,6 +80,20 @@ module _ {E P : Type 0} (k : Known E P) (l : IsLawful k) (next : ℕ) (s : Logge
   turned_tree (Ok turn.Selector) = refl
   turned_tree (Err refusal) = refl
 
+-- the extent that a turn selects has no image
+turned_imaged : {E P : Type 0} (k : Known E P) (next : ℕ) (s : Logged E P) (result : Result Turn Refusal) (old new : List Bool) → new ≡ imaged_after result old → AllImaged old s
+    → AllImaged new (turned k next result s)
+turned_imaged k next s (Ok turn.Done) old new bits given =
+    let A : List Bool → Type 0 = λ i. AllImaged i (turned k next (Ok turn.Done) s) in
+    subst A (sym bits) (nothing_imaged (length old) (turned k next (Ok turn.Done) s))
+turned_imaged k next s (Ok turn.Closed) old new bits given = same_imaged old new s s bits refl given
+turned_imaged k next s (Ok turn.Body) old new bits given = same_imaged old new s s bits refl given
+turned_imaged k next s (Ok turn.BodySync) old new bits given = same_imaged old new s s bits refl given
+turned_imaged k next s (Ok turn.Gate) old new bits given = same_imaged old new s s bits refl given
+turned_imaged k next s (Ok turn.GateSync) old new bits given = same_imaged old new s s bits refl given
+turned_imaged k next s (Ok turn.Selector) old new bits given = same_imaged old new s s bits refl given
+turned_imaged k next s (Err refusal) old new bits given = same_imaged old new s s bits refl given
+
 none_dirty : (frames : State) (p place : ℕ) {X : Type 0} → NoneDirty frames → stamp_of (kept frames p) ≡ Some place → X
 none_dirty frames p place clean is = absurd (let never : ◌≡◌ {A = Option ℕ} None (Some place) = sym (clean p) ∙ is in cc)
 
@@ -98,9 +114,9 @@ nothing_leaves P d = record { later = omega arith; only = λ t image before left
 
 module _ {B : Type 0} (k : Known (Entry B) (Page B)) (r : Reading (Entry B) (Page B)) (f : Format B) (passes : ℕ → Contents → Bool) {D : Type 0} (d e : Device) (v w : Volume D) where
   -- a step of a turn
-  pub turn_keeps : (result : Result Turn Refusal) → w.shelf ≡ record v.shelf { disk = w.shelf.disk; frames = told_result result v.shelf.frames } → e.honest ≡ d.honest
+  pub turn_keeps : (result : Result Turn Refusal) → w.shelf ≡ record v.shelf { disk = w.shelf.disk; frames = told_result result v.shelf.frames } → w.imaged ≡ imaged_after result v.imaged → e.honest ≡ d.honest
       → (d.honest ≡ true → On v.log d.seen d.pending → LeavesPages d e) → NoneDirty v.shelf.frames → TurnKeepsRunning k r v.log w.log v.shelf.frames w.shelf.frames d e result → TurnsOn k r f passes d e v w result
-  turn_keeps result only honest leaves clean turns bodies s l old may =
+  turn_keeps result only bits honest leaves clean turns bodies s l old may =
       let now = turns bodies s l old.steady.honest old.runs may in
       let t : Logged (Entry B) (Page B) = turned k may.next result s in
       let tree = turned_tree k l may.next s may.no_flight may.no_filling may.written old.runs.up.carries.healthy.gated result in
@@ -109,6 +125,7 @@ module _ {B : Type 0} (k : Known (Entry B) (Page B)) (r : Reading (Entry B) (Pag
       record {
         keeps = keeps_on k r f passes d e v w (told_result result v.shelf.frames) only (turned_same result v.shelf.frames) honest (leaves old.steady.honest old.runs.up.on) bodies _ s t old
             now.runs (λ p place is. none_dirty w.shelf.frames p place none is) (λ p place is. none_dirty w.shelf.frames p place none is)
+            (turned_imaged k may.next s result v.imaged w.imaged bits old.imaged)
             (ap (λ (x : Tree (Page B)). x.used) tree)
             (ap (λ (x : Tree (Page B)). x.counter) tree)
             (λ p. ap (λ (x : Tree (Page B)). x.page p) tree);
@@ -117,9 +134,9 @@ module _ {B : Type 0} (k : Known (Entry B) (Page B)) (r : Reading (Entry B) (Pag
       }
 
   -- a record of the head: the shelf is as it was
-  pub head_keeps : (x : Rec) (result : Appended) → w.shelf ≡ v.shelf → PutsFirst (spelling x) v.log w.log result → HeadStaysUp k r v.log w.log → KeepsOn k r f passes d d v w
-  head_keeps x result shelf puts up bodies s l old =
-      let S : Shelf D → Type 0 = λ y. Keeps k r f passes d (record { log = w.log; shelf = y; most = w.most }) bodies s in
+  pub head_keeps : (x : Rec) (result : Appended) → w.shelf ≡ v.shelf → w.imaged ≡ v.imaged → PutsFirst (spelling x) v.log w.log result → HeadStaysUp k r v.log w.log → KeepsOn k r f passes d d v w
+  head_keeps x result shelf bits puts up bodies s l old =
+      let S : Shelf D → Type 0 = λ y. Keeps k r f passes d (record { log = w.log; shelf = y; most = w.most; imaged = w.imaged }) bodies s in
       record {
         keeps = subst S (sym shelf) (record {
           runs = record { up = up d.sectors d.seen d.pending bodies s old.runs.up; stamped = head_stamped x v.log w.log result v.shelf.frames s puts old.runs.stamped };
@@ -132,6 +149,7 @@ module _ {B : Type 0} (k : Known (Entry B) (Page B)) (r : Reading (Entry B) (Pag
           counter = old.counter;
           pages = old.pages;
           formed = old.formed;
+          imaged = same_imaged v.imaged w.imaged s s bits refl old.imaged;
         });
         safely = record { goes = goes_nowhere k s; leaves = nothing_leaves (Stands k r s) d };
       }

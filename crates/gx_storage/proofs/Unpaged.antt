@@ -15,8 +15,8 @@ use Rattle.gx_recovery.specs.Redo.{redo, redone, tree_of}
 use Rattle.gx_recovery.specs.Coming.{MayCome}
 use Rattle.gx_recovery.specs.Logged.{Logged, all_records, appended}
 use Rattle.gx_recovery.proofs.Folds.{analysis-snoc, redone-snoc}
-use Rattle.gx_tree_laws.specs.Alike.{AgreeOnUsed}
-use Rattle.gx_tree_laws.specs.Trees as trees
+use Rattle.gx_node.specs.Alike.{AgreeOnUsed}
+use Rattle.gx_node.specs.Trees as trees
 use Rattle.gx_index_laws.specs.Classes.{Page, tree_in}
 use Rattle.gx_durable.specs.Fitting.{PagesFit}
 use Rattle.gx_durable.specs.Spelled.{Reading, record_read}
@@ -30,6 +30,8 @@ use Rattle.gx_store.specs.State.{Shelf}
 use Rattle.gx_storage.specs.State.{Volume}
 use Rattle.gx_storage.specs.Keeps.{Keeps, tree_after, tree_shown}
 use Rattle.gx_storage.specs.Flushing.{GivesNoPage, KeepsRecord}
+use Rattle.gx_storage.specs.Imaged.{imaged_with}
+use Rattle.gx_storage.proofs.Imaging.{imaged_more}
 use Rattle.gx_storage.proofs.Turning.{nothing_leaves}
 
 -- what a record that gives no page leaves of the pages and their numbers
@@ -62,6 +64,18 @@ has_key key (rec.Add tx row k leaf) is = absurd is
 has_key key (rec.Widen page slot k) is = absurd is
 has_key key (rec.Sweep page slots) is = absurd is
 
+no_image : (x : Rec) (imaged : List Bool) → GivesNoPage x → imaged_with x imaged ≡ imaged
+no_image (rec.Commit tx n) imaged is = refl
+no_image (rec.End tx) imaged is = refl
+no_image (rec.Pages counter used pages) imaged is = absurd is
+no_image (rec.Write tx row k before after leaf image) imaged is = absurd is
+no_image (rec.Counters n counter used next) imaged is = absurd is
+no_image (rec.Note tx row k before leaf) imaged is = absurd is
+no_image (rec.Bit tx row k before after leaf) imaged is = absurd is
+no_image (rec.Add tx row k leaf) imaged is = absurd is
+no_image (rec.Widen page slot k) imaged is = absurd is
+no_image (rec.Sweep page slots) imaged is = absurd is
+
 -- the tree is as it was
 same_after : {E P : Type 0} (k : Known E P) (y : Record E P) (s : Logged E P) → Leaves k y → tree_of k s.area (all_records (appended y s)) ≡ tree_of k s.area (all_records s)
 same_after {E} {P} k y s leaves =
@@ -74,13 +88,13 @@ same_after {E} {P} k y s leaves =
     ∙ ap (λ n. whole (redone s.area all) (analysis k all).counter n) (ap (λ (a : Analysis E). a.used) last ∙ leaves.used (analysis k all))
 
 module _ {B : Type 0} (k : Known (Entry B) (Page B)) (r : Reading (Entry B) (Page B)) (f : Format B) (passes : ℕ → Contents → Bool) {D : Type 0} (d : Device) (v w : Volume D) where
-  keeps_with : (x : Rec) (place : ℕ) → GivesNoPage x → w.shelf ≡ v.shelf → AppendStaysUp k r x v.log w.log (At place) → AppendStaysStamped r x v.log w.log (At place)
+  keeps_with : (x : Rec) (place : ℕ) → GivesNoPage x → w.shelf ≡ v.shelf → w.imaged ≡ v.imaged → AppendStaysUp k r x v.log w.log (At place) → AppendStaysStamped r x v.log w.log (At place)
       → AppendPlaces v.log w.log (At place) → (bodies : List (List (Record (Entry B) (Page B)))) (s : Logged (Entry B) (Page B)) → IsLawful k → MayCome k s.area (all_records s) (record_read r x)
       → Keeps k r f passes d v bodies s → Keeps k r f passes d w bodies (appended (record_read r x) s)
-  keeps_with x place is shelf up stamped placed bodies s l may old =
+  keeps_with x place is shelf bits up stamped placed bodies s l may old =
       let y : Record (Entry B) (Page B) = record_read r x in
       let leaves = leaves_pages k r x is in
-      let S : Shelf D → Type 0 = λ z. Keeps k r f passes d (record { log = w.log; shelf = z; most = w.most }) bodies (appended y s) in
+      let S : Shelf D → Type 0 = λ z. Keeps k r f passes d (record { log = w.log; shelf = z; most = w.most; imaged = w.imaged }) bodies (appended y s) in
       let tree = same_after k y s leaves in
       subst S (sym shelf) (record {
         runs = record {
@@ -96,20 +110,21 @@ module _ {B : Type 0} (k : Known (Entry B) (Page B)) (r : Reading (Entry B) (Pag
         counter = ap (λ (t : Tree (Page B)). t.counter) tree ∙ old.counter;
         pages = old.pages;
         formed = old.formed;
+        imaged = imaged_more r x v.imaged w.imaged s (bits ∙ sym (no_image x v.imaged is)) old.imaged;
       })
 
-  pub record_keeps : (x : Rec) (place : ℕ) → GivesNoPage x → w.shelf ≡ v.shelf → AppendStaysUp k r x v.log w.log (At place) → AppendStaysStamped r x v.log w.log (At place)
+  pub record_keeps : (x : Rec) (place : ℕ) → GivesNoPage x → w.shelf ≡ v.shelf → w.imaged ≡ v.imaged → AppendStaysUp k r x v.log w.log (At place) → AppendStaysStamped r x v.log w.log (At place)
       → AppendPlaces v.log w.log (At place) → KeepsRecord k r f passes d v w x
-  record_keeps x place is shelf up stamped placed =
+  record_keeps x place is shelf bits up stamped placed =
       let y : Record (Entry B) (Page B) = record_read r x in
       record {
-        keeps = keeps_with x place is shelf up stamped placed;
+        keeps = keeps_with x place is shelf bits up stamped placed;
         with_tree = λ shows bodies s l old.
             (let A : trees.Tree B → Type 0 = λ t. AgreeOnUsed t (tree_shown k r f passes d v) in
-            let S : Shelf D → Type 0 = λ z. AgreeOnUsed (tree_after k r f passes (appended y s)) (tree_shown k r f passes d (record { log = w.log; shelf = z; most = w.most })) in
+            let S : Shelf D → Type 0 = λ z. AgreeOnUsed (tree_after k r f passes (appended y s)) (tree_shown k r f passes d (record { log = w.log; shelf = z; most = w.most; imaged = w.imaged })) in
             record {
               shows = subst S (sym shelf) (subst A (sym (ap tree_in (same_after k y s (leaves_pages k r x is)))) (shows bodies s old));
-              keeps = λ may. keeps_with x place is shelf up stamped placed bodies s l may old;
+              keeps = λ may. keeps_with x place is shelf bits up stamped placed bodies s l may old;
               leaves = nothing_leaves (Stands k r s) d;
             });
       }

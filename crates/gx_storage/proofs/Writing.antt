@@ -10,9 +10,9 @@ use Rattle.gx_page.specs.Format.{image_of, IsWellFormed}
 use Rattle.gx_page.specs.Reading.{IsImage, read_of}
 use Rattle.gx_pool.specs.Laws.{IsPassed}
 use Rattle.gx_pool.specs.State.{kept}
-use Rattle.gx_record.specs.Rec.{Rec, Write}
+use Rattle.gx_record.specs.Rec.{Rec, Write, Add}
 use Rattle.gx_record.specs.Format.{HasKey, IsInRange, spelling}
-use Rattle.gx_tree_laws.specs.Trees.{Node, Tree}
+use Rattle.gx_node.specs.Trees.{Node, Tree}
 use Rattle.gx_node.specs.Reading.{Format}
 use Rattle.gx_node.specs.Store.{Store, node_of, tree_of}
 use Rattle.gx_tree.specs.Writing.{live, Appends as AppendsPair}
@@ -28,7 +28,7 @@ use Rattle.gx_glog.specs.declared.extent.TheConstants.{BODY_ROOM, PLACES}
 use Rattle.gx_durable.specs.Calls.{AppendStaysUp, AppendStaysStamped}
 use Rattle.gx_durable.specs.Spelled.{Reading, record_read}
 use Rattle.gx_durable.proofs.Appending.{append_placed}
-use Rattle.gx_readings.specs.Classes.{reading_of}
+use Rattle.gx_durable.specs.Classes.{reading_of}
 use Rattle.gx_store.specs.Since.{GoesOn, IsAsItWas, IsSince, IsStamped}
 use Rattle.gx_store.specs.Standing.{standing, standing_node, store_of}
 use Rattle.gx_store.specs.State.{Shelf, IsHeld, IsSteady}
@@ -36,6 +36,7 @@ use Rattle.gx_store.proofs.Changing.{there}
 use Rattle.gx_store.proofs.Listed.{node_there, nodes_long}
 use Rattle.gx_store.proofs.Shown.{lent, stands_kept}
 use Rattle.gx_storage.specs.Changes.{IsLast, IsLogged, IsUnlogged, begun, has_room}
+use Rattle.gx_storage.specs.Imaged.{with_imaged}
 use Rattle.gx_storage.specs.Keeps.{KeepsWith, StaysWith}
 use Rattle.gx_storage.specs.Numbers.{HasOwnNumber}
 use Rattle.gx_storage.specs.State.{Volume}
@@ -93,6 +94,10 @@ pub write_in_range : (tx row : ℕ) (key : List ℕ) (before after : Bool) (leaf
     → c.number ≡ leaf → IsInRange (Write tx row key before after leaf image)
 write_in_range tx row key before after leaf image c tx_fits row_fits leaf_fits is reads number =
     (tx_fits, row_fits, record { fits = leaf_fits; image = record { image = is; number = ap (λ (p : Contents). p.number) reads ∙ number } })
+
+-- so is the small record of a pair that was added
+pub add_in_range : (tx row : ℕ) (key : List ℕ) (leaf : ℕ) → tx < 2 ^ 64 → row < 2 ^ 64 → leaf < 2 ^ 32 → 1 ≤ leaf → IsInRange (Add tx row key leaf)
+add_in_range tx row key leaf tx_fits row_fits leaf_fits low = (tx_fits, row_fits, (low, leaf_fits))
 
 -- ---- the room
 
@@ -156,7 +161,7 @@ tree_used f one other s t same = sym (nodes_long (standing_node f t.frames one) 
 module _ {B D : Type 0} (known : Limits → Known (Entry B) (Page B)) (said : List ℕ → B) (f : Format B) (passes : ℕ → Contents → Bool) (state : D → Device) (v : Volume D) (size : ℕ) (t : Shelf D) where
   pub unlogged : ((q : ℕ) → IsSince passes (state v.shelf.disk) (state t.disk) (begun v size) t q)
       → (IsSteady (state v.shelf.disk) v.shelf.frames → store_of f (state t.disk).seen t ≡ store_of f (state v.shelf.disk).seen v.shelf)
-      → IsUnlogged known (reading_of said f) f passes (begun v size) (state v.shelf.disk) (state t.disk) v (record { log = v.log; shelf = t; most = v.most })
+      → IsUnlogged known (reading_of said f) f passes (begun v size) (state v.shelf.disk) (state t.disk) v (record { log = v.log; shelf = t; most = v.most; imaged = v.imaged })
   unlogged since stays = record {
     log = refl;
     keeps = λ l bodies s lawful keeps.
@@ -165,26 +170,27 @@ module _ {B D : Type 0} (known : Limits → Known (Entry B) (Page B)) (said : Li
         (tree_used f (state t.disk).seen (state v.shelf.disk).seen v.shelf t (ap (λ (x : Store B). length x.nodes) one)) (ap (λ (x : Store B). x.counter) one));
     since = since;
     most = refl;
+    imaged = refl;
   }
 
-  module _ (tx row : ℕ) (key : List ℕ) (before after : Bool) (page : ℕ) (log : Log) (did : Stepped passes state v size t page) (held : IsHeld t page) (right : AreNodes f passes t)
+  module _ (tx row : ℕ) (key : List ℕ) (before after : Bool) (page : ℕ) (log : Log) (imaged : List Bool) (bits : imaged ≡ with_imaged page v.imaged) (did : Stepped passes state v size t page) (held : IsHeld t page) (right : AreNodes f passes t)
       (numbers : IsSteady (state v.shelf.disk) v.shelf.frames → (t.used ≡ v.shelf.used) × (t.counter ≡ v.shelf.counter)) where
     keeps_write : (c : Contents) → c ≡ standing t.frames (state t.disk).seen page → IsLast known (reading_of said f) (Write tx row key before after page (image_of c)) v.log log → IsWellFormed c → (l : Limits)
-        → KeepsWith (known l) (reading_of said f) f passes (state v.shelf.disk) (state t.disk) v (record { log = log; shelf = t; most = v.most }) (Write tx row key before after page (image_of c))
+        → KeepsWith (known l) (reading_of said f) f passes (state v.shelf.disk) (state t.disk) v (record { log = log; shelf = t; most = v.most; imaged = imaged }) (Write tx row key before after page (image_of c))
     keeps_write c is last well l bodies s lawful keeps =
         let one = there (kept t.frames page) held.kept in
         let same : one.0.page ≡ c = sym (is ∙ stands_kept t.frames (state t.disk).seen page one.0 held.stays one.1) in
         let now = numbers keeps.steady in
         let P : Contents → Type 0 = λ x. IsLast known (reading_of said f) (Write tx row key before after page (image_of x)) v.log log in
         let last_now = subst P (sym same) last in
-        subst {A = Contents} (λ x. StaysWith (known l) (reading_of said f) f passes (state v.shelf.disk) (state t.disk) (record { log = log; shelf = t; most = v.most }) bodies s
+        subst {A = Contents} (λ x. StaysWith (known l) (reading_of said f) f passes (state v.shelf.disk) (state t.disk) (record { log = log; shelf = t; most = v.most; imaged = imaged }) bodies s
         (record_read (reading_of said f) (Write tx row key before after page (image_of x)))) same
         (write_stays_with (known l) said f passes (state v.shelf.disk) (state t.disk) v v.log.used (has_room v.log size) t bodies s lawful keeps did.goes_on (omega arith) right
-        tx row key before after page one.0 log v.most one.1 (subst {A = Contents} IsWellFormed (sym same) well) held.from held.to (last_now.up l) last_now.stamped last_now.placed last_now.key did.others now.0 now.1)
+        tx row key before after page one.0 log v.most imaged bits one.1 (subst {A = Contents} IsWellFormed (sym same) well) held.from held.to (last_now.up l) last_now.stamped last_now.placed last_now.key did.others now.0 now.1)
 
     pub logged_write : IsLast known (reading_of said f) (Write tx row key before after page (image_of (standing t.frames (state t.disk).seen page))) v.log log
         → IsWellFormed (standing t.frames (state t.disk).seen page)
-        → IsLogged known (reading_of said f) f passes size (state v.shelf.disk) (state t.disk) v (record { log = log; shelf = t; most = v.most })
+        → IsLogged known (reading_of said f) f passes size (state v.shelf.disk) (state t.disk) v (record { log = log; shelf = t; most = v.most; imaged = imaged })
         (Write tx row key before after page (image_of (standing t.frames (state t.disk).seen page)))
     logged_write last well = record {
       logs = last.logs;
@@ -192,6 +198,7 @@ module _ {B D : Type 0} (known : Limits → Known (Entry B) (Page B)) (said : Li
       goes_on = did.goes_on;
       others = λ q other. did.others q other;
       most = refl;
+      imaged = bits;
     }
 
 -- ---- the stamp of an added pair

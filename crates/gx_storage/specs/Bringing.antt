@@ -2,9 +2,9 @@
 use Rattle.std.specs.Prelude.{◌==◌, nat_lt, Bool, true, ◌&&◌}
 use Rattle.gx_machine.specs.declared.entry.Entry.{Entry}
 use Rattle.gx_node.specs.Edits.{entry_of}
-use Rattle.gx_tree_laws.specs.Lists.{how_many}
-use Rattle.gx_tree_laws.specs.Trees.{Node}
-use Rattle.gx_tree_laws.specs.Writes.{is_sweepable}
+use Rattle.gx_node.specs.Lists.{how_many}
+use Rattle.gx_node.specs.Trees.{Node}
+use Rattle.gx_node.specs.Writes.{is_sweepable}
 use Rattle.gx_store.specs.State.{Shelf}
 use Rattle.gx_storage.specs.State.{Volume}
 

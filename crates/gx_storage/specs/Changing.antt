@@ -1,7 +1,7 @@
 -- What a change finds to do, as the pages stand.
 use Rattle.std.specs.Prelude.{ℕ, Bool, Option, None, Some}
-use Rattle.gx_tree_laws.specs.Reach.{TraversalItem}
-use Rattle.gx_tree_laws.specs.Trees.{Node, Pair}
+use Rattle.gx_node.specs.Reach.{TraversalItem}
+use Rattle.gx_node.specs.Trees.{Node, Pair}
 use Rattle.gx_tree.specs.Descending.{WayAt}
 use Rattle.gx_tree.specs.Seeking.{Seeks}
 use Rattle.gx_node.specs.Store.{Store}
@@ -19,6 +19,15 @@ unwidened FullLeaf seen = Some did.FullLeaf
 unwidened FullInner seen = Some did.FullInner
 unwidened (Down slot child) seen = Some (did.Down (record { page = child; seen = seen }))
 unwidened (Widen slot child key) seen = None
+
+-- the one where a step of a descent widened a bound, by its slot and its key, and the other where it didn't
+abbrev pub IfWidened : {B : Type 0} → (ℕ → B → Type 0) → Type 0 → Descended B → Type 0
+IfWidened Wide Narrow (did.Widened next slot key) = Wide slot key
+IfWidened Wide Narrow (did.Down next) = Narrow
+IfWidened Wide Narrow did.Again = Narrow
+IfWidened Wide Narrow did.Leaf = Narrow
+IfWidened Wide Narrow did.FullLeaf = Narrow
+IfWidened Wide Narrow did.FullInner = Narrow
 
 -- a step of a descent at this item has to widen a bound
 abbrev pub HasToWiden : {B : Type 0} → (B → B → ℕ × ℕ) → (B → B → B) → ℕ → Store B → TraversalItem → B → Type 0

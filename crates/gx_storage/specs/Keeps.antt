@@ -6,8 +6,8 @@ use Rattle.gx_disk.specs.Moments.{Leaves}
 use Rattle.gx_page.specs.Contents.{Contents}
 use Rattle.gx_record.specs.Rec.{Rec}
 use Rattle.gx_record.specs.Format.{spelling}
-use Rattle.gx_tree_laws.specs.Trees.{Tree}
-use Rattle.gx_tree_laws.specs.Alike.{AgreeOnUsed}
+use Rattle.gx_node.specs.Trees.{Tree}
+use Rattle.gx_node.specs.Alike.{AgreeOnUsed}
 use Rattle.gx_node.specs.Reading.{Format}
 use Rattle.gx_node.specs.Keyed.{AreKeys}
 use Rattle.gx_node.specs.Store as store
@@ -30,13 +30,14 @@ use Rattle.gx_store.specs.State.{IsInOrder, IsSteady}
 use Rattle.gx_store.specs.Faults.{CanBeRead}
 use Rattle.gx_store.specs.Standing.{store_of}
 use Rattle.gx_storage.specs.Formed.{AreFormed}
+use Rattle.gx_storage.specs.Imaged.{AllImaged}
 use Rattle.gx_storage.specs.State.{Volume}
 
 -- the entries and pages of a class, as its log's theory has them
 module _ {B : Type 0} (k : Known (Entry B) (Page B)) (r : Reading (Entry B) (Page B)) (f : Format B) (passes : ℕ → Contents → Bool) where
   -- A volume keeps a state: log and frames run on the device that carries it; each dirty page is given by a record, and was changed
   -- for a batch that began or for the one that fills; what is read is what stands there, and can be read; each page is as all records
-  -- leave it; and so are the numbers; and each kept page has an image.
+  -- leave it; and so are the numbers; each kept page has an image; and the log gives each page whose bit is set.
   pub record Keeps {D : Type 0} (d : Device) (v : Volume D) (bodies : List (List (Record (Entry B) (Page B)))) (s : Logged (Entry B) (Page B)) : Type 0 where
     pub runs : Runs k r v.log v.shelf.frames d bodies s
     pub said : AllSaid v.shelf.frames s
@@ -48,6 +49,7 @@ module _ {B : Type 0} (k : Known (Entry B) (Page B)) (r : Reading (Entry B) (Pag
     pub counter : (analysis k (all_records s)).counter ≡ v.shelf.counter
     pub pages : k.pages ≡ v.shelf.pages
     pub formed : AreFormed v.shelf.frames
+    pub imaged : AllImaged v.imaged s
 
   -- the tree after all of a state's records
   abbrev pub tree_after : Logged (Entry B) (Page B) → Tree B

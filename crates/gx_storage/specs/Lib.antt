@@ -4,9 +4,13 @@ pub mod Changing
 pub mod Flushing
 pub mod Formed
 pub mod Giving
+pub mod Imaged
 pub mod Keeps
+pub mod Marks
 pub mod Numbers
+pub mod Small
 pub mod Setting
 pub mod State
-pub mod Adds
 pub mod Sweeps
+pub mod Sweeping
+pub mod Whole

@@ -14,24 +14,29 @@ use Rattle.gx_node.specs.Reading.{Format, format_of, is_node}
 use Rattle.gx_node.specs.Owner as owner
 use Rattle.gx_node.specs.Store.{Store, Stays, tree_of}
 use Rattle.gx_node.specs.declared.fault.StepFault.{StepFault}
+use Rattle.gx_node.specs.declared.fault.LookFault.{LookFault}
+use Rattle.gx_node.specs.declared.fault.SplitFault.{SplitFault}
 use Rattle.gx_record.specs.Rec.{Rec}
 use Rattle.gx_recovery.specs.Known.{Known, Limits}
 use Rattle.gx_index_laws.specs.Classes.{Page}
 use Rattle.gx_durable.specs.Spelled.{Reading}
-use Rattle.gx_readings.specs.Classes.{known_at, reading_of}
+use Rattle.gx_durable.specs.Classes.{known_at, reading_of}
 use Rattle.gx_store.specs.Faults as faults
 use Rattle.gx_store.specs.Since.{IsSince}
 use Rattle.gx_store.specs.Standing.{store_of}
 use Rattle.gx_store.specs.State.{Shelf, IsSteady}
 use Rattle.gx_store.specs.declared.fault.StoreFault.{StoreFault}
+use Rattle.gx_tree.specs.declared.descent.Descended.{Descended}
 use Rattle.gx_tree.specs.declared.seek.Sought.{Sought}
-use Rattle.gx_tree_laws.specs.Trees.{Tree}
-use Rattle.gx_storage.specs.Changes.{IsLast, IsLogged, IsLoggedIf, IsUnlogged, MarkIsLogged, ReadsKeep, page_given}
+use Rattle.gx_node.specs.Trees.{Tree}
+use Rattle.gx_storage.specs.Changes.{DescentIsLogged, IsLast, IsLogged, IsLoggedIf, IsUnlogged, MarkIsLogged, ReadsKeep, page_given}
 use Rattle.gx_storage.specs.Flushing.{KeepsOn, KeepsRecord, MayTurn, StepsLog, TurnsOn, WritesGated}
 use Rattle.gx_storage.specs.Giving.{pages_given}
 use Rattle.gx_storage.specs.Keeps.{ShowsKeys, ShowsTheLogs}
+use Rattle.gx_storage.specs.Marks.{HasEntry, MarksEntry}
 use Rattle.gx_storage.specs.Numbers.{HasOwnNumber}
 use Rattle.gx_storage.specs.State.{Volume}
+use Rattle.gx_storage.specs.Sweeping.{SweepIsLogged, SweepIsRefused}
 
 module _ {D : Type 0} (state : D → Device) where
   -- what is read of the device is what stands there, and each clean page is what the device has
@@ -64,16 +69,32 @@ module _ {C B D : Type 0} (class : Ghosts C B) (state : D → Device) where
   abbrev pub StaysAs : Shelf D → Shelf D → Type 0
   StaysAs old new = Stays (IsSteadyAs state old) (store_at old) (store_at new)
 
-  -- why pages were refused since an event began, and why a step was
+  -- why pages were refused since an event began, and why a step was, or a look, or a split
   abbrev pub FaultsAs : Shelf D → Shelf D → StoreFault → Type 0
   FaultsAs old new fault = faults.IsWhy (is_node (format_of class)) (state old.disk) (state new.disk) old new fault
 
   abbrev pub IsWhyAs : Shelf D → Shelf D → StepFault StoreFault → Type 0
   IsWhyAs old new fault = owner.IsWhy (FaultsAs old new) fault
 
+  abbrev pub IsWhyOfLookAs : Shelf D → Shelf D → LookFault StoreFault → Type 0
+  IsWhyOfLookAs old new fault = owner.IsWhyOfLook (FaultsAs old new) fault
+
+  abbrev pub IsWhyOfSplitAs : Shelf D → Shelf D → SplitFault StoreFault → Type 0
+  IsWhyOfSplitAs old new fault = owner.IsWhyOfSplit (FaultsAs old new) fault
+
   -- the pages have gone on since an event began, and this one is as it was
   abbrev pub IsSinceAs : Shelf D → Shelf D → ℕ → Type 0
   IsSinceAs old new page = IsSince (is_node (format_of class)) (state old.disk) (state new.disk) old new page
+
+module _ {C B D : Type 0} (shape : Members B) (class : Ghosts C B) (state : D → Device) where
+  -- a page is a leaf that has an entry's pair; and the mark of that was set, or it isn't in the leaf
+  abbrev pub HasEntryAs : Volume D → Entry B → ℕ → Type 0
+  HasEntryAs v entry page = HasEntry class.is_key shape entry ((tree_at class state v.shelf).node page)
+
+  abbrev pub MarksEntryAs : Volume D → Volume D → Entry B → ℕ → Bool → Sought → Type 0
+  MarksEntryAs v w entry page marked sought =
+      MarksEntry class.is_key shape (IsSteadyAs state v.shelf) (store_at class state v.shelf)
+      (store_at class state w.shelf) entry page marked sought
 
 -- a record is the log's last
 abbrev pub IsLastAs : {C B : Type 0} → Members B → (B → Bool) → (List ℕ → B) → Ghosts C B → Rec → Log → Log → Type 0
@@ -98,7 +119,8 @@ module _ {C B D : Type 0} (shape : Members B) (proper : B → Bool) (said : List
   abbrev at : Volume D → Device
   at v = state v.shelf.disk
 
-  -- a change is logged by a record of so many bytes; or where something changed; or with the mark that was found
+  -- a change is logged by a record of so many bytes; or where something changed; or with the mark that was found; or
+  -- where a bound was widened
   abbrev pub LogsAs : ℕ → Volume D → Volume D → Rec → Type 0
   LogsAs size v w x = IsLogged known reading form passes size (at v) (at w) v w x
 
@@ -110,9 +132,20 @@ module _ {C B D : Type 0} (shape : Members B) (proper : B → Bool) (said : List
       MarkIsLogged known reading form passes class.spelling class.KEY transaction entry page marked (at v) (at w) v w
       sought
 
+  abbrev pub LogsDescentAs : ℕ → Volume D → Volume D → Descended B → Type 0
+  LogsDescentAs page v w did =
+      DescentIsLogged known reading form passes class.spelling class.KEY page (at v) (at w) v w did
+
   -- nothing is logged, of an event that began so
   abbrev pub UnloggedAs : Shelf D → Volume D → Volume D → Type 0
   UnloggedAs begun v w = IsUnlogged known reading form passes begun (at v) (at w) v w
+
+  -- a leaf was swept, and its slots are logged; or that was refused
+  abbrev pub LogsSweepAs : ((Entry B → Bool) → Type 0) → Volume D → Volume D → ℕ → Bool → Type 0
+  LogsSweepAs IsTest v w page any = SweepIsLogged known reading form passes IsTest (at v) (at w) v w page any
+
+  abbrev pub RefusesSweepAs : ((Entry B → Bool) → Type 0) → Volume D → Volume D → ℕ → StepFault StoreFault → Type 0
+  RefusesSweepAs IsTest v w page fault = SweepIsRefused known reading form passes IsTest (at v) (at w) v w page fault
 
   -- What the flusher's calls keep, within whatever limits an index has: a step of the log, a page's write, a call
   -- that leaves the state, a record that gives no page, and a turn, which may begin.

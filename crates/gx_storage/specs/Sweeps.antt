@@ -1,16 +1,15 @@
--- What an engine learns of a leaf that was swept.
-use Rattle.std.specs.Prelude.{ℕ, Bool, true, false, List}
+-- What an engine learns of a record that no session notices.
+use Rattle.std.specs.Prelude.{ℕ, Bool, List}
 use Rattle.gx_machine.specs.declared.entry.Entry.{Entry}
 use Rattle.gx_disk.specs.Device.{Device}
 use Rattle.gx_page.specs.Contents.{Contents}
 use Rattle.gx_node.specs.Reading.{Format}
-use Rattle.gx_engine_laws.specs.Events.{Works}
+use Rattle.gx_events.specs.Events.{Works}
 use Rattle.gx_recovery.specs.Records.{Record}
 use Rattle.gx_index_laws.specs.Classes.{Class, Page, known_of}
 use Rattle.gx_index_laws.specs.Happening.{Comes, with_record}
 use Rattle.gx_index_laws.specs.States.{State}
-use Rattle.gx_durable.specs.Spelled.{Reading, record_read}
-use Rattle.gx_storage.specs.Changes.{page_given}
+use Rattle.gx_durable.specs.Spelled.{Reading}
 use Rattle.gx_storage.specs.Keeps.{Keeps}
 use Rattle.gx_storage.specs.State.{Volume}
 
@@ -19,8 +18,3 @@ module _ {B : Type 0} (c : Class B) (r : Reading (Entry B) (Page B)) (f : Format
   pub record WorksWith {D : Type 0} (e : Device) (w : Volume D) (bodies : List (List (Record (Entry B) (Page B)))) (old : State B) (x : Record (Entry B) (Page B)) : Type 0 where
     pub comes : Comes c old x Works (with_record x old)
     pub keeps : Keeps (known_of c) r f passes e w bodies (with_record x old).log
-
-  -- so where a leaf was swept, with the record of its page; where nothing was to be swept the volume keeps the index as it was
-  abbrev pub SweepsLeaf : {D : Type 0} → Device → Volume D → List (List (Record (Entry B) (Page B))) → State B → ℕ → Bool → Type 0
-  SweepsLeaf e w bodies old page true = WorksWith e w bodies old (record_read r (page_given page e.seen w.shelf))
-  SweepsLeaf e w bodies old page false = Keeps (known_of c) r f passes e w bodies old.log

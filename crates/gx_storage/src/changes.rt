@@ -2,12 +2,16 @@
 //! record, or nothing has changed.
 
 mod add;
+mod added;
 mod descend;
 mod given;
 mod given_pages;
+pub(crate) mod marked;
 pub(crate) mod room;
-pub(crate) mod set_mark;
+mod set_mark;
 mod split;
 mod split_root;
 mod sweep;
+mod swept;
+mod widened;
 mod written;

@@ -12,17 +12,18 @@ ghost use Rattle.gx_record.specs.Rec.{Note};
 ghost use Rattle.gx_record.specs.Seen.{rec_of};
 ghost use Rattle.gx_recovery.specs.Records as records;
 ghost use Rattle.gx_durable.specs.Turns.{HeadGrows, told_result};
-ghost use Rattle.gx_readings.specs.Classes.{reading_of};
+ghost use Rattle.gx_durable.specs.Classes.{reading_of};
 ghost use Rattle.gx_storage.specs.Flushing.{HeadHas, PutInHead, ReadyToTurn};
+ghost use Rattle.gx_storage.specs.Imaged.{imaged_after};
 ghost use Rattle.gx_storage.specs.Setting.{KeepsOnAs, MayTurnAs, TurnsOnAs};
 
 use crate::Storage;
-use crate::changes::set_mark::mark_of;
+use crate::changes::marked::mark_of;
 use gx_disk::SectorDisk;
 use gx_durable::turn::put_first;
+use gx_durable::{OfClass, ReadKeys};
 use gx_geom::Refusal;
 use gx_glog::{Appended, Stage, Turn};
-use gx_readings::{OfClass, ReadKeys};
 use gx_record::Record;
 use gx_store::StoreFault;
 
@@ -123,8 +124,8 @@ impl<D: SectorDisk, K: ReadKeys> Storage<D, K> {
 
     /// Makes the next device call of the turn to the other extent, exactly one, in this order: its gates closed, its
     /// first body, sync, its gate, sync, the selector, sync. Answers which call it was; with `Done` the log goes on
-    /// in the other extent behind the head, and the frames are told. Pages are left as they stand. Refused with
-    /// `Device` exactly where the device failed; the call is then still due.
+    /// in the other extent behind the head, of no page an image was appended there, and the frames are told. Pages are
+    /// left as they stand. Refused with `Device` exactly where the device failed; the call is then still due.
     ///
     /// Of an honest device whose pages are settled, where the head is the log renewed: the same state is kept until
     /// the last call, and after it the one with the renewed log alone. Whether it succeeds or not, no set changes,
@@ -141,11 +142,14 @@ impl<D: SectorDisk, K: ReadKeys> Storage<D, K> {
             disk = self.new.shelf.disk;
             frames = told_result result self.old.shelf.frames;
           };
+          imaged = imaged_after result self.old.imaged;
         } }
         ensures refusal { IfErr result (λ refusal. refusal ≡ Refusal.Device) }
         ensures begins { MayTurnAs K.Key.Shape K.is_proper K.said K.KeyClass D.state self.old }
         ensures keeps { TurnsOnAs K.Key.Shape K.is_proper K.said K.KeyClass D.state self.old self.new result }
     {
-        self.store.turn_step::<OfClass<K>>(&mut self.log)
+        let told = self.store.turn_step::<OfClass<K>>(&mut self.log);
+        self.imaged.forget_after(&told);
+        told
     }
 }

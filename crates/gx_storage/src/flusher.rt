@@ -17,9 +17,9 @@ ghost use Rattle.gx_storage.specs.Setting.{KeepsRecordAs, StepsLogAs, WritesGate
 use crate::Storage;
 use gx_disk::SectorDisk;
 use gx_durable::calls::append;
+use gx_durable::{OfClass, ReadKeys};
 use gx_geom::Refusal;
 use gx_glog::{Appended, Stage};
-use gx_readings::{OfClass, ReadKeys};
 use gx_record::Record;
 use gx_store::StoreFault;
 

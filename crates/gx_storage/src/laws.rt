@@ -5,9 +5,9 @@ ghost use Rattle.gx_storage.specs.State.{Volume};
 ghost use Rattle.gx_storage.specs.Setting.{ReadsKeepAs, ShowsKeysAs, ShowsTheLogsAs};
 
 use gx_disk::SectorDisk;
+use gx_durable::ReadKeys;
+use gx_durable::class_laws::what_stands_is_legal;
 use gx_node::laws::{inners, leaves};
-use gx_readings::ReadKeys;
-use gx_readings::laws::what_stands_is_legal;
 
 /// The tree that frames and device show is the one after all of the log's records, on the pages in use: so what the
 /// tree's laws say of the one they say of the other.

@@ -5,6 +5,7 @@
 mod changes;
 mod checkpoint;
 mod flusher;
+mod imaged;
 pub mod laws;
 mod pages;
 mod reads;

@@ -1,21 +1,21 @@
 //! The tree's steps that read, over pages with their log.
 ghost use Rattle.std.specs.Prelude.{◌≡◌, ◌≢◌, ◌<◌, ◌++◌, ◌∷◌, [], length, List, Err, IfOk, IfErr, OnOk, OnErr};
 ghost use Rattle.gx_store.specs.State.{IsHeld};
-ghost use Rattle.gx_tree_laws.specs.Reach as reach;
-ghost use Rattle.gx_tree_laws.specs.Trees.{Used};
+ghost use Rattle.gx_node.specs.Reach as reach;
+ghost use Rattle.gx_node.specs.Trees.{Used};
 ghost use Rattle.gx_tree.specs.Looking.{LookStep};
 ghost use Rattle.gx_tree.specs.Seeking.{Seeks};
 ghost use Rattle.gx_tree.specs.Wants.{wants};
 ghost use Rattle.gx_storage.specs.Bringing.{bringing};
-ghost use Rattle.gx_storage.specs.Setting.{IsWhyAs, StaysAs, UnloggedAs, tree_at};
+ghost use Rattle.gx_storage.specs.Setting.{IsWhyAs, IsWhyOfLookAs, StaysAs, UnloggedAs, tree_at};
 
 use crate::Storage;
 use crate::changes::room::begin_reading;
 use gx_class::Probing;
 use gx_disk::SectorDisk;
-use gx_readings::ReadKeys;
+use gx_durable::ReadKeys;
 use gx_store::StoreFault;
-use gx_tree::{Look, Sought, StepFault, Wanted};
+use gx_tree::{Look, LookFault, Sought, StepFault, Wanted};
 
 impl<D: SectorDisk, K: ReadKeys + Probing> Storage<D, K> {
     /// Reads the page of a look's next item, as the tree's `look_step` says. Nothing is logged and no room in the log
@@ -27,7 +27,7 @@ impl<D: SectorDisk, K: ReadKeys + Probing> Storage<D, K> {
         &mut self,
         wanted: &Wanted<K>,
         look: &mut Look<K::Key>,
-    ) -> Result<(), StepFault<StoreFault>>
+    ) -> Result<(), LookFault<StoreFault>>
         requires { 0 < length look.old.stack.items }
         ensures unlogged { UnloggedAs K.Key.Shape K.is_proper K.said K.KeyClass D.state (bringing self.old) self.old
             self.new }
@@ -35,13 +35,12 @@ impl<D: SectorDisk, K: ReadKeys + Probing> Storage<D, K> {
         ensures step { OnOk result (LookStep (tree_at K.KeyClass D.state self.new.shelf)
             (wants K.passes wanted.now.keys wanted.now.row) (K.passes wanted.now.bounds) look.old.stack.items
             look.new.stack.items look.old.found.items look.new.found.items) }
-        ensures why { IfErr result (IsWhyAs K.KeyClass D.state (bringing self.old) self.new.shelf) }
-        ensures room { result ≢ Err (StepFault.Pages StoreFault.NoRoom) }
-        ensures damaged { result ≡ Err StepFault.Damaged
+        ensures why { IfErr result (IsWhyOfLookAs K.KeyClass D.state (bringing self.old) self.new.shelf) }
+        ensures room { result ≢ Err (LookFault.Step (StepFault.Pages StoreFault.NoRoom)) }
+        ensures damaged { result ≡ Err (LookFault.Step StepFault.Damaged)
             → (rest : List reach.TraversalItem) (item : reach.TraversalItem)
             → look.old.stack.items ≡ rest ++ item ∷ [] → ¬ Used (tree_at K.KeyClass D.state self.new.shelf) item.page }
-        ensures refused { OnErr result (result ≢ Err StepFault.Memory → look.new ≡ look.old) }
-        ensures full { result ≢ Err StepFault.PagesFull }
+        ensures refused { OnErr result (result ≢ Err LookFault.Memory → look.new ≡ look.old) }
     {
         begin_reading(&self.log, &mut self.store);
         gx_tree::look_step(&mut self.store, wanted, look)
@@ -67,8 +66,6 @@ impl<D: SectorDisk, K: ReadKeys + Probing> Storage<D, K> {
         ensures room { result ≢ Err (StepFault.Pages StoreFault.NoRoom) }
         ensures damaged { result ≡ Err StepFault.Damaged → Used (tree_at K.KeyClass D.state self.new.shelf) page
             → ((tree_at K.KeyClass D.state self.new.shelf).node page).level ≢ 0 }
-        ensures memory { result ≢ Err StepFault.Memory }
-        ensures full { result ≢ Err StepFault.PagesFull }
     {
         begin_reading(&self.log, &mut self.store);
         gx_tree::seek_step(&mut self.store, wanted, page)

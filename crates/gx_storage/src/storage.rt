@@ -1,11 +1,12 @@
 //! The pages with their log.
-ghost use Rattle.std.specs.Prelude.{◌≡◌, ◌≤◌, length};
+ghost use Rattle.std.specs.Prelude.{◌≡◌, ◌≤◌, false, length, replicate};
 ghost use Rattle.gx_node.specs.declared.items.TheConstants.{MAX_ENTRIES};
 
+use crate::imaged::Imaged;
 use gx_disk::SectorDisk;
+use gx_durable::ReadKeys;
 use gx_glog::Glog;
 use gx_node::MAX_ENTRIES;
-use gx_readings::ReadKeys;
 use gx_store::PageStore;
 use gx_tree::Pages;
 use std::marker::Model;
@@ -18,6 +19,8 @@ pub struct Storage<D: SectorDisk, K: ReadKeys> {
     pub(crate) most: usize,
     // a key's bytes, as a record lends them
     pub(crate) key: Vec<u8>,
+    // whether the log's extent has an image of a page, by its number less one
+    pub(crate) imaged: Imaged,
 }
 
 impl<D: SectorDisk, K: ReadKeys> Model for Storage<D, K> {
@@ -27,7 +30,7 @@ impl<D: SectorDisk, K: ReadKeys> Model for Storage<D, K> {
 
     ghost Value = { Volume D };
 
-    ghost view = { λ m. record { log = m.log; shelf = m.store; most = m.most } };
+    ghost view = { λ m. record { log = m.log; shelf = m.store; most = m.most; imaged = m.imaged } };
 
     ghost invariant = { λ m. (length m.key.items ≡ K.KEY) × (m.most ≤ MAX_ENTRIES) };
 }
@@ -36,18 +39,26 @@ impl<D: SectorDisk, K: ReadKeys> Storage<D, K> {
     ghost use Rattle.gx_node.specs.Reading.{format_of, is_node};
     ghost use Rattle.gx_store.specs.State.{IsInOrder};
 
-    /// A log, the pages of a tree whose nodes have at most `most` entries, and a buffer of a key's size, from which
-    /// records lend keys.
-    pub fn new(log: Glog, store: PageStore<D, K>, most: usize, key: Vec<u8>) -> Storage<D, K>
+    /// A log, the pages of a tree whose nodes have at most `most` entries, a buffer of a key's size, from which records
+    /// lend keys, and a bit for each of the device's pages, none set: no image was appended since the log was opened.
+    pub fn new(
+        log: Glog,
+        store: PageStore<D, K>,
+        most: usize,
+        key: Vec<u8>,
+        imaged: Vec<bool>,
+    ) -> Storage<D, K>
         requires most { most ≤ MAX_ENTRIES }
         requires key { length key.items ≡ K.KEY }
-        ensures { result ≡ record { log = log; shelf = store; most = most } }
+        requires imaged { imaged.items ≡ replicate store.pages false }
+        ensures { result ≡ record { log = log; shelf = store; most = most; imaged = replicate store.pages false } }
     {
         Storage {
             log,
             store,
             most,
             key,
+            imaged: Imaged::of(imaged),
         }
     }
 
@@ -91,6 +102,7 @@ impl<D: SectorDisk, K: ReadKeys> Storage<D, K> {
             store,
             most: _,
             key: _,
+            imaged: _,
         } = self;
         store.into_disk()
     }

@@ -5,7 +5,7 @@ use Rattle.gx_disk.specs.Device as disk
 use Rattle.gx_page.specs.Contents.{Contents}
 use Rattle.gx_page.specs.Reading.{read_of}
 use Rattle.gx_node.specs.Reading.{Format}
-use Rattle.gx_tree_laws.specs.Lists.{Each}
+use Rattle.gx_node.specs.Lists.{Each}
 use Rattle.gx_node.specs.Store.{Stays, node_of}
 use Rattle.gx_pool.specs.declared.fault.PoolFault.{PoolFault}
 use Rattle.gx_pool.specs.declared.fault.PoolFault.TheVariants as pool

@@ -1,7 +1,5 @@
 -- What calls of a log, and a page's write, leave of the pages in frames.
-use Rattle.std.proofs.Common.{◌≡◌, ◌∙◌, ◌⊎◌, sym, ap, refl, inl, inr, subst, ℕ, ◌+◌, ◌-◌, ◌*◌, ◌<◌, ◌≤◌, Bool, true, false, Option, None, Some, Result, Ok, Err, arith}
-use Rattle.std.specs.Prelude.{nat_lt}
-use Rattle.std.proofs.lemmas.Bool.{le-ltb, lt-ltb}
+use Rattle.std.proofs.Common.{◌≡◌, ◌∙◌, ◌⊎◌, sym, ap, refl, inl, inr, subst, ℕ, ◌+◌, ◌-◌, ◌*◌, ◌<◌, ◌≤◌, Bool, false, Option, None, Some, Result, Ok, Err}
 use Rattle.gx_disk.specs.declared.layout.TheConstants.{PAGES_AT, PAGE_SECTORS}
 use Rattle.gx_disk.specs.Device.{Device}
 use Rattle.gx_geom.specs.declared.refusal.Refusal.{Refusal}
@@ -12,9 +10,9 @@ use Rattle.gx_glog.specs.declared.stage.Turn.TheVariants as turn
 use Rattle.gx_glog.specs.State.{Log}
 use Rattle.gx_page.specs.Contents.{Contents}
 use Rattle.gx_pool.specs.Marks.{is_gated}
-use Rattle.gx_pool.specs.State.{State, Kept, IsSound, dirty_count, kept, kept_at, place_of, stamp_of}
+use Rattle.gx_pool.specs.State.{State, Kept, IsSound, kept, kept_at, place_of, stamp_of}
 use Rattle.gx_pool.specs.Laws.{IsPassed}
-use Rattle.gx_pool.specs.Writing.{WritesPage, WritesAtMost, contents_of}
+use Rattle.gx_pool.specs.Writing.{WritesAtMost, contents_of}
 use Rattle.gx_durable.specs.Steps.{told, told_frames}
 use Rattle.gx_durable.specs.Turns.{told_turn, told_result}
 use Rattle.gx_durable.proofs.Stamping.{told_kept}

@@ -5,8 +5,8 @@ use Rattle.std.proofs.Math.Seq.{get_or-append_seam}
 use Rattle.std.proofs.lemmas.Bool.Decides.{nat_tests}
 use Rattle.std.proofs.lemmas.List.{get_or_append_left, get_or-set_other, get_or-set_same, length-set, same_lists}
 use Rattle.std.proofs.lemmas.List.Folds.{list_any_at}
-use Rattle.gx_tree_laws.specs.Lists.{Each}
-use Rattle.gx_tree_laws.specs.Trees.{Node, Used}
+use Rattle.gx_node.specs.Lists.{Each}
+use Rattle.gx_node.specs.Trees.{Node, Used}
 use Rattle.gx_node.specs.Reading.{Format}
 use Rattle.gx_node.specs.Store.{node_at, blank, tree_of}
 use Rattle.gx_pool.specs.Marks.{is_held}

@@ -4,7 +4,7 @@ use Rattle.gx_disk.specs.Device.{Device}
 use Rattle.gx_page.specs.Contents.{Contents}
 use Rattle.gx_page.specs.Reading.{read_of}
 use Rattle.gx_node.specs.Reading.{Format}
-use Rattle.gx_tree_laws.specs.Trees.{Node}
+use Rattle.gx_node.specs.Trees.{Node}
 use Rattle.gx_node.specs.Store.{Store, node_of}
 use Rattle.gx_pool.specs.Area.{bytes_of}
 use Rattle.gx_pool.specs.Laws.{shown}

@@ -1,11 +1,10 @@
 //! Short logs told record by record: where the first refusal comes, and what is kept.
-use crate::asserts::same;
+use crate::asserts::{got, same};
 use Step::{Commit, Counters, End, Note, Pages, Write};
-use gx_analysis::{Analysis, LogRule, Touch};
 use gx_geom::Box2;
 use gx_machine::Entry;
+use gx_recovery::{Analysis, LogRule, Touch};
 use std::process::Abort;
-use std::test::Fail;
 
 /// A record, with what the rows vary of it.
 #[derive(Clone, Copy)]
@@ -61,149 +60,192 @@ fn tells(
     same(rt, &tell_step(rt, analysis, step), &wanted);
 }
 
+/// An analysis that was told nothing.
+fn untold<R: Abort + AllocGlobal>(rt: &R) -> Analysis<Entry<Box2>> {
+    got(rt, Analysis::new(rt.alloc(), PAGES))
+}
+
 /// How many records pass before the first that is damage, and the rule that this one breaks.
-fn passed<R: Abort + AllocGlobal>(
-    rt: &R,
+fn passed(
+    rt: &impl Abort,
+    analysis: &mut Analysis<Entry<Box2>>,
     steps: &[Step],
-) -> Result<(usize, Option<LogRule>), Fail> {
-    let mut analysis = Analysis::new(rt.alloc(), PAGES)?;
-    for (i, step) in steps.iter().enumerate() {
-        if let Err(rule) = tell_step(rt, &mut analysis, *step) {
-            return Ok((i, Some(rule)));
+) -> (usize, Option<LogRule>) {
+    let mut count = 0_usize;
+    for step in steps {
+        if let Err(rule) = tell_step(rt, analysis, *step) {
+            return (count, Some(rule));
         }
+        count = count.wrapping_add(1);
     }
-    Ok((steps.len(), None))
+    (count, None)
 }
 
-#[test]
-fn each_rule_refuses_its_record(rt: HostRuntime) -> Result<(), Fail> {
-    let found = [
-        passed(
-            &rt,
-            &[
-                Counters(4),
-                Note(1, 1, 2),
-                Write(1, 1, 3),
-                Commit(1, 8),
-                End(2),
-            ],
-        )?,
-        passed(&rt, &[Counters(10)])?,
-        passed(&rt, &[Counters(4), Note(1, 1, 5)])?,
-        passed(&rt, &[Counters(4), Note(u64::MAX, 1, 2)])?,
-        passed(&rt, &[Counters(4), Note(1, 1, 2), Note(2, 1, 2)])?,
-        passed(&rt, &[Counters(4), Write(1, 1, 0)])?,
-        passed(&rt, &[Counters(4), Write(1, 1, 2), Write(2, 1, 2)])?,
-        passed(
-            &rt,
-            &[
-                Counters(4),
-                Write(1, 1, 2),
-                End(1),
-                Write(2, 1, 2),
-                Write(1, 2, 2),
-            ],
-        )?,
-        passed(&rt, &[Counters(4), Commit(1, 8), Commit(1, 9)])?,
-        passed(&rt, &[Counters(4), End(1), End(1)])?,
-        passed(&rt, &[Counters(4), Commit(1, 9)])?,
-        passed(&rt, &[Counters(4), Commit(1, 8), Commit(2, 8)])?,
-        passed(&rt, &[Counters(4), Pages(2, 4, 1)])?,
-        passed(&rt, &[Counters(4), Pages(4, 3, 1)])?,
-        passed(&rt, &[Counters(4), Pages(4, 6, 6), Pages(4, 6, 7)])?,
-        passed(&rt, &[Counters(4), Pages(4, 9, 9), Pages(4, 10, 9)])?,
-        passed(
-            &rt,
-            &[Counters(4), Write(1, 1, 5), Pages(4, 6, 6), Write(1, 1, 5)],
-        )?,
-    ];
-    let wanted = [
-        (5, None),
-        (0, Some(LogRule::PagesOfDevice)),
-        (1, Some(LogRule::LeafInUse)),
-        (1, Some(LogRule::TransactionNumber)),
-        (2, Some(LogRule::SharedEntry)),
-        (1, Some(LogRule::LeafInUse)),
-        (2, Some(LogRule::SharedEntry)),
-        (4, Some(LogRule::Ended)),
-        (2, Some(LogRule::Ended)),
-        (2, Some(LogRule::Ended)),
-        (1, Some(LogRule::CommitNumber)),
-        (2, Some(LogRule::CommitNumber)),
-        (1, Some(LogRule::CounterFalls)),
-        (1, Some(LogRule::UsedFalls)),
-        (2, Some(LogRule::PageInUse)),
-        (2, Some(LogRule::PagesOfDevice)),
-        (1, Some(LogRule::LeafInUse)),
-    ];
-    same(&rt, &found, &wanted);
-    Ok(())
-}
+/// Records, how many of them pass, and the rule that the next one breaks.
+type Log = (&'static [Step], usize, Option<LogRule>);
+
+static LOGS: [Log; 17] = [
+    (
+        &[
+            Counters(4),
+            Note(1, 1, 2),
+            Write(1, 1, 3),
+            Commit(1, 8),
+            End(2),
+        ],
+        5,
+        None,
+    ),
+    (&[Counters(10)], 0, Some(LogRule::PagesOfDevice)),
+    (&[Counters(4), Note(1, 1, 5)], 1, Some(LogRule::LeafInUse)),
+    (
+        &[Counters(4), Note(u64::MAX, 1, 2)],
+        1,
+        Some(LogRule::TransactionNumber),
+    ),
+    (
+        &[Counters(4), Note(1, 1, 2), Note(2, 1, 2)],
+        2,
+        Some(LogRule::SharedEntry),
+    ),
+    (&[Counters(4), Write(1, 1, 0)], 1, Some(LogRule::LeafInUse)),
+    (
+        &[Counters(4), Write(1, 1, 2), Write(2, 1, 2)],
+        2,
+        Some(LogRule::SharedEntry),
+    ),
+    (
+        &[
+            Counters(4),
+            Write(1, 1, 2),
+            End(1),
+            Write(2, 1, 2),
+            Write(1, 2, 2),
+        ],
+        4,
+        Some(LogRule::Ended),
+    ),
+    (
+        &[Counters(4), Commit(1, 8), Commit(1, 9)],
+        2,
+        Some(LogRule::Ended),
+    ),
+    (&[Counters(4), End(1), End(1)], 2, Some(LogRule::Ended)),
+    (&[Counters(4), Commit(1, 9)], 1, Some(LogRule::CommitNumber)),
+    (
+        &[Counters(4), Commit(1, 8), Commit(2, 8)],
+        2,
+        Some(LogRule::CommitNumber),
+    ),
+    (
+        &[Counters(4), Pages(2, 4, 1)],
+        1,
+        Some(LogRule::CounterFalls),
+    ),
+    (&[Counters(4), Pages(4, 3, 1)], 1, Some(LogRule::UsedFalls)),
+    (
+        &[Counters(4), Pages(4, 6, 6), Pages(4, 6, 7)],
+        2,
+        Some(LogRule::PageInUse),
+    ),
+    (
+        &[Counters(4), Pages(4, 9, 9), Pages(4, 10, 9)],
+        2,
+        Some(LogRule::PagesOfDevice),
+    ),
+    (
+        &[Counters(4), Write(1, 1, 5), Pages(4, 6, 6), Write(1, 1, 5)],
+        1,
+        Some(LogRule::LeafInUse),
+    ),
+];
 
 #[test]
-fn the_first_mark_and_the_last_leaf_are_kept(rt: HostRuntime) -> Result<(), Fail> {
-    let mut analysis = Analysis::new(rt.alloc(), PAGES)?;
-    for step in [
-        Counters(4),
-        Note(6, 2, 2),
-        Write(6, 2, 3),
-        Write(8, 3, 4),
-        Write(6, 1, 2),
-        Commit(8, 8),
-        Pages(4, 5, 5),
-        Write(6, 1, 5),
-    ] {
-        tells(&rt, &mut analysis, step, Ok(()));
+fn each_rule_refuses_its_record(rt: HostRuntime) {
+    for (steps, count, rule) in &LOGS {
+        let found = passed(&rt, &mut untold(&rt), steps);
+        same(&rt, &found, &(*count, *rule));
     }
-    let numbers = (
+}
+
+static KEPT: [Step; 8] = [
+    Counters(4),
+    Note(6, 2, 2),
+    Write(6, 2, 3),
+    Write(8, 3, 4),
+    Write(6, 1, 2),
+    Commit(8, 8),
+    Pages(4, 5, 5),
+    Write(6, 1, 5),
+];
+
+/// The last commit's number, the counter, the pages in use, and the next transaction's number.
+fn numbers(analysis: &Analysis<Entry<Box2>>) -> (u64, u64, u32, u64) {
+    (
         analysis.number(),
         analysis.counter(),
         analysis.used(),
         analysis.next(),
-    );
-    same(&rt, &numbers, &(8, 4, 5, 9));
+    )
+}
+
+/// The first three touches: transaction, row, mark and leaf; zeros where there are fewer.
+fn touches(analysis: &Analysis<Entry<Box2>>) -> [(u64, u64, bool, u32); 3] {
     let mut kept = [(0, 0, false, 0); 3];
     for (place, t) in kept.iter_mut().zip(analysis.touched()) {
         *place = (t.transaction(), t.entry().row, t.before(), t.leaf());
     }
+    kept
+}
+
+#[test]
+fn the_first_mark_and_the_last_leaf_are_kept(rt: HostRuntime) {
+    let mut analysis = untold(&rt);
+    same(&rt, &passed(&rt, &mut analysis, &KEPT), &(8, None));
+    same(&rt, &numbers(&analysis), &(8, 4, 5, 9));
     let wanted = [(6, 1, true, 5), (6, 2, false, 3), (0, 0, false, 0)];
-    same(&rt, &kept, &wanted);
-    Ok(())
+    same(&rt, &touches(&analysis), &wanted);
 }
 
+/// Eight transactions are open, and no ninth one can be until one of them has ended.
+static NINE: [(Step, Result<(), LogRule>); 14] = [
+    (Counters(4), Ok(())),
+    (Write(1, 1, 2), Ok(())),
+    (Write(2, 2, 2), Ok(())),
+    (Write(3, 3, 2), Ok(())),
+    (Write(4, 4, 2), Ok(())),
+    (Write(5, 5, 2), Ok(())),
+    (Write(6, 6, 2), Ok(())),
+    (Write(7, 7, 2), Ok(())),
+    (Write(8, 8, 2), Ok(())),
+    (Write(9, 9, 2), Err(LogRule::TooManyTransactions)),
+    (Write(8, 9, 2), Ok(())),
+    (End(3), Ok(())),
+    (Write(9, 9, 2), Err(LogRule::SharedEntry)),
+    (Write(9, 10, 2), Ok(())),
+];
+
 #[test]
-fn eight_transactions_and_not_nine(rt: HostRuntime) -> Result<(), Fail> {
-    let mut eight = Analysis::new(rt.alloc(), PAGES)?;
-    tells(&rt, &mut eight, Counters(4), Ok(()));
-    for t in 1..9 {
-        tells(&rt, &mut eight, Write(t, t, 2), Ok(()));
+fn eight_transactions_and_not_nine(rt: HostRuntime) {
+    let mut analysis = untold(&rt);
+    for (step, wanted) in &NINE {
+        tells(&rt, &mut analysis, *step, *wanted);
     }
-    tells(
-        &rt,
-        &mut eight,
-        Write(9, 9, 2),
-        Err(LogRule::TooManyTransactions),
-    );
-    tells(&rt, &mut eight, Write(8, 9, 2), Ok(()));
-    tells(&rt, &mut eight, End(3), Ok(()));
-    tells(&rt, &mut eight, Write(9, 9, 2), Err(LogRule::SharedEntry));
-    tells(&rt, &mut eight, Write(9, 10, 2), Ok(()));
-    Ok(())
 }
 
-#[test]
-fn as_many_touches_as_places_and_not_one_more(rt: HostRuntime) -> Result<(), Fail> {
-    let mut most = Analysis::new(rt.alloc(), PAGES)?;
-    tells(&rt, &mut most, Counters(4), Ok(()));
+/// Tells of as many touches as there are places.
+fn touch_all(rt: &impl Abort, analysis: &mut Analysis<Entry<Box2>>) {
+    tells(rt, analysis, Counters(4), Ok(()));
     for row in 0..512 {
-        tells(&rt, &mut most, Note(1, row, 2), Ok(()));
+        tells(rt, analysis, Note(1, row, 2), Ok(()));
     }
-    tells(
-        &rt,
-        &mut most,
-        Note(1, 512, 2),
-        Err(LogRule::TooManyTouches),
-    );
+}
+
+#[test]
+fn as_many_touches_as_places_and_not_one_more(rt: HostRuntime) {
+    let mut most = untold(&rt);
+    touch_all(&rt, &mut most);
+    let too_many = Err(LogRule::TooManyTouches);
+    tells(&rt, &mut most, Note(1, 512, 2), too_many);
     tells(&rt, &mut most, Write(1, 511, 2), Ok(()));
-    Ok(())
 }

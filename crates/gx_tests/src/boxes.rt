@@ -1,8 +1,7 @@
 //! Boxes and refusals: printed texts, the greatest box, and each call once.
-use crate::asserts::same;
+use crate::asserts::{got, holds, same};
 use gx_geom::{Box2, Refusal, Shape};
 use std::process::Abort;
-use std::test::Fail;
 
 /// A box by its corners: x1, y1, x2, y2.
 pub type Rectangle = (i32, i32, i32, i32);
@@ -12,7 +11,7 @@ pub fn make_box(rt: &impl Abort, (x1, y1, x2, y2): Rectangle) -> Box2 {
     Box2::new(x1, y1, x2, y2).ok().expect(rt, "a box")
 }
 
-const REFUSALS: [(Refusal, u8, &str); 21] = [
+static REFUSALS: [(Refusal, u8, &str); 21] = [
     (Refusal::NoTransaction, 1, "no transaction"),
     (Refusal::InTransaction, 2, "in transaction"),
     (Refusal::Present, 3, "present"),
@@ -50,24 +49,24 @@ fn refusals_have_numbers_and_texts(rt: HostRuntime) {
 }
 
 #[test]
-fn the_greatest_box_has_an_area_and_a_text(rt: HostRuntime) -> Result<(), Fail> {
+fn the_greatest_box_has_an_area_and_a_text(rt: HostRuntime) {
     let all = make_box(&rt, (i32::MIN, i32::MIN, i32::MAX, i32::MAX));
     same(&rt, &all.area(), &18_446_744_065_119_617_025);
-    let text = all.to_string(rt.alloc())?;
-    assert!(rt; text.as_str() == "-2147483648 -2147483648 2147483647 2147483647");
-    Ok(())
+    let text = got(&rt, all.to_string(rt.alloc()));
+    let wanted = "-2147483648 -2147483648 2147483647 2147483647";
+    same(&rt, &text.as_str(), &wanted);
 }
 
 #[test]
 fn reversed_corners_are_no_box(rt: HostRuntime) {
-    same(&rt, &Box2::new(1, 0, 0, 0), &Err(Refusal::BadBox));
-    same(&rt, &Box2::new(0, 1, 0, 0), &Err(Refusal::BadBox));
+    let answers = [Box2::new(1, 0, 0, 0), Box2::new(0, 1, 0, 0)];
+    same(&rt, &answers, &[Err(Refusal::BadBox); 2]);
 }
 
 // Two boxes, whether they overlap, and whether the first is within the second.
 type Pair = (Rectangle, Rectangle, bool, bool);
 
-const PAIRS: [Pair; 5] = [
+static PAIRS: [Pair; 5] = [
     ((0, -1, 2, 3), (2, 3, 5, 7), true, false),
     ((0, -1, 2, 3), (3, 3, 3, 3), false, false),
     ((2, 0, 2, 0), (0, -1, 2, 3), true, true),
@@ -106,6 +105,6 @@ fn a_union_and_corners(rt: HostRuntime) {
         &[far.x1(), far.y1(), far.x2(), far.y2()],
         &[2, 3, 5, 7],
     );
-    assert!(rt; near < far);
+    holds(&rt, near < far);
     same(&rt, &Box2::point(2, 3), &make_box(&rt, (2, 3, 2, 3)));
 }

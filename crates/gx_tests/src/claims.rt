@@ -2,14 +2,13 @@
 ghost use Rattle.std.specs.Prelude.{◌≡◌, true};
 ghost use Rattle.gx_machine.specs.Machine.{is_session};
 
-use crate::asserts::same;
+use crate::asserts::{got, holds, same};
+use crate::plain::fresh;
 use gx_geom::{Box2, Refusal};
 use gx_machine::{Asked, Call, Entry, Query, Reply};
 use gx_plain::PlainIndex;
 use gx_txn::Transactions;
-use std::alloc::AllocError;
 use std::process::Abort;
-use std::test::Fail;
 
 // The tables, and the plain index whose sessions are asked the same.
 #[derive(Drop)]
@@ -18,15 +17,23 @@ struct Beside {
     plain: PlainIndex<Box2>,
 }
 
-fn begun<R: AllocGlobal>(rt: &R) -> Result<Beside, AllocError> {
-    let mut plain = PlainIndex::new(rt.alloc())?;
+// Eight sessions begin.
+fn begin_all(plain: &mut PlainIndex<Box2>) {
     for s in 1..9 {
         let _ = plain.ask(s, Call::Begin);
     }
-    Ok(Beside {
-        table: Transactions::new(rt.alloc())?,
-        plain,
-    })
+}
+
+// Tables with nothing in them.
+fn empty<R: Abort + AllocGlobal>(rt: &R) -> Transactions<Box2> {
+    got(rt, Transactions::new(rt.alloc()))
+}
+
+fn begun<R: Abort + AllocGlobal>(rt: &R) -> Beside {
+    let mut plain = fresh(rt);
+    begin_all(&mut plain);
+    let table = empty(rt);
+    Beside { table, plain }
 }
 
 // What the tables are to answer where the plain index gives this.
@@ -54,12 +61,15 @@ fn session(drawn: u32) -> u8
     1 + (drawn % 8) as u8
 }
 
+fn is_committed(reply: &Reply<Box2>) -> bool {
+    matches!(reply, Reply::Committed(_))
+}
+
 impl Beside {
     fn commit<R: Abort>(&mut self, rt: &R, s: u8)
         requires { is_session s ≡ true }
     {
-        let reply = self.plain.call(s, Call::Commit);
-        assert!(rt; matches!(reply, Reply::Committed(_)));
+        holds(rt, is_committed(&self.plain.call(s, Call::Commit)));
         self.table.end(s);
         let _ = self.plain.ask(s, Call::Begin);
     }
@@ -84,8 +94,8 @@ fn claim<R: Abort>(rt: &R, both: &mut Beside, s: u8, n: u64, answer: Result<(), 
 }
 
 #[test]
-fn claims_are_full_at_512(rt: HostRuntime) -> Result<(), Fail> {
-    let mut both = begun(&rt)?;
+fn claims_are_full_at_512(rt: HostRuntime) {
+    let mut both = begun(&rt);
     for place in 0..512 {
         claim(&rt, &mut both, session(place), u64::from(place), Ok(()));
     }
@@ -94,8 +104,7 @@ fn claims_are_full_at_512(rt: HostRuntime) -> Result<(), Fail> {
     claim(&rt, &mut both, 1, 15, Err(Refusal::Busy(8)));
     both.commit(&rt, 8);
     claim(&rt, &mut both, 1, 15, Ok(()));
-    assert!(rt; !both.table.is_claimed(&row(7)));
-    Ok(())
+    holds(&rt, !both.table.is_claimed(&row(7)));
 }
 
 // Claims an entry for session 3, and notes a write of it.
@@ -105,20 +114,24 @@ fn write<R: Abort>(rt: &R, table: &mut Transactions<Box2>, drawn: u64, leaf: u32
     same(rt, &given, &Ok(()));
     if given.is_ok() {
         table.note(3, e, leaf % 2 == 0, leaf);
-        assert!(rt; table.is_claimed(&e));
+        holds(rt, table.is_claimed(&e));
+    }
+}
+
+// Writes 512 entries for session 3.
+fn write_all<R: Abort>(rt: &R, table: &mut Transactions<Box2>) {
+    for place in 0..512 {
+        write(rt, table, u64::from(place * 5 % 512), place);
     }
 }
 
 #[test]
-fn one_session_may_have_all_claims_and_notes(rt: HostRuntime) -> Result<(), Fail> {
-    let mut table = Transactions::new(rt.alloc())?;
-    for place in 0..512 {
-        write(&rt, &mut table, u64::from(place * 5 % 512), place);
-    }
+fn one_session_may_have_all_claims_and_notes(rt: HostRuntime) {
+    let mut table = empty(&rt);
+    write_all(&rt, &mut table);
     same(&rt, &table.notes(3).len(), &512);
-    same(&rt, &table.claim(3, row(512)), &Err(Refusal::ClaimsFull));
-    same(&rt, &table.claim(4, row(512)), &Err(Refusal::ClaimsFull));
-    Ok(())
+    let answers = [table.claim(3, row(512)), table.claim(4, row(512))];
+    same(&rt, &answers, &[Err(Refusal::ClaimsFull); 2]);
 }
 
 fn at(x: i32) -> Query<Box2> {
@@ -137,8 +150,8 @@ fn search<R: Abort>(rt: &R, both: &mut Beside, s: u8, x: i32, answer: Result<(),
 }
 
 #[test]
-fn predicates_are_full_at_16(rt: HostRuntime) -> Result<(), Fail> {
-    let mut both = begun(&rt)?;
+fn predicates_are_full_at_16(rt: HostRuntime) {
+    let mut both = begun(&rt);
     for place in 0..16 {
         search(&rt, &mut both, 2, place, Ok(()));
     }
@@ -146,5 +159,4 @@ fn predicates_are_full_at_16(rt: HostRuntime) -> Result<(), Fail> {
     search(&rt, &mut both, 3, 16, Ok(()));
     search(&rt, &mut both, 2, 0, Ok(()));
     claim(&rt, &mut both, 4, 1, Err(Refusal::Busy(2)));
-    Ok(())
 }

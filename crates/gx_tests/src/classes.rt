@@ -1,14 +1,13 @@
 //! The class of boxes by its rows, and code that knows only the trait, at two classes.
 ghost use Rattle.std.specs.Prelude.{◌≡◌, length};
 
-use crate::asserts::same;
+use crate::asserts::{holds, same};
 use crate::boxes::{Rectangle, make_box};
 use crate::reaches::{Reach, ReachClass};
 use gx_class::{Box2Class, KeyClass};
 use gx_geom::Box2;
 use gx_machine::Query;
 use std::process::Abort;
-use std::test::Fail;
 
 /// Fails unless the class splits these keys into these groups, written as `1` and `2`.
 pub fn check_split<K: KeyClass>(rt: &impl Abort, keys: &[K::Key], least: usize, groups: &[u8]) {
@@ -62,9 +61,9 @@ pub fn check_bytes<K: KeyClass>(
     let mut out = [7; 16];
     K::encode(key, &mut out);
     same(rt, &out, written);
-    assert!(rt; K::decode(written) == Some(key));
+    holds(rt, K::decode(written) == Some(key));
     for bytes in others {
-        assert!(rt; K::decode(bytes).is_none());
+        holds(rt, K::decode(bytes).is_none());
     }
 }
 
@@ -76,10 +75,10 @@ pub fn check_calls<K: KeyClass>(
     (bound, key): (K::Key, K::Key),
     (penalty, union): ((u128, u128), K::Key),
 ) {
-    same(rt, &K::CLASS, &class);
-    same(rt, &K::KEY, &16);
+    same(rt, &(K::CLASS, K::KEY), &(class, 16));
     same(rt, &K::penalty(&bound, &key), &penalty);
-    assert!(rt; K::start() == start && K::union(bound, key) == union);
+    holds(rt, K::start() == start);
+    holds(rt, K::union(bound, key) == union);
 }
 
 fn check_boxes(rt: &impl Abort, boxes: &[Rectangle], least: usize, groups: &[u8]) {
@@ -271,15 +270,14 @@ pub fn union_through_bytes<K: KeyClass>(first: K::Key, second: K::Key, out: &mut
 fn classes_by_their_bound(rt: HostRuntime) {
     let a = make_box(&rt, (0, 0, 1, 1));
     let b = make_box(&rt, (5, -5, 6, 6));
-    assert!(rt; union_through_bytes::<Box2Class>(a, b, &mut [0; 16]));
-    assert!(rt; union_through_bytes::<ReachClass>(Reach(9), Reach(4), &mut [0; 1]));
+    holds(&rt, union_through_bytes::<Box2Class>(a, b, &mut [0; 16]));
+    let (nine, four) = (Reach(9), Reach(4));
+    holds(
+        &rt,
+        union_through_bytes::<ReachClass>(nine, four, &mut [0; 1]),
+    );
     same(&rt, &ReachClass::start(), &Reach(0));
     same(&rt, &ReachClass::penalty(&Reach(3), &Reach(9)), &(6, 3));
-    let mut sides = [true; 5];
-    ReachClass::pick_split(
-        &[Reach(1), Reach(2), Reach(3), Reach(4), Reach(5)],
-        2,
-        &mut sides,
-    );
-    same(&rt, &sides, &[false, false, false, true, true]);
+    let reaches = [Reach(1), Reach(2), Reach(3), Reach(4), Reach(5)];
+    check_split::<ReachClass>(&rt, &reaches, 2, b"11122");
 }

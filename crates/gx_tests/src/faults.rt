@@ -1,14 +1,13 @@
 //! Readers and writers that fail with each common kind of error, once or for ever: what a script makes of it, and that
 //! nobody is asked again after an error or after the end.
-use crate::asserts::same;
+use crate::asserts::{got, holds, same};
 use gx_geom::Box2;
 use gx_plain::{PlainIndex, run_plain};
 use gx_script::{Noted, ScriptFault, Transfer};
 use std::io::{self, ErrorKind, Read, Write};
 use std::process::Abort;
-use std::test::Fail;
 
-const KINDS: [ErrorKind; 14] = [
+static KINDS: [ErrorKind; 14] = [
     ErrorKind::NotFound,
     ErrorKind::PermissionDenied,
     ErrorKind::ConnectionReset,
@@ -135,18 +134,20 @@ const TEXT: &[u8] = b"1 ok\n1 inserted\n1 committed 1\n";
 
 // A reader or a writer is noted to have failed, with the last error that it gave, only where it was given one of these.
 fn is_noted<R: Abort, T>(rt: &R, noted: &Noted<T>, errors: &Errors, is_fault: bool) {
-    assert!(rt; is_fault == (noted.last == Some(Transfer::Failed)));
-    assert!(rt; noted.kind == errors.given);
-    assert!(rt; noted.calls == errors.calls);
+    let has_failed = noted.last == Some(Transfer::Failed);
+    holds(rt, is_fault == has_failed);
+    holds(rt, noted.kind == errors.given);
+    same(rt, &(noted.calls, errors.calls_after), &(errors.calls, 0));
 }
 
-// What a script comes to, with its text, where reader and writer fail so.
-fn run<R: Abort + AllocGlobal>(
+// Fails unless the script ends so, and gives this text, where reader and writer fail so.
+fn ends<R: Abort + AllocGlobal>(
     rt: &R,
-    reading: Errors,
-    writing: Errors,
-) -> Result<(Result<(), ScriptFault>, Vec<u8>), Fail> {
-    let mut index: PlainIndex<Box2> = PlainIndex::new(rt.alloc())?;
+    (reading, writing): (Errors, Errors),
+    wanted: Result<(), ScriptFault>,
+    text: &[u8],
+) {
+    let mut index: PlainIndex<Box2> = got(rt, PlainIndex::new(rt.alloc()));
     let mut reader = Noted::new(Bytes {
         rest: SCRIPT,
         errors: reading,
@@ -156,70 +157,52 @@ fn run<R: Abort + AllocGlobal>(
         errors: writing,
     });
     let result = run_plain(&mut reader, &mut writer, &mut index);
-    same(rt, &reader.inner.errors.calls_after, &0);
-    same(rt, &writer.inner.errors.calls_after, &0);
-    is_noted(
-        rt,
-        &reader,
-        &reader.inner.errors,
-        result == Err(ScriptFault::Read),
-    );
-    is_noted(
-        rt,
-        &writer,
-        &writer.inner.errors,
-        result == Err(ScriptFault::Write),
-    );
-    Ok((result, writer.inner.bytes))
+    holds(rt, result == wanted);
+    let is_read = wanted == Err(ScriptFault::Read);
+    is_noted(rt, &reader, &reader.inner.errors, is_read);
+    let is_write = wanted == Err(ScriptFault::Write);
+    is_noted(rt, &writer, &writer.inner.errors, is_write);
+    same(rt, &writer.inner.bytes.as_slice(), &text);
+}
+
+fn reading_fails<R: Abort + AllocGlobal>(rt: &R, failing: Failing) {
+    let errors = (Errors::new(failing, 20), Errors::new(Failing::Never, 0));
+    ends(rt, errors, Err(ScriptFault::Read), b"1 ok\n");
+}
+
+fn writing_fails<R: Abort + AllocGlobal>(rt: &R, failing: Failing) {
+    let errors = (Errors::new(Failing::Never, 0), Errors::new(failing, 3));
+    ends(rt, errors, Err(ScriptFault::Write), b"1 ok\n1 i");
 }
 
 #[test]
-fn a_reader_that_fails_is_not_asked_again(rt: HostRuntime) -> Result<(), Fail> {
-    for kind in KINDS {
-        for failing in [Failing::Once(kind), Failing::ForEver(kind)] {
-            let (result, text) = run(
-                &rt,
-                Errors::new(failing, 20),
-                Errors::new(Failing::Never, 0),
-            )?;
-            assert!(rt; result == Err(ScriptFault::Read));
-            assert!(rt; text.as_slice() == b"1 ok\n".as_slice());
-        }
+fn a_reader_that_fails_is_not_asked_again(rt: HostRuntime) {
+    for kind in &KINDS {
+        reading_fails(&rt, Failing::Once(*kind));
+        reading_fails(&rt, Failing::ForEver(*kind));
     }
-    Ok(())
 }
 
 #[test]
-fn a_writer_that_fails_is_not_asked_again(rt: HostRuntime) -> Result<(), Fail> {
-    for kind in KINDS {
-        for failing in [Failing::Once(kind), Failing::ForEver(kind)] {
-            let (result, text) = run(&rt, Errors::new(Failing::Never, 0), Errors::new(failing, 3))?;
-            assert!(rt; result == Err(ScriptFault::Write));
-            assert!(rt; text.as_slice() == b"1 ok\n1 i".as_slice());
-        }
+fn a_writer_that_fails_is_not_asked_again(rt: HostRuntime) {
+    for kind in &KINDS {
+        writing_fails(&rt, Failing::Once(*kind));
+        writing_fails(&rt, Failing::ForEver(*kind));
     }
-    Ok(())
 }
 
 #[test]
-fn an_interrupted_call_is_made_again(rt: HostRuntime) -> Result<(), Fail> {
+fn an_interrupted_call_is_made_again(rt: HostRuntime) {
+    let once = Failing::Once(ErrorKind::Interrupted);
     for passes in 0..12 {
-        let once = Failing::Once(ErrorKind::Interrupted);
-        let (result, text) = run(&rt, Errors::new(once, passes), Errors::new(once, passes))?;
-        assert!(rt; result == Ok(()));
-        assert!(rt; text.as_slice() == TEXT);
+        let errors = (Errors::new(once, passes), Errors::new(once, passes));
+        ends(&rt, errors, Ok(()), TEXT);
     }
-    Ok(())
 }
 
 #[test]
-fn after_the_end_nothing_is_read(rt: HostRuntime) -> Result<(), Fail> {
-    let (result, text) = run(
-        &rt,
-        Errors::new(Failing::Never, 0),
-        Errors::new(Failing::Never, 0),
-    )?;
-    assert!(rt; result == Ok(()));
-    assert!(rt; text.as_slice() == TEXT);
-    Ok(())
+fn after_the_end_nothing_is_read(rt: HostRuntime) {
+    let never = Failing::Never;
+    let errors = (Errors::new(never, 0), Errors::new(never, 0));
+    ends(&rt, errors, Ok(()), TEXT);
 }

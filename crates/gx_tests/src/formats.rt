@@ -1,5 +1,5 @@
 //! A format by the bytes that it lays down, and a stop at each of its calls.
-use crate::asserts::same;
+use crate::asserts::{got, holds, same};
 use crate::images::image;
 use gx_class::Box2Class;
 use gx_disk::{Fuse, FuseDisk, MemDisk, SectorDisk, Torn};
@@ -7,7 +7,7 @@ use gx_format::{format, sectors_for};
 use gx_geom::Refusal;
 use gx_plain_reader::{Damage, Reading, read};
 use std::alloc::Global;
-use std::test::Fail;
+use std::process::Abort;
 
 /// How many sectors nine pages take.
 const SECTORS: usize = 4240;
@@ -32,10 +32,11 @@ fn fresh_pages(read: &Result<Reading, Damage>) -> Option<u32> {
     }
 }
 
-/// For how many pages the plain reader finds a fresh index; 0 where it finds none at all.
-fn pages_told<D: SectorDisk>(alloc: Global, disk: &mut D) -> Result<u32, Fail> {
-    let bytes = image(alloc, disk)?;
-    Ok(fresh_pages(&read(alloc, &bytes, 1)).ok_or("neither a fresh index nor none")?)
+/// For how many pages the plain reader finds a fresh index; 0 where it finds none at all, and none where it finds
+/// something else.
+fn pages_told<R: Abort + AllocGlobal, D: SectorDisk>(rt: &R, disk: &mut D) -> Option<u32> {
+    let bytes = image(rt, disk);
+    fresh_pages(&read(rt.alloc(), &bytes, 1))
 }
 
 /// Whether two devices have the same bytes beyond their first sectors.
@@ -54,30 +55,29 @@ fn lay<D: SectorDisk>(alloc: Global, disk: &mut D, pages: u32, most: u16) -> Res
 }
 
 /// A device of so many sectors with a fresh index for so many pages and entries.
-pub(crate) fn formatted(
-    rt: &HostRuntime,
+pub(crate) fn formatted<R: Abort + AllocGlobal>(
+    rt: &R,
     sectors: usize,
     pages: u32,
     most: u16,
-) -> Result<MemDisk, Fail> {
-    let mut disk = MemDisk::new(rt.alloc(), sectors)?;
-    lay(rt.alloc(), &mut disk, pages, most)?;
-    Ok(disk)
+) -> MemDisk {
+    let mut disk = got(rt, MemDisk::new(rt.alloc(), sectors));
+    got(rt, lay(rt.alloc(), &mut disk, pages, most));
+    disk
 }
 
-/// What a format for nine pages answers over an index of eight that stops before call `k`, or behind it where it is
-/// done, and what a crash leaves then.
-fn stopped(
-    rt: &HostRuntime,
-    k: u64,
-    done: bool,
+/// What a format for nine pages answers over an index of eight that stops before a call, or behind it where it is done,
+/// and what a crash leaves then.
+fn stopped<R: Abort + AllocGlobal>(
+    rt: &R,
+    (k, done): (u64, bool),
     choices: &[Torn],
-) -> Result<(Result<(), Refusal>, MemDisk), Fail> {
-    let mut disk = FuseDisk::new(formatted(rt, SECTORS, 8, 5)?, k, Fuse::ForEver, done);
-    let answer = lay(rt.alloc(), &mut disk, 9, 4);
+) -> (bool, MemDisk) {
+    let mut disk = FuseDisk::new(formatted(rt, SECTORS, 8, 5), k, Fuse::ForEver, done);
+    let is_made = lay(rt.alloc(), &mut disk, 9, 4).is_ok();
     let mut left = disk.into_inner();
     left.crash(choices);
-    Ok((answer, left))
+    (is_made, left)
 }
 
 /// Which index a stop at call `k` may leave besides none: the old one, none, the new one.
@@ -90,70 +90,100 @@ fn may_leave(k: u64, pages: u32) -> bool {
     }
 }
 
+/// The first eight bytes of a sector, and its last eight.
+fn ends<D: SectorDisk>(disk: &mut D, s: u64) -> ([u8; 8], [u8; 8]) {
+    let [a, b, c, d, e, f, g, h, .., i, j, k, l, m, n, o, p] = sector(disk, s);
+    ([a, b, c, d, e, f, g, h], [i, j, k, l, m, n, o, p])
+}
+
+/// A sector of a fresh index for nine pages of four boxes, and the bytes at its ends.
+static ENDS: [(u64, [u8; 8], [u8; 8]); 7] = [
+    (0, *b"GISTRT01", [0; 8]),
+    (1, [0, 0, 0, 9, 0, 4, 0, 1], [0; 8]),
+    (8, [0xa7, 0, 0, 0, 0, 0, 0, 0], [0; 8]),
+    (40, [0, 0, 0, 0x1d, 5, 0, 0, 0], [0; 8]),
+    (4168, [0, 1, 0, 1, 0x0f, 0xec, 0, 0], [0; 8]),
+    (4175, [0; 8], [0, 0, 0, 0, 0, 0, 0, 2]),
+    (4176, [0, 0, 0, 0, 0x10, 0, 0, 0], [0; 8]),
+];
+
 #[test]
-fn a_fresh_index_byte_for_byte(rt: HostRuntime) -> Result<(), Fail> {
-    let mut disk = formatted(&rt, SECTORS, 9, 4)?;
-    let mut starts = [[0; 8]; 6];
-    for (start, s) in starts.iter_mut().zip([0, 1, 8, 40, 4168, 4176]) {
-        let [a, b, c, d, e, f, g, h, ..] = sector(&mut disk, s);
-        *start = [a, b, c, d, e, f, g, h];
+fn a_fresh_index_byte_for_byte(rt: HostRuntime) {
+    let mut disk = formatted(&rt, SECTORS, 9, 4);
+    for (s, first, last) in &ENDS {
+        same(&rt, &(*s, ends(&mut disk, *s)), &(*s, (*first, *last)));
     }
-    same(
-        &rt,
-        &starts,
-        &[
-            *b"GISTRT01",
-            [0, 0, 0, 9, 0, 4, 0, 1],
-            [0xa7, 0, 0, 0, 0, 0, 0, 0],
-            [0, 0, 0, 0x1d, 5, 0, 0, 0],
-            [0, 1, 0, 1, 0x0f, 0xec, 0, 0],
-            [0, 0, 0, 0, 0x10, 0, 0, 0],
-        ],
-    );
-    let [.., a, b, c, d] = sector(&mut disk, 4175);
-    same(&rt, &[a, b, c, d], &[0, 0, 0, 2]);
     same(&rt, &disk.unsynced(), &0);
-    Ok(())
 }
 
+/// How many pages and entries are asked for, and the answer.
+static ASKED: [(u32, u16, Result<(), Refusal>); 6] = [
+    (7, 4, Err(Refusal::BadParameter)),
+    (65_537, 4, Err(Refusal::BadParameter)),
+    (8, 3, Err(Refusal::BadParameter)),
+    (8, 101, Err(Refusal::BadParameter)),
+    (10, 4, Err(Refusal::TooSmall)),
+    (9, 100, Ok(())),
+];
+
 #[test]
-fn what_a_format_refuses(rt: HostRuntime) -> Result<(), Fail> {
+fn what_a_format_refuses(rt: HostRuntime) {
     same(&rt, &sectors_for(9), &4240);
-    let mut disk = MemDisk::new(rt.alloc(), SECTORS)?;
-    let asked = [(7, 4), (65_537, 4), (8, 3), (8, 101), (10, 4), (9, 100)];
-    let mut answers = [Ok(()); 6];
-    for (answer, (pages, most)) in answers.iter_mut().zip(asked) {
-        *answer = lay(rt.alloc(), &mut disk, pages, most);
+    let mut disk = got(&rt, MemDisk::new(rt.alloc(), SECTORS));
+    for (pages, most, answer) in &ASKED {
+        same(&rt, &lay(rt.alloc(), &mut disk, *pages, *most), answer);
     }
-    let range = Err(Refusal::BadParameter);
-    same(
-        &rt,
-        &answers,
-        &[range, range, range, range, Err(Refusal::TooSmall), Ok(())],
-    );
-    Ok(())
 }
 
-#[test]
-fn a_stop_at_each_call_of_a_format(rt: HostRuntime) -> Result<(), Fail> {
-    let mut old = formatted(&rt, SECTORS, 8, 5)?;
-    let mut fresh = formatted(&rt, SECTORS, 9, 4)?;
-    let choices = [
-        [Torn::Old, Torn::Old],
-        [Torn::New, Torn::New],
-        [Torn::Old, Torn::New],
-        [Torn::Bytes([0xa7; 512]), Torn::Bytes([0xa7; 512])],
-    ];
-    for k in 0..15 {
-        for done in [false, true] {
-            for choice in &choices {
-                let (answer, mut left) = stopped(&rt, k, done, choice)?;
-                let pages = pages_told(rt.alloc(), &mut left)?;
-                assert!(rt; may_leave(k, pages) && answer.is_ok() == (k == 14));
-                assert!(rt; pages != 8 || agree(&mut left, &mut old));
-                assert!(rt; pages != 9 || agree(&mut left, &mut fresh));
-            }
+/// The index of eight pages, and the new one.
+#[derive(Drop)]
+struct Both {
+    old: MemDisk,
+    new: MemDisk,
+}
+
+impl Both {
+    /// Whether a device has the bytes of the one that has so many pages, if there is one.
+    fn agree(&mut self, left: &mut MemDisk, pages: u32) -> bool {
+        match pages {
+            8 => agree(left, &mut self.old),
+            9 => agree(left, &mut self.new),
+            _ => true,
         }
     }
-    Ok(())
+
+    /// Whether a device that a stop leaves has what it may have.
+    fn may_leave<R: Abort + AllocGlobal>(&mut self, rt: &R, k: u64, left: &mut MemDisk) -> bool {
+        match pages_told(rt, left) {
+            Some(pages) => may_leave(k, pages) && self.agree(left, pages),
+            None => false,
+        }
+    }
+}
+
+/// What a crash leaves of the sectors that weren't synced.
+static CHOICES: [[Torn; 2]; 4] = [
+    [Torn::Old, Torn::Old],
+    [Torn::New, Torn::New],
+    [Torn::Old, Torn::New],
+    [Torn::Bytes([0xa7; 512]), Torn::Bytes([0xa7; 512])],
+];
+
+fn stops_at<R: Abort + AllocGlobal>(rt: &R, both: &mut Both, k: u64, done: bool) {
+    for choice in &CHOICES {
+        let (is_made, mut left) = stopped(rt, (k, done), choice);
+        same(rt, &(k, is_made), &(k, k == 14));
+        holds(rt, both.may_leave(rt, k, &mut left));
+    }
+}
+
+#[test]
+fn a_stop_at_each_call_of_a_format(rt: HostRuntime) {
+    let old = formatted(&rt, SECTORS, 8, 5);
+    let new = formatted(&rt, SECTORS, 9, 4);
+    let mut both = Both { old, new };
+    for k in 0..15 {
+        stops_at(&rt, &mut both, k, false);
+        stops_at(&rt, &mut both, k, true);
+    }
 }

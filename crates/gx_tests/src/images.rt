@@ -1,10 +1,11 @@
 //! Images of a fresh device with a byte changed, read by the plain reader.
 
+use crate::asserts::{got, holds};
 use crate::formats::formatted;
 use gx_disk::SectorDisk;
 use gx_plain_reader::{Damage, read};
-use std::alloc::Global;
-use std::test::Fail;
+use std::alloc::{AllocError, Global};
+use std::process::Abort;
 
 /// How many sectors 16 pages take.
 const SECTORS: usize = 4296;
@@ -18,15 +19,17 @@ fn read_whole<D: SectorDisk>(disk: &mut D, bytes: &mut [u8]) -> bool {
     disk.read(0, bytes).is_ok()
 }
 
+/// So many zeros.
+fn zeros(alloc: Global, size: usize) -> Result<Vec<u8>, AllocError> {
+    vec![in alloc; 0; size]
+}
+
 /// A device's bytes.
-pub(crate) fn image<D: SectorDisk>(alloc: Global, disk: &mut D) -> Result<Vec<u8>, Fail> {
-    let mut bytes = Vec::new(alloc);
-    bytes.resize((disk.sectors() as usize).saturating_mul(512), 0)?;
-    if read_whole(disk, &mut bytes) {
-        Ok(bytes)
-    } else {
-        Err(Fail::from("not read"))
-    }
+pub(crate) fn image<R: Abort + AllocGlobal, D: SectorDisk>(rt: &R, disk: &mut D) -> Vec<u8> {
+    let size = (disk.sectors() as usize).saturating_mul(512);
+    let mut bytes = got(rt, zeros(rt.alloc(), size));
+    holds(rt, read_whole(disk, &mut bytes));
+    bytes
 }
 
 /// What is wrong with bytes, if anything is.
@@ -58,7 +61,7 @@ fn set(bytes: &mut [u8], at: usize, value: u8) -> u8 {
 }
 
 /// A sector, a byte's number in it, its value, and what is then wrong with a fresh index of 16 pages.
-const CHANGED: [(usize, usize, u8, Option<Damage>); 24] = [
+static CHANGED: [(usize, usize, u8, Option<Damage>); 24] = [
     (0, 7, b'2', Some(Damage::Magic)),
     (1, 3, 7, Some(Damage::Parameters)),
     (1, 3, 17, Some(Damage::Short)),
@@ -86,13 +89,13 @@ const CHANGED: [(usize, usize, u8, Option<Damage>); 24] = [
 ];
 
 #[test]
-fn a_byte_changed_of_a_fresh_index(rt: HostRuntime) -> Result<(), Fail> {
-    let mut disk = formatted(&rt, SECTORS, 16, 4)?;
-    let mut bytes = image(rt.alloc(), &mut disk)?;
-    for (sector, number, value, wrong) in CHANGED {
-        assert!(rt; damage(rt.alloc(), &mut bytes, sector, number, value) == wrong);
+fn a_byte_changed_of_a_fresh_index(rt: HostRuntime) {
+    let mut disk = formatted(&rt, SECTORS, 16, 4);
+    let mut bytes = image(&rt, &mut disk);
+    for (sector, number, value, wrong) in &CHANGED {
+        let found = damage(rt.alloc(), &mut bytes, *sector, *number, *value);
+        holds(&rt, found == *wrong);
     }
     bytes.truncate(4000 * 512);
-    assert!(rt; fault(rt.alloc(), &bytes) == Some(Damage::Short));
-    Ok(())
+    holds(&rt, fault(rt.alloc(), &bytes) == Some(Damage::Short));
 }

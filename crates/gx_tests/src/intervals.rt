@@ -1,12 +1,11 @@
 //! Intervals as keys: the class by its rows, and through its bound.
 
-use crate::asserts::same;
+use crate::asserts::{got, holds, same};
 use crate::classes::{check_bytes, check_calls, check_queries, check_split, union_through_bytes};
 use gx_class::{IntervalClass, KeyClass};
 use gx_geom::{Interval, Refusal};
 use gx_machine::Query;
 use std::process::Abort;
-use std::test::Fail;
 
 fn make(rt: &impl Abort, lo: i64, hi: i64) -> Interval {
     Interval::new(lo, hi).ok().expect(rt, "an interval")
@@ -54,7 +53,10 @@ fn calls(rt: HostRuntime) {
 fn intervals_by_their_bound(rt: HostRuntime) {
     let first = make(&rt, 0, 10);
     let second = make(&rt, 10, 20);
-    assert!(rt; union_through_bytes::<IntervalClass>(first, second, &mut [0; 16]));
+    holds(
+        &rt,
+        union_through_bytes::<IntervalClass>(first, second, &mut [0; 16]),
+    );
 }
 
 #[test]
@@ -86,13 +88,9 @@ fn the_longest_interval_has_a_size(rt: HostRuntime) {
 }
 
 #[test]
-fn the_longest_interval_has_a_text(rt: HostRuntime) -> Result<(), Fail> {
+fn the_longest_interval_has_a_text(rt: HostRuntime) {
     let all = make(&rt, i64::MIN, i64::MAX);
-    let text = format!(in rt.alloc(); "{all}")?;
-    same(
-        &rt,
-        &text.as_str(),
-        &"-9223372036854775808 9223372036854775807",
-    );
-    Ok(())
+    let text = got(&rt, all.to_string(rt.alloc()));
+    let wanted = "-9223372036854775808 9223372036854775807";
+    same(&rt, &text.as_str(), &wanted);
 }

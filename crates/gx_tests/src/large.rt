@@ -1,10 +1,11 @@
 //! Scripts and indexes of thousands.
-use crate::asserts::same;
+use crate::asserts::{holds, same};
+use crate::boxes::make_box;
+use crate::plain::{fresh, runs};
 use gx_geom::Box2;
-use gx_plain::{Call, Entry, Noted, PlainIndex, Query, Reply, run_plain};
+use gx_plain::{Call, Entry, PlainIndex, Query, Reply};
 use std::io::{self, Read};
 use std::process::Abort;
-use std::test::Fail;
 
 const ROWS: u64 = 3000;
 
@@ -35,6 +36,17 @@ fn fill(index: &mut PlainIndex<Box2>) -> bool {
     all
 }
 
+// How many entries there are, and whether they come in order of rows from the first on.
+fn in_order(entries: &[Entry<Box2>], first: u64) -> (usize, bool) {
+    let mut next = first;
+    let mut rising = true;
+    for entry in entries {
+        rising &= entry.row == next;
+        next = next.saturating_add(1);
+    }
+    (entries.len(), rising)
+}
+
 // How many entries the box overlaps, and whether they come in order of rows from the first on.
 fn found(
     index: &mut PlainIndex<Box2>,
@@ -43,51 +55,71 @@ fn found(
     first: u64,
 ) -> Option<(usize, bool)> {
     match index.call(session, Call::Search(Query::Overlap(key))) {
-        Reply::Found(entries) => {
-            let mut next = first;
-            let mut rising = true;
-            for entry in entries.as_slice() {
-                rising &= entry.row == next;
-                next = next.saturating_add(1);
-            }
-            Some((entries.as_slice().len(), rising))
-        }
+        Reply::Found(entries) => Some(in_order(entries.as_slice(), first)),
         _ => None,
     }
 }
 
-#[test]
-fn an_index_of_thousands(rt: HostRuntime) -> Result<(), Fail> {
-    let mut index = PlainIndex::new(rt.alloc())?;
-    assert!(rt; fill(&mut index));
-    assert!(rt; matches!(index.call(2, Call::Begin), Reply::Ok));
-    let all = Box2::new(0, 0, 100_000, 1)?;
-    same(&rt, &found(&mut index, 2, all, 0), &Some((3000, true)));
-    let some = Box2::new(10_000, 0, 20_000, 1)?;
-    same(&rt, &found(&mut index, 2, some, 1000), &Some((1001, true)));
-    Ok(())
+// Fails unless a session finds so many in order between two places, from the first on.
+fn finds(
+    rt: &impl Abort,
+    index: &mut PlainIndex<Box2>,
+    session: u8,
+    (left, right): (i32, i32),
+    (first, count): (u64, usize),
+) {
+    let key = make_box(rt, (left, 0, right, 1));
+    same(rt, &found(index, session, key, first), &Some((count, true)));
+}
+
+// Fails unless the session begins.
+fn begins(rt: &impl Abort, index: &mut PlainIndex<Box2>, session: u8) {
+    holds(rt, matches!(index.call(session, Call::Begin), Reply::Ok));
+}
+
+// An index with all rows.
+fn filled<R: Abort + AllocGlobal>(rt: &R) -> PlainIndex<Box2> {
+    let mut index = fresh(rt);
+    holds(rt, fill(&mut index));
+    index
 }
 
 #[test]
-fn a_transaction_that_deletes_hundreds(rt: HostRuntime) -> Result<(), Fail> {
-    let mut index = PlainIndex::new(rt.alloc())?;
-    assert!(rt; fill(&mut index));
-    assert!(rt; matches!(index.call(1, Call::Begin), Reply::Ok));
-    let mut deleted = true;
-    for row in 0..500 {
-        let key = place(row).ok_or("a row's box")?;
-        deleted &= matches!(
+fn an_index_of_thousands(rt: HostRuntime) {
+    let mut index = filled(&rt);
+    begins(&rt, &mut index, 2);
+    finds(&rt, &mut index, 2, (0, 100_000), (0, 3000));
+    finds(&rt, &mut index, 2, (10_000, 20_000), (1000, 1001));
+}
+
+// Whether session 1 deletes the row.
+fn deletes(index: &mut PlainIndex<Box2>, row: u64) -> bool {
+    match place(row) {
+        Some(key) => matches!(
             index.call(1, Call::Delete(Entry { row, key })),
             Reply::Deleted
-        );
+        ),
+        None => false,
     }
-    assert!(rt; deleted);
-    let all = Box2::new(0, 0, 100_000, 1)?;
-    same(&rt, &found(&mut index, 1, all, 500), &Some((2500, true)));
-    assert!(rt; matches!(index.call(1, Call::Commit), Reply::Committed(7)));
-    assert!(rt; matches!(index.call(1, Call::Begin), Reply::Ok));
-    same(&rt, &found(&mut index, 1, all, 500), &Some((2500, true)));
-    Ok(())
+}
+
+// Fails unless session 1 deletes the first 500 rows.
+fn deletes_many(rt: &impl Abort, index: &mut PlainIndex<Box2>) {
+    for row in 0..500 {
+        holds(rt, deletes(index, row));
+    }
+}
+
+#[test]
+fn a_transaction_that_deletes_hundreds(rt: HostRuntime) {
+    let mut index = filled(&rt);
+    begins(&rt, &mut index, 1);
+    deletes_many(&rt, &mut index);
+    finds(&rt, &mut index, 1, (0, 100_000), (500, 2500));
+    let committed = index.call(1, Call::Commit);
+    holds(&rt, matches!(committed, Reply::Committed(7)));
+    begins(&rt, &mut index, 1);
+    finds(&rt, &mut index, 1, (0, 100_000), (500, 2500));
 }
 
 // Line feeds, one a read, and then the end.
@@ -108,15 +140,8 @@ impl Read for Feeds {
 }
 
 #[test]
-fn a_script_of_two_million_reads(rt: HostRuntime) -> Result<(), Fail> {
-    let mut index = PlainIndex::new(rt.alloc())?;
+fn a_script_of_two_million_reads(rt: HostRuntime) {
     let mut writer = Vec::new(rt.alloc());
-    let result = run_plain(
-        &mut Noted::new(Feeds(2_200_000)),
-        &mut Noted::new(&mut writer),
-        &mut index,
-    );
-    assert!(rt; result == Ok(()));
-    assert!(rt; writer.is_empty());
-    Ok(())
+    runs(&rt, &mut Feeds(2_200_000), &mut writer);
+    holds(&rt, writer.is_empty());
 }

@@ -1,41 +1,47 @@
 //! What is made is given back.
-use crate::asserts::same;
-use gx_page::{Page, PageFault};
+use crate::asserts::holds;
+use gx_page::Page;
 use std::alloc::Global;
-use std::fs;
-use std::process::Abort;
-use std::test::Fail;
+use std::fs::{self, Files};
 
-// How many pages of 4,096 bytes the process has in memory.
-fn resident(rt: &HostRuntime) -> Result<u64, Fail> {
-    let text = fs::read_to_string(rt, "/proc/self/statm")?;
-    let word = text.as_str().split(' ').nth(1).ok_or("a second word")?;
-    Ok(word.parse::<u64>().map_err(|_| "a number")?)
+// The second word of a text, as a number.
+fn second_number(text: &str) -> Option<u64> {
+    text.split(' ').nth(1)?.parse::<u64>().ok()
 }
 
-// A page with this many items of 20 bytes.
-fn page_of(alloc: Global, number: u32, items: u32) -> Result<Page, PageFault> {
-    let mut page = Page::fresh(alloc, 0, number)?;
+// How many pages of 4,096 bytes the process has in memory; none where that isn't told.
+fn resident<R: Files + AllocGlobal>(rt: &R) -> Option<u64> {
+    match fs::read_to_string(rt, "/proc/self/statm") {
+        Ok(text) => second_number(text.as_str()),
+        Err(_) => None,
+    }
+}
+
+// Makes a page with so many items of 20 bytes, and another one of its image. Answers whether both were made.
+fn is_made(alloc: Global, number: u32, items: u32) -> bool {
+    let Ok(mut page) = Page::fresh(alloc, 0, number) else {
+        return false;
+    };
     for _item in 0..items {
         let _fits = page.insert(0, &[7; 20]);
     }
-    Ok(page)
+    match Page::from_image(alloc, page.image()) {
+        Ok(copy) => copy.number() == number,
+        Err(_) => false,
+    }
 }
 
 // Of 20,000 pages that were made and dropped, empty and full ones, half of them from images, none stays, and none is
 // refused.
 #[test]
-fn pages_are_given_back(rt: HostRuntime) -> Result<(), Fail> {
-    let before = resident(&rt)?;
+fn pages_are_given_back(rt: HostRuntime) {
+    let before = resident(&rt).expect(&rt, "how many are resident");
     for number in 1..10_000 {
-        let page = page_of(rt.alloc(), number, number % 172)?;
-        let copy = Page::from_image(rt.alloc(), page.image())?;
-        same(&rt, &copy.number(), &number);
+        holds(&rt, is_made(rt.alloc(), number, number % 172));
     }
-    let after = resident(&rt)?;
+    let after = resident(&rt).expect(&rt, "how many are resident");
     assert!(rt;
         after < before.saturating_add(2_000),
         "{before} pages, then {after}"
     );
-    Ok(())
 }

@@ -3,15 +3,14 @@
 ghost use Rattle.std.specs.Prelude.{◌≡◌, true, length};
 ghost use Rattle.gx_node.specs.Reading.{format_of, is_leaf, leaf_of, is_inner, inner_of};
 
-use crate::asserts::same;
+use crate::asserts::{holds, same};
+use crate::pages::fresh;
 use gx_class::{Box2Class, IntervalClass, KeyClass};
 use gx_geom::{Box2, Interval, Refusal};
 use gx_machine::Entry;
 use gx_node::{Inner, Leaf, MAX_ENTRIES, inner_edits, is_node, leaf_edits};
 use gx_page::Page;
-use std::alloc::Global;
 use std::process::Abort;
-use std::test::Fail;
 
 /// A class with a key for each small number, and the bytes that the key is to have.
 pub(crate) trait Numbered: KeyClass {
@@ -49,14 +48,14 @@ impl Numbered for IntervalClass {
 }
 
 /// Puts bytes behind the last item of a page.
-pub(crate) fn write(rt: &impl Abort, page: &mut Page, item: &[u8]) {
+fn write(rt: &impl Abort, page: &mut Page, item: &[u8]) {
     assert!(rt; !item.is_empty() && item.len() <= 4060);
     let last = page.count();
-    assert!(rt; page.insert(last, item));
+    holds(rt, page.insert(last, item));
 }
 
 /// A pair's 25 bytes: the key's 16, the row in eight, and the mark.
-pub(crate) fn write_pair(rt: &impl Abort, page: &mut Page, key: [u8; 16], row: u8, mark: u8) {
+fn write_pair(rt: &impl Abort, page: &mut Page, key: [u8; 16], row: u8, mark: u8) {
     let mut item = [0; 25];
     item[..16].copy_from_slice(&key);
     item[23] = row;
@@ -65,11 +64,63 @@ pub(crate) fn write_pair(rt: &impl Abort, page: &mut Page, key: [u8; 16], row: u
 }
 
 /// A child's 20 bytes: the key's 16, and the page in four.
-pub(crate) fn write_child(rt: &impl Abort, page: &mut Page, key: [u8; 16], child: u8) {
+fn write_child(rt: &impl Abort, page: &mut Page, key: [u8; 16], child: u8) {
     let mut item = [0; 20];
     item[..16].copy_from_slice(&key);
     item[19] = child;
     write(rt, page, &item);
+}
+
+/// The bytes of a key.
+#[derive(Clone, Copy)]
+pub(crate) enum Key {
+    /// The key of a number.
+    Of(u8),
+    /// No key: the first corner lies behind the second.
+    Reversed,
+}
+
+impl Key {
+    pub(crate) fn bytes<K: Numbered>(self) -> [u8; 16] {
+        match self {
+            Key::Of(n) => K::bytes(n),
+            Key::Reversed => {
+                let mut bytes = K::bytes(1);
+                bytes[0] = 1;
+                bytes
+            }
+        }
+    }
+}
+
+/// An item of a page.
+#[derive(Clone, Copy)]
+pub(crate) enum Item {
+    /// A pair with this row and this mark.
+    Pair(Key, u8, u8),
+    /// A child on this page.
+    Child(Key, u8),
+    /// Neither.
+    Other(&'static [u8]),
+}
+
+/// A page's level, and its items.
+pub(crate) type Node = (u16, &'static [Item]);
+
+fn write_item<K: Numbered>(rt: &impl Abort, page: &mut Page, item: Item) {
+    match item {
+        Item::Pair(key, row, mark) => write_pair(rt, page, key.bytes::<K>(), row, mark),
+        Item::Child(key, child) => write_child(rt, page, key.bytes::<K>(), child),
+        Item::Other(bytes) => write(rt, page, bytes),
+    }
+}
+
+/// Page 2 with these items, a sequence number and a rightlink.
+pub(crate) fn put_node<K: Numbered>(rt: &impl Abort, page: &mut Page, (level, items): &Node) {
+    start(page, *level);
+    for item in *items {
+        write_item::<K>(rt, page, *item);
+    }
 }
 
 /// How many pairs a leaf has.
@@ -106,16 +157,15 @@ fn set_mark<K: KeyClass>(rt: &impl Abort, page: &mut Page, slot: usize, marked: 
     leaf_edits::set_mark::<K>(page, slot, marked);
 }
 
-/// Takes the pairs that go out of a leaf of so many, or those that stay.
-fn take_pairs_out<K: KeyClass>(rt: &impl Abort, page: &mut Page, count: u8, going: bool) {
-    let count = usize::from(count);
-    assert!(rt; count <= 100 && count == pairs::<K>(rt, page));
+/// Takes the pairs that go out of a leaf, or those that stay.
+fn take_pairs_out<K: KeyClass>(rt: &impl Abort, page: &mut Page, going: bool) {
+    let count = pairs::<K>(rt, page);
+    assert!(rt; count <= 100);
     leaf_edits::keep::<K>(page, &sides(going)[..count]);
 }
 
 fn put_child<K: Numbered>(rt: &impl Abort, page: &mut Page, n: u8, child: u8) {
-    assert!(rt; children::<K>(rt, page) < MAX_ENTRIES);
-    assert!(rt; 1 <= child && child <= 200);
+    assert!(rt; children::<K>(rt, page) < MAX_ENTRIES && 1 <= child && child <= 200);
     inner_edits::append::<K>(page, K::key(rt, n), u32::from(child), 200);
 }
 
@@ -124,15 +174,15 @@ fn set_bound<K: Numbered>(rt: &impl Abort, page: &mut Page, slot: usize, n: u8) 
     inner_edits::set_bound::<K>(page, slot, K::key(rt, n), 200);
 }
 
-/// Takes the children that go out of an inner node of so many, or those that stay.
-fn take_children_out<K: KeyClass>(rt: &impl Abort, page: &mut Page, count: u8, going: bool) {
-    let count = usize::from(count);
-    assert!(rt; count <= 100 && count == children::<K>(rt, page));
+/// Takes the children that go out of an inner node, or those that stay.
+fn take_children_out<K: KeyClass>(rt: &impl Abort, page: &mut Page, going: bool) {
+    let count = children::<K>(rt, page);
+    assert!(rt; count <= 100);
     inner_edits::keep::<K>(page, &sides(going)[..count], 200);
 }
 
 /// How many entries the nodes have that are edited.
-const COUNTS: [u8; 4] = [0, 1, 99, 100];
+static COUNTS: [u8; 4] = [0, 1, 99, 100];
 
 /// Whether an entry goes when its node is split: of five the first two.
 fn goes(n: u8) -> bool {
@@ -203,15 +253,6 @@ fn leaf_is_edited<K: Numbered>(rt: &impl Abort, page: &mut Page, wanted: &mut Pa
     is_alike(rt, page, wanted, count);
 }
 
-fn leaf_edits_write<K: Numbered>(rt: &impl Abort, alloc: Global) -> Result<(), Fail> {
-    let mut page = Page::fresh(alloc, 0, 2)?;
-    let mut wanted = Page::fresh(alloc, 0, 2)?;
-    for count in COUNTS {
-        leaf_is_edited::<K>(rt, &mut page, &mut wanted, count);
-    }
-    Ok(())
-}
-
 /// Splits a leaf of so many pairs.
 fn split_leaf<K: Numbered>(rt: &impl Abort, page: &mut Page, other: &mut Page, count: u8) {
     start(page, 0);
@@ -219,8 +260,8 @@ fn split_leaf<K: Numbered>(rt: &impl Abort, page: &mut Page, other: &mut Page, c
         put_pair::<K>(rt, page, n, n, false);
     }
     other.copy_from(page);
-    take_pairs_out::<K>(rt, page, count, true);
-    take_pairs_out::<K>(rt, other, count, false);
+    take_pairs_out::<K>(rt, page, true);
+    take_pairs_out::<K>(rt, other, false);
 }
 
 /// The entries of a split node that go, or those that stay: a leaf's pairs, or an inner node's children with later
@@ -250,15 +291,16 @@ fn are_sides<K: Numbered>(
     is_alike(rt, other, wanted, count);
 }
 
-fn leaf_is_split<K: Numbered>(rt: &impl Abort, alloc: Global) -> Result<(), Fail> {
-    let mut page = Page::fresh(alloc, 0, 2)?;
-    let mut other = Page::fresh(alloc, 5, 7)?;
-    let mut wanted = Page::fresh(alloc, 0, 9)?;
-    for count in COUNTS {
-        split_leaf::<K>(rt, &mut page, &mut other, count);
-        are_sides::<K>(rt, (&page, &other), &mut wanted, 0, count);
+/// Leaves of each number of pairs are made, changed and split.
+fn leaves<K: Numbered>(rt: &(impl Abort + AllocGlobal)) {
+    let mut page = fresh(rt, 0, 2);
+    let mut other = fresh(rt, 5, 7);
+    let mut wanted = fresh(rt, 0, 9);
+    for count in &COUNTS {
+        leaf_is_edited::<K>(rt, &mut page, &mut wanted, *count);
+        split_leaf::<K>(rt, &mut page, &mut other, *count);
+        are_sides::<K>(rt, (&page, &other), &mut wanted, 0, *count);
     }
-    Ok(())
 }
 
 /// An inner node of so many children, compared with what is written by hand.
@@ -278,80 +320,92 @@ fn split_inner<K: Numbered>(rt: &impl Abort, page: &mut Page, other: &mut Page, 
         set_bound::<K>(rt, page, usize::from(n), later(n));
     }
     other.copy_from(page);
-    take_children_out::<K>(rt, page, count, true);
-    take_children_out::<K>(rt, other, count, false);
+    take_children_out::<K>(rt, page, true);
+    take_children_out::<K>(rt, other, false);
 }
 
-fn inner_edits_write<K: Numbered>(rt: &impl Abort, alloc: Global) -> Result<(), Fail> {
-    let mut page = Page::fresh(alloc, 1, 2)?;
-    let mut other = Page::fresh(alloc, 5, 7)?;
-    let mut wanted = Page::fresh(alloc, 0, 9)?;
-    for count in COUNTS {
-        inner_is_made::<K>(rt, &mut page, &mut wanted, count);
-        split_inner::<K>(rt, &mut page, &mut other, count);
-        are_sides::<K>(rt, (&page, &other), &mut wanted, 3, count);
+/// Inner nodes of each number of children are made, changed and split.
+fn inners<K: Numbered>(rt: &(impl Abort + AllocGlobal)) {
+    let mut page = fresh(rt, 1, 2);
+    let mut other = fresh(rt, 5, 7);
+    let mut wanted = fresh(rt, 0, 9);
+    for count in &COUNTS {
+        inner_is_made::<K>(rt, &mut page, &mut wanted, *count);
+        split_inner::<K>(rt, &mut page, &mut other, *count);
+        are_sides::<K>(rt, (&page, &other), &mut wanted, 3, *count);
     }
-    Ok(())
 }
 
 #[test]
-fn leaves_of_boxes(rt: HostRuntime) -> Result<(), Fail> {
-    leaf_edits_write::<Box2Class>(&rt, rt.alloc())?;
-    leaf_is_split::<Box2Class>(&rt, rt.alloc())
+fn leaves_of_boxes(rt: HostRuntime) {
+    leaves::<Box2Class>(&rt);
 }
 
 #[test]
-fn leaves_of_intervals(rt: HostRuntime) -> Result<(), Fail> {
-    leaf_edits_write::<IntervalClass>(&rt, rt.alloc())?;
-    leaf_is_split::<IntervalClass>(&rt, rt.alloc())
+fn leaves_of_intervals(rt: HostRuntime) {
+    leaves::<IntervalClass>(&rt);
 }
 
 #[test]
-fn inner_nodes(rt: HostRuntime) -> Result<(), Fail> {
-    inner_edits_write::<Box2Class>(&rt, rt.alloc())?;
-    inner_edits_write::<IntervalClass>(&rt, rt.alloc())
+fn inner_nodes(rt: HostRuntime) {
+    inners::<Box2Class>(&rt);
+    inners::<IntervalClass>(&rt);
 }
 
 /// Fails unless a page is damaged, read as either kind, where 200 pages are taken.
 fn damaged<K: KeyClass>(rt: &impl Abort, page: &Page) {
-    let damaged = Some(Refusal::Damaged);
-    same(rt, &Leaf::<K>::read(page).err(), &damaged);
-    same(rt, &Inner::<K>::read(page, 200).err(), &damaged);
-    assert!(rt; !is_node::<K>(page, 200));
+    let leaf = Leaf::<K>::read(page).err();
+    let inner = Inner::<K>::read(page, 200).err();
+    same(rt, &[leaf, inner], &[Some(Refusal::Damaged); 2]);
+    holds(rt, !is_node::<K>(page, 200));
 }
 
-fn damage<K: Numbered>(rt: &impl Abort, alloc: Global) -> Result<(), Fail> {
-    let mut page = Page::fresh(alloc, 0, 2)?;
-    let mut reversed = K::bytes(1);
-    reversed[0] = 1;
-    for (key, mark) in [(K::bytes(1), 2), (K::bytes(1), 255), (reversed, 0)] {
-        page.reset(0, 2);
-        write_pair(rt, &mut page, K::bytes(0), 0, 0);
-        write_pair(rt, &mut page, key, 1, mark);
-        damaged::<K>(rt, &page);
+/// Pages that are no nodes: a mark, a key or a child that there can't be, an item that is too short, and items of the
+/// other kind.
+static DAMAGED: [Node; 10] = [
+    (
+        0,
+        &[Item::Pair(Key::Of(0), 0, 0), Item::Pair(Key::Of(1), 1, 2)],
+    ),
+    (
+        0,
+        &[Item::Pair(Key::Of(0), 0, 0), Item::Pair(Key::Of(1), 1, 255)],
+    ),
+    (
+        0,
+        &[
+            Item::Pair(Key::Of(0), 0, 0),
+            Item::Pair(Key::Reversed, 1, 0),
+        ],
+    ),
+    (
+        1,
+        &[Item::Child(Key::Of(0), 200), Item::Child(Key::Of(1), 0)],
+    ),
+    (
+        1,
+        &[Item::Child(Key::Of(0), 200), Item::Child(Key::Of(1), 201)],
+    ),
+    (
+        1,
+        &[Item::Child(Key::Of(0), 200), Item::Child(Key::Reversed, 1)],
+    ),
+    (0, &[Item::Other(&[0; 24])]),
+    (1, &[Item::Other(&[0; 24])]),
+    (1, &[Item::Pair(Key::Of(0), 0, 0)]),
+    (0, &[Item::Child(Key::Of(0), 1)]),
+];
+
+fn are_damaged<K: Numbered>(rt: &impl Abort, page: &mut Page) {
+    for node in &DAMAGED {
+        put_node::<K>(rt, page, node);
+        damaged::<K>(rt, page);
     }
-    for (key, child) in [(K::bytes(1), 0), (K::bytes(1), 201), (reversed, 1)] {
-        page.reset(1, 2);
-        write_child(rt, &mut page, K::bytes(0), 200);
-        write_child(rt, &mut page, key, child);
-        damaged::<K>(rt, &page);
-    }
-    for level in [0, 1] {
-        page.reset(level, 2);
-        write(rt, &mut page, &[0; 24]);
-        damaged::<K>(rt, &page);
-    }
-    page.reset(1, 2);
-    write_pair(rt, &mut page, K::bytes(0), 0, 0);
-    damaged::<K>(rt, &page);
-    page.reset(0, 2);
-    write_child(rt, &mut page, K::bytes(0), 1);
-    damaged::<K>(rt, &page);
-    Ok(())
 }
 
 #[test]
-fn damaged_nodes(rt: HostRuntime) -> Result<(), Fail> {
-    damage::<Box2Class>(&rt, rt.alloc())?;
-    damage::<IntervalClass>(&rt, rt.alloc())
+fn damaged_nodes(rt: HostRuntime) {
+    let mut page = fresh(&rt, 0, 2);
+    are_damaged::<Box2Class>(&rt, &mut page);
+    are_damaged::<IntervalClass>(&rt, &mut page);
 }

@@ -1,12 +1,11 @@
 //! Pages byte for byte: images after each edit, each fault at its boundary, and each call once.
 
-use crate::asserts::same;
+use crate::asserts::{holds, same};
 use crate::boxes::make_box;
 use crate::reaches::{Reach, ReachClass};
 use gx_class::{Box2Class, KeyClass};
 use gx_page::{PAGE_SIZE, Page, PageFault};
 use std::process::Abort;
-use std::test::Fail;
 use std::thread::{self, Threads};
 
 /// A part of a block: where it stands, and its bytes.
@@ -27,6 +26,20 @@ fn block(rt: &impl Abort, parts: &[Part]) -> [u8; PAGE_SIZE] {
     bytes
 }
 
+/// An empty page.
+pub(crate) fn fresh<R: Abort + AllocGlobal>(rt: &R, level: u16, number: u32) -> Page {
+    Page::fresh(rt.alloc(), level, number)
+        .ok()
+        .expect(rt, "memory for a page")
+}
+
+/// The page of an image.
+fn page_of<R: Abort + AllocGlobal>(rt: &R, image: &[u8]) -> Page {
+    Page::from_image(rt.alloc(), image)
+        .ok()
+        .expect(rt, "a page's image")
+}
+
 /// Fails unless these bytes are the page's image.
 fn has_image(rt: &impl Abort, page: &Page, bytes: &[u8]) {
     same(rt, &page.image(), &bytes);
@@ -42,22 +55,23 @@ fn has_heap(rt: &impl Abort, page: &Page, bytes: &[u8]) {
     same(rt, &page.heap(), &bytes);
 }
 
-/// Fails unless the page has so many items, and this one at the slot.
-fn holds(rt: &impl Abort, page: &Page, count: usize, slot: usize, item: &[u8]) {
-    assert!(rt; page.count() == count && slot < count);
-    same(rt, &page.get(slot), &item);
+/// Fails unless the page has two items, and this one at slot 1.
+fn has_second(rt: &impl Abort, page: &Page, item: &[u8]) {
+    assert!(rt; page.count() == 2);
+    same(rt, &page.get(1), &item);
 }
 
 /// Puts the item in. False where the page has no room.
 fn try_put(rt: &impl Abort, page: &mut Page, slot: usize, item: &[u8]) -> bool {
-    assert!(rt; slot <= page.count());
-    assert!(rt; !item.is_empty() && item.len() <= 4060);
+    if page.count() < slot || item.is_empty() || 4060 < item.len() {
+        panic!(rt; "a slot or an item that no page has")
+    }
     page.insert(slot, item)
 }
 
 /// Puts the item in; fails where the page has no room.
 fn put_item(rt: &impl Abort, page: &mut Page, slot: usize, item: &[u8]) {
-    assert!(rt; try_put(rt, page, slot, item));
+    holds(rt, try_put(rt, page, slot, item));
 }
 
 fn take_out(rt: &impl Abort, page: &mut Page, slot: usize) {
@@ -81,7 +95,7 @@ fn check_gives(rt: &impl Abort, bytes: &[u8], given: Result<u32, PageFault>) {
 }
 
 /// The empty page 2.
-const FRESH: [Part<'static>; 2] = [(4, &[0x10]), (23, &[2])];
+static FRESH: [Part<'static>; 2] = [(4, &[0x10]), (23, &[2])];
 
 /// The live entry 7 `0 0 10 10`.
 const ENTRY: [u8; 25] = [
@@ -89,7 +103,7 @@ const ENTRY: [u8; 25] = [
 ];
 
 /// Page 2 with that entry.
-const ENTRY_PAGE: [Part<'static>; 4] = [
+static ENTRY_PAGE: [Part<'static>; 4] = [
     (0, &[0, 0, 0, 1, 0x0f, 0xe7, 0, 0]),
     (20, &[0, 0, 0, 2]),
     (32, &[0x0f, 0xe7, 0, 0x19]),
@@ -103,8 +117,11 @@ fn entry_image(rt: &impl Abort, at: usize, byte: u8) -> [u8; PAGE_SIZE] {
     bytes
 }
 
-/// Page 1, of level 1, with one entry that ends in a 2.
-const ROOT: [Part<'static>; 4] = [
+/// An entry of an inner node that ends in a 2.
+const ROOT_ENTRY: [u8; 20] = [0, 0, 0, 0, 0, 0, 0, 0, 0, 0, 0, 0, 0, 0, 0, 0, 0, 0, 0, 2];
+
+/// Page 1, of level 1, with that entry.
+static ROOT: [Part<'static>; 4] = [
     (0, &[0, 1, 0, 1, 0x0f, 0xec]),
     (23, &[1]),
     (32, &[0x0f, 0xec, 0, 0x14]),
@@ -112,68 +129,65 @@ const ROOT: [Part<'static>; 4] = [
 ];
 
 #[test]
-fn fresh_pages_and_a_first_item(rt: HostRuntime) -> Result<(), Fail> {
-    let mut leaf = Page::fresh(rt.alloc(), 0, 2)?;
+fn fresh_pages_and_a_first_item(rt: HostRuntime) {
+    let mut leaf = fresh(&rt, 0, 2);
     shows(&rt, &leaf, &FRESH);
     put_item(&rt, &mut leaf, 0, &ENTRY);
     shows(&rt, &leaf, &ENTRY_PAGE);
-    let mut root = Page::fresh(rt.alloc(), 1, 1)?;
-    let entry = [0, 0, 0, 0, 0, 0, 0, 0, 0, 0, 0, 0, 0, 0, 0, 0, 0, 0, 0, 2];
-    put_item(&rt, &mut root, 0, &entry);
+    let mut root = fresh(&rt, 1, 1);
+    put_item(&rt, &mut root, 0, &ROOT_ENTRY);
     shows(&rt, &root, &ROOT);
     root.reset(0, 2);
     shows(&rt, &root, &FRESH);
-    Ok(())
 }
 
 /// What page 2 shows of its items: their count and the heap's start, the directory, and the heap.
 type Items = (&'static [u8], &'static [u8], Part<'static>);
 
 /// The item `abc`, then `de` behind it, then `f` between the two, and then these without `abc`.
-const ONE: Items = (&[1, 0x0f, 0xfd], &[0x0f, 0xfd, 0, 3], (4093, b"abc"));
+static ONE: Items = (&[1, 0x0f, 0xfd], &[0x0f, 0xfd, 0, 3], (4093, b"abc"));
 
-const TWO: Items = (
+static TWO: Items = (
     &[2, 0x0f, 0xfb],
     &[0x0f, 0xfd, 0, 3, 0x0f, 0xfb, 0, 2],
     (4091, b"deabc"),
 );
 
-const THREE: Items = (
+static THREE: Items = (
     &[3, 0x0f, 0xfa],
     &[0x0f, 0xfd, 0, 3, 0x0f, 0xfc, 0, 1, 0x0f, 0xfa, 0, 2],
     (4090, b"defabc"),
 );
 
-const LEFT: Items = (
+static LEFT: Items = (
     &[2, 0x0f, 0xfd],
     &[0x0f, 0xff, 0, 1, 0x0f, 0xfd, 0, 2],
     (4093, b"def"),
 );
 
-fn shows_items(rt: &impl Abort, page: &Page, (counts, directory, heap): Items) {
-    shows(rt, page, &[(3, counts), (23, &[2]), (32, directory), heap]);
+fn shows_items(rt: &impl Abort, page: &Page, (counts, directory, heap): &Items) {
+    shows(rt, page, &[(3, counts), (23, &[2]), (32, directory), *heap]);
 }
 
 #[test]
-fn three_inserts_and_a_removal(rt: HostRuntime) -> Result<(), Fail> {
-    let mut page = Page::fresh(rt.alloc(), 0, 2)?;
+fn three_inserts_and_a_removal(rt: HostRuntime) {
+    let mut page = fresh(&rt, 0, 2);
     put_item(&rt, &mut page, 0, b"abc");
-    shows_items(&rt, &page, ONE);
+    shows_items(&rt, &page, &ONE);
     put_item(&rt, &mut page, 1, b"de");
-    shows_items(&rt, &page, TWO);
+    shows_items(&rt, &page, &TWO);
     put_item(&rt, &mut page, 1, b"f");
-    shows_items(&rt, &page, THREE);
+    shows_items(&rt, &page, &THREE);
     has_heap(&rt, &page, b"defabc");
     take_out(&rt, &mut page, 0);
-    shows_items(&rt, &page, LEFT);
-    Ok(())
+    shows_items(&rt, &page, &LEFT);
 }
 
 /// The longest item that a page takes.
 const LONGEST: [u8; 4060] = [7; 4060];
 
 /// Page 3 with that item.
-const FULL: [Part<'static>; 5] = [
+static FULL: [Part<'static>; 5] = [
     (3, &[1, 0, 0x24]),
     (23, &[3]),
     (33, &[0x24]),
@@ -182,17 +196,16 @@ const FULL: [Part<'static>; 5] = [
 ];
 
 #[test]
-fn the_longest_item_fills_a_page(rt: HostRuntime) -> Result<(), Fail> {
-    let mut page = Page::fresh(rt.alloc(), 0, 3)?;
+fn the_longest_item_fills_a_page(rt: HostRuntime) {
+    let mut page = fresh(&rt, 0, 3);
     put_item(&rt, &mut page, 0, &LONGEST);
     shows(&rt, &page, &FULL);
-    assert!(rt; !try_put(&rt, &mut page, 1, &[9]));
+    holds(&rt, !try_put(&rt, &mut page, 1, &[9]));
     shows(&rt, &page, &FULL);
-    Ok(())
 }
 
 /// A byte of the entry's page and its new value, and what the check gives.
-const CHECKS: [(usize, u8, Result<u32, PageFault>); 13] = [
+static CHECKS: [(usize, u8, Result<u32, PageFault>); 13] = [
     (6, 1, Err(PageFault::Reserved)),
     (7, 1, Err(PageFault::Reserved)),
     (24, 1, Err(PageFault::Reserved)),
@@ -219,7 +232,7 @@ fn each_fault_at_its_boundary(rt: HostRuntime) {
 }
 
 /// What is written over an empty page, one after the other, and the fault that comes first then.
-const FAULTS: [(usize, &[u8], PageFault); 3] = [
+static FAULTS: [(usize, &[u8], PageFault); 3] = [
     (40, &[1], PageFault::Free),
     (4, &[0x0f, 0xff], PageFault::Directory),
     (6, &[1], PageFault::Reserved),
@@ -247,20 +260,19 @@ fn counts(rt: &impl Abort, page: &Page, number: u32, count: usize) {
 }
 
 #[test]
-fn images_given_and_taken(rt: HostRuntime) -> Result<(), Fail> {
+fn images_given_and_taken(rt: HostRuntime) {
     let bytes = entry_image(&rt, 0, 0);
-    let page = Page::from_image(rt.alloc(), &bytes)?;
+    let page = page_of(&rt, &bytes);
     has_image(&rt, &page, &bytes);
-    let mut other = Page::fresh(rt.alloc(), 0, 9)?;
-    let free = Err(PageFault::Free);
-    load_gives(&rt, &mut other, &entry_image(&rt, 36, 1), free);
+    let mut other = fresh(&rt, 0, 9);
+    let changed = entry_image(&rt, 36, 1);
+    load_gives(&rt, &mut other, &changed, Err(PageFault::Free));
     counts(&rt, &other, 9, 0);
     load_gives(&rt, &mut other, &bytes, Ok(()));
     counts(&rt, &other, 2, 1);
     other.reset(5, 6);
     other.copy_from(&page);
     has_image(&rt, &other, &bytes);
-    Ok(())
 }
 
 /// The bytes of the last three fields of a head that counts up from 1.
@@ -279,15 +291,15 @@ fn fields(page: &Page) -> (u16, u64, u32, u32) {
 }
 
 #[test]
-fn each_call_once(rt: HostRuntime) -> Result<(), Fail> {
-    let mut page = Page::fresh(rt.alloc(), 0, 3)?;
+fn each_call_once(rt: HostRuntime) {
+    let mut page = fresh(&rt, 0, 3);
     put_item(&rt, &mut page, 0, b"mountain");
     put_item(&rt, &mut page, 0, b"sea");
-    holds(&rt, &page, 2, 1, b"mountain");
+    has_second(&rt, &page, b"mountain");
     change_byte(&rt, &mut page, 1, 0, b'f');
-    holds(&rt, &page, 2, 1, b"fountain");
+    has_second(&rt, &page, b"fountain");
     change(&rt, &mut page, 1, b"curtains");
-    holds(&rt, &page, 2, 1, b"curtains");
+    has_second(&rt, &page, b"curtains");
     page.set_level(0x0102);
     page.set_nsn(0x0304_0506_0708_090a);
     page.set_right(0x0b0c_0d0e);
@@ -295,42 +307,45 @@ fn each_call_once(rt: HostRuntime) -> Result<(), Fail> {
     counts_up(&rt, &page);
     let set = (0x0102, 0x0304_0506_0708_090a, 0x0b0c_0d0e, 0x0f10_1112);
     same(&rt, &fields(&page), &set);
-    Ok(())
 }
 
-/// Fails unless the first item, of an entry's length, begins with the key.
-fn has_key<K: KeyClass>(rt: &impl Abort, page: &Page, key: K::Key) {
-    assert!(rt; page.count() == 1 && page.get(0).len() == 25);
-    assert!(rt; K::KEY <= 25);
-    assert!(rt; K::decode(&page.get(0)[..K::KEY]) == Some(key));
+/// The key with which an item begins.
+fn key_of<K: KeyClass>(item: &[u8]) -> Option<K::Key> {
+    match item.get(..K::KEY) {
+        Some(bytes) => K::decode(bytes),
+        None => None,
+    }
 }
 
 /// Moves a page's only item behind the only one of another.
 fn move_the_only_item(rt: &impl Abort, from: &mut Page, to: &mut Page) {
-    assert!(rt; (from.count(), to.count()) == (1, 1));
+    assert!(rt; from.count() == 1);
     put_item(rt, to, 1, from.get(0));
-    take_out(rt, from, 0);
+    from.remove(0);
     same(rt, &[from.count(), to.count()], &[0, 2]);
 }
 
 #[test]
-fn an_item_moves_and_a_page_is_read_again(rt: HostRuntime) -> Result<(), Fail> {
-    let mut page = Page::from_image(rt.alloc(), &entry_image(&rt, 0, 0))?;
-    has_key::<Box2Class>(&rt, &page, make_box(&rt, (0, 0, 10, 10)));
-    has_key::<ReachClass>(&rt, &page, Reach(0));
-    let mut other = Page::fresh(rt.alloc(), 0, 9)?;
+fn an_item_moves_and_a_page_is_read_again(rt: HostRuntime) {
+    let mut page = page_of(&rt, &entry_image(&rt, 0, 0));
+    let mut other = fresh(&rt, 0, 9);
     put_item(&rt, &mut other, 0, &ENTRY);
     move_the_only_item(&rt, &mut page, &mut other);
     load_gives(&rt, &mut page, &[], Err(PageFault::Size));
     load_gives(&rt, &mut page, other.image(), Ok(()));
     has_image(&rt, &page, other.image());
-    Ok(())
 }
 
 #[test]
-fn a_page_goes_to_another_thread(rt: HostRuntime) -> Result<(), Fail> {
-    let page = Page::fresh(rt.alloc(), 4, 5)?;
+fn an_item_begins_with_a_key_of_its_class(rt: HostRuntime) {
+    let key = make_box(&rt, (0, 0, 10, 10));
+    same(&rt, &key_of::<Box2Class>(&ENTRY), &Some(key));
+    same(&rt, &key_of::<ReachClass>(&ENTRY), &Some(Reach(0)));
+}
+
+#[test]
+fn a_page_goes_to_another_thread(rt: HostRuntime) {
+    let page = fresh(&rt, 4, 5);
     let (number, level) = thread::join(&rt, move || page.number(), || 4u8);
     same(&rt, &(number, level), &(5, 4));
-    Ok(())
 }

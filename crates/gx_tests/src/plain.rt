@@ -1,14 +1,15 @@
 //! Scripts on the plain index, its bounds, and refused memory.
-use crate::asserts::same;
+use crate::asserts::{got, holds, same};
 use gx_geom::{Box2, Refusal};
 use gx_plain::{Asked, Call, Entry, Noted, PlainIndex, Query, Reply, run_plain};
+use std::io::Read;
 use std::process::Abort;
 use std::test::Fail;
 
 /// A script and the text that it gives on a fresh index.
 type Row = (&'static [u8], &'static [u8]);
 
-const SCRIPTS: [Row; 11] = [
+static SCRIPTS: [Row; 11] = [
     // a commit is found
     (
         b"1 BEGIN\n1 INSERT 7 0 0 10 10\n1 COMMIT\n1 BEGIN\n1 OVERLAP 10 10 20 20\n",
@@ -68,176 +69,200 @@ const SCRIPTS: [Row; 11] = [
     ),
 ];
 
-#[test]
-fn scripts_and_their_texts(rt: HostRuntime) -> Result<(), Fail> {
-    for (script, text) in SCRIPTS {
-        let mut index: PlainIndex<Box2> = PlainIndex::new(rt.alloc())?;
-        let mut reader = script;
-        let mut writer = Vec::new(rt.alloc());
-        let result = run_plain(
-            &mut Noted::new(&mut reader),
-            &mut Noted::new(&mut writer),
-            &mut index,
-        );
-        assert!(rt; result == Ok(()));
-        same(&rt, &writer.as_slice(), &text);
-    }
-    Ok(())
+/// An index with nothing committed.
+pub(crate) fn fresh<R: Abort + AllocGlobal>(rt: &R) -> PlainIndex<Box2> {
+    got(rt, PlainIndex::new(rt.alloc()))
 }
 
-// What asking or answering gives, with an answer's entries counted.
-#[derive(Clone, Copy, Debug, PartialEq)]
-enum Told {
-    Open,
-    Ok,
-    Inserted,
-    Deleted,
-    Found(usize),
-    Committed(u64),
-    Aborted,
-    Refused(Refusal),
+/// Fails unless what is read is a script that is run to its end on a fresh index. Writes its text.
+pub(crate) fn runs<R: Abort + AllocGlobal, T: Read>(rt: &R, reader: &mut T, text: &mut Vec<u8>) {
+    let mut index = fresh(rt);
+    let result = run_plain(&mut Noted::new(reader), &mut Noted::new(text), &mut index);
+    holds(rt, result == Ok(()));
 }
+
+/// Fails unless the script gives this text on a fresh index.
+fn gives_text<R: Abort + AllocGlobal>(rt: &R, script: &[u8], text: &[u8]) {
+    let mut reader = script;
+    let mut writer = Vec::new(rt.alloc());
+    runs(rt, &mut reader, &mut writer);
+    same(rt, &writer.as_slice(), &text);
+}
+
+#[test]
+fn scripts_and_their_texts(rt: HostRuntime) {
+    for (script, text) in &SCRIPTS {
+        gives_text(&rt, script, text);
+    }
+}
+
+/// A call; an entry has this row, and the key of all of them.
+#[derive(Clone, Copy)]
+enum Word {
+    Begin,
+    Insert(u64),
+    Delete(u64),
+    Search,
+    Commit,
+    Abort,
+}
+
+impl Word {
+    fn call(self) -> Call<Box2> {
+        let key = Box2::point(3, 3);
+        match self {
+            Word::Begin => Call::Begin,
+            Word::Insert(row) => Call::Insert(Entry { row, key }),
+            Word::Delete(row) => Call::Delete(Entry { row, key }),
+            Word::Search => Call::Search(Query::Equal(key)),
+            Word::Commit => Call::Commit,
+            Word::Abort => Call::Abort,
+        }
+    }
+}
+
+// What asking or answering gives: a word, and how many were found, a commit's number, whose conflict it is, or a
+// refusal's number.
+type Told = (&'static str, u64);
+
+const OPEN: Told = ("open", 0);
+
+const INSERTED: Told = ("inserted", 0);
+
+const DELETED: Told = ("deleted", 0);
+
+const ABORTED: Told = ("aborted", 0);
+
+const BAD_SESSION: Told = ("refused", 15);
+
+const CALL_OPEN: Told = ("refused", 16);
+
+const NO_CALL: Told = ("refused", 19);
+
+const CLAIMS_FULL: Told = ("refused", 8);
+
+const MEMORY: Told = ("refused", 10);
 
 fn reply_told(reply: Reply<Box2>) -> Told {
     match reply {
-        Reply::Ok => Told::Ok,
-        Reply::Inserted => Told::Inserted,
-        Reply::Deleted => Told::Deleted,
-        Reply::Found(entries) => Told::Found(entries.as_slice().len()),
-        Reply::Committed(number) => Told::Committed(number),
-        Reply::Aborted => Told::Aborted,
-        Reply::Refused(why) => Told::Refused(why),
+        Reply::Ok => ("ok", 0),
+        Reply::Inserted => INSERTED,
+        Reply::Deleted => DELETED,
+        Reply::Found(entries) => ("found", entries.as_slice().len() as u64),
+        Reply::Committed(number) => ("committed", number),
+        Reply::Aborted => ABORTED,
+        Reply::Refused(Refusal::Busy(session)) => ("busy", u64::from(session)),
+        Reply::Refused(why) => ("refused", u64::from(why.number())),
     }
 }
 
 fn ask_told(asked: Asked<Box2>) -> Told {
     match asked {
         Asked::Now(reply) => reply_told(reply),
-        Asked::Open => Told::Open,
+        Asked::Open => OPEN,
     }
 }
 
-#[derive(Clone, Copy)]
-enum Step {
-    Ask(Call<Box2>),
-    Answer,
+// A session asks this, or is answered, and what is told of it.
+type Step = (u8, Option<Word>, Told);
+
+static STEPS: [Step; 16] = [
+    (0, Some(Word::Begin), BAD_SESSION),
+    (0, None, BAD_SESSION),
+    (9, Some(Word::Begin), BAD_SESSION),
+    (9, None, BAD_SESSION),
+    (255, Some(Word::Begin), BAD_SESSION),
+    (255, None, BAD_SESSION),
+    (8, None, NO_CALL),
+    (8, Some(Word::Begin), ("ok", 0)),
+    (8, None, NO_CALL),
+    (8, Some(Word::Insert(1)), OPEN),
+    (8, Some(Word::Commit), CALL_OPEN),
+    (8, None, INSERTED),
+    (8, Some(Word::Abort), OPEN),
+    (8, Some(Word::Begin), CALL_OPEN),
+    (8, None, ABORTED),
+    (8, None, NO_CALL),
+];
+
+fn step_told(index: &mut PlainIndex<Box2>, session: u8, asks: Option<Word>) -> Told {
+    match asks {
+        Some(word) => ask_told(index.ask(session, word.call())),
+        None => reply_told(index.answer(session)),
+    }
 }
 
 #[test]
-fn each_step_of_a_session_is_told(rt: HostRuntime) -> Result<(), Fail> {
-    let mut index = PlainIndex::new(rt.alloc())?;
-    let key = Box2::point(1, 1);
-    for (session, step, expected) in [
-        (
-            0,
-            Step::Ask(Call::Begin),
-            Told::Refused(Refusal::BadSession),
-        ),
-        (0, Step::Answer, Told::Refused(Refusal::BadSession)),
-        (
-            9,
-            Step::Ask(Call::Begin),
-            Told::Refused(Refusal::BadSession),
-        ),
-        (9, Step::Answer, Told::Refused(Refusal::BadSession)),
-        (
-            255,
-            Step::Ask(Call::Begin),
-            Told::Refused(Refusal::BadSession),
-        ),
-        (255, Step::Answer, Told::Refused(Refusal::BadSession)),
-        (8, Step::Answer, Told::Refused(Refusal::NoCall)),
-        (8, Step::Ask(Call::Begin), Told::Ok),
-        (8, Step::Answer, Told::Refused(Refusal::NoCall)),
-        (
-            8,
-            Step::Ask(Call::Insert(Entry { row: 1, key })),
-            Told::Open,
-        ),
-        (8, Step::Ask(Call::Commit), Told::Refused(Refusal::CallOpen)),
-        (8, Step::Answer, Told::Inserted),
-        (8, Step::Ask(Call::Abort), Told::Open),
-        (8, Step::Ask(Call::Begin), Told::Refused(Refusal::CallOpen)),
-        (8, Step::Answer, Told::Aborted),
-        (8, Step::Answer, Told::Refused(Refusal::NoCall)),
-    ] {
-        let told = match step {
-            Step::Ask(call) => ask_told(index.ask(session, call)),
-            Step::Answer => reply_told(index.answer(session)),
-        };
-        same(&rt, &told, &expected);
+fn each_step_of_a_session_is_told(rt: HostRuntime) {
+    let mut index = fresh(&rt);
+    for (session, asks, told) in &STEPS {
+        same(&rt, &step_told(&mut index, *session, *asks), told);
     }
-    Ok(())
 }
 
 // What a call, asked and answered, gives.
-fn called(index: &mut PlainIndex<Box2>, session: u8, call: Call<Box2>) -> Told {
-    reply_told(index.call(session, call))
+fn called(index: &mut PlainIndex<Box2>, session: u8, word: Word) -> Told {
+    reply_told(index.call(session, word.call()))
 }
 
 // Fails unless the call is answered so.
-fn gives(
-    rt: &impl Abort,
-    index: &mut PlainIndex<Box2>,
-    session: u8,
-    call: Call<Box2>,
-    expected: Told,
-) {
-    same(rt, &called(index, session, call), &expected);
+fn gives(rt: &impl Abort, index: &mut PlainIndex<Box2>, session: u8, word: Word, told: Told) {
+    same(rt, &called(index, session, word), &told);
 }
+
+// Fails unless a session inserts these rows.
+fn inserts(rt: &impl Abort, index: &mut PlainIndex<Box2>, session: u8, first: u64, end: u64) {
+    for row in first..end {
+        gives(rt, index, session, Word::Insert(row), INSERTED);
+    }
+}
+
+// Calls of two sessions that have all claims, 300 of them session 1's.
+static FULL: [(u8, Word, Told); 6] = [
+    (1, Word::Insert(512), CLAIMS_FULL),
+    (2, Word::Delete(512), CLAIMS_FULL),
+    (2, Word::Delete(511), DELETED),
+    (1, Word::Insert(511), ("busy", 2)),
+    (2, Word::Commit, ("committed", 1)),
+    (1, Word::Insert(511), INSERTED),
+];
 
 // 512 claims are all sessions' most; an entry that is claimed takes no second place.
 #[test]
-fn two_sessions_take_all_claims(rt: HostRuntime) -> Result<(), Fail> {
-    let mut index = PlainIndex::new(rt.alloc())?;
-    gives(&rt, &mut index, 1, Call::Begin, Told::Ok);
-    gives(&rt, &mut index, 2, Call::Begin, Told::Ok);
-    let key = Box2::point(0, 0);
-    for row in 0..512u64 {
-        let session = if row < 300 { 1 } else { 2 };
-        gives(
-            &rt,
-            &mut index,
-            session,
-            Call::Insert(Entry { row, key }),
-            Told::Inserted,
-        );
+fn two_sessions_take_all_claims(rt: HostRuntime) {
+    let mut index = fresh(&rt);
+    gives(&rt, &mut index, 1, Word::Begin, ("ok", 0));
+    gives(&rt, &mut index, 2, Word::Begin, ("ok", 0));
+    inserts(&rt, &mut index, 1, 0, 300);
+    inserts(&rt, &mut index, 2, 300, 512);
+    for (session, word, told) in &FULL {
+        gives(&rt, &mut index, *session, *word, *told);
     }
-    for (session, call, expected) in [
-        (
-            1,
-            Call::Insert(Entry { row: 512, key }),
-            Told::Refused(Refusal::ClaimsFull),
-        ),
-        (
-            2,
-            Call::Delete(Entry { row: 512, key }),
-            Told::Refused(Refusal::ClaimsFull),
-        ),
-        (2, Call::Delete(Entry { row: 511, key }), Told::Deleted),
-        (
-            1,
-            Call::Insert(Entry { row: 511, key }),
-            Told::Refused(Refusal::Busy(2)),
-        ),
-        (2, Call::Commit, Told::Committed(1)),
-        (1, Call::Insert(Entry { row: 511, key }), Told::Inserted),
-    ] {
-        gives(&rt, &mut index, session, call, expected);
-    }
-    Ok(())
 }
 
-// Session 1's reply, asked again where memory was refused.
-fn twice<R: Abort>(rt: &R, index: &mut PlainIndex<Box2>, call: Call<Box2>) -> Told {
-    match called(index, 1, call) {
-        Told::Refused(Refusal::Memory) => {
-            let again = called(index, 1, call);
-            assert!(rt; !matches!(again, Told::Refused(Refusal::Memory)));
-            again
-        }
-        told => told,
+// Fails unless session 1's call is answered so, at once or where it is asked again since memory was refused.
+fn gives_again(rt: &impl Abort, index: &mut PlainIndex<Box2>, word: Word, told: Told) {
+    let first = called(index, 1, word);
+    if first == MEMORY {
+        gives(rt, index, 1, word, told);
+    } else {
+        same(rt, &first, &told);
     }
+}
+
+// Calls in which memory may be refused once.
+fn calls_again(rt: &impl Abort, index: &mut PlainIndex<Box2>) {
+    gives(rt, index, 1, Word::Begin, ("ok", 0));
+    for row in 0..40 {
+        gives_again(rt, index, Word::Insert(row), INSERTED);
+    }
+    gives(rt, index, 1, Word::Commit, ("committed", 1));
+    gives(rt, index, 1, Word::Begin, ("ok", 0));
+    for row in 0..20 {
+        gives(rt, index, 1, Word::Delete(row), DELETED);
+    }
+    gives_again(rt, index, Word::Search, ("found", 20));
+    gives(rt, index, 1, Word::Abort, ABORTED);
 }
 
 // Each call that takes memory answers as ever, at once or where it is asked again; a delete takes none. (With one
@@ -248,25 +273,6 @@ fn refused_memory_changes_nothing(rt: HostRuntime) -> Result<(), Fail> {
         Ok(index) => index,
         Err(_) => PlainIndex::new(rt.alloc())?,
     };
-    let key = Box2::point(3, 3);
-    gives(&rt, &mut index, 1, Call::Begin, Told::Ok);
-    for row in 0..40u64 {
-        let told = twice(&rt, &mut index, Call::Insert(Entry { row, key }));
-        same(&rt, &told, &Told::Inserted);
-    }
-    gives(&rt, &mut index, 1, Call::Commit, Told::Committed(1));
-    gives(&rt, &mut index, 1, Call::Begin, Told::Ok);
-    for row in 0..20u64 {
-        gives(
-            &rt,
-            &mut index,
-            1,
-            Call::Delete(Entry { row, key }),
-            Told::Deleted,
-        );
-    }
-    let told = twice(&rt, &mut index, Call::Search(Query::Equal(key)));
-    same(&rt, &told, &Told::Found(20));
-    gives(&rt, &mut index, 1, Call::Abort, Told::Aborted);
+    calls_again(&rt, &mut index);
     Ok(())
 }

@@ -1,4 +1,5 @@
 //! Records that say what changes on a page, byte for byte, and bytes that are no record.
+use crate::asserts::{holds, same};
 use gx_record::{Record, SLOT_NUMBER, Slots};
 
 /// How many bytes a key has.
@@ -43,50 +44,64 @@ fn is_one_record(bytes: &[u8]) -> bool {
     }
 }
 
-/// Whether the bytes begin with a record once the byte at a place is another.
-fn is_record_with<const N: usize>(mut bytes: [u8; N], at: usize, byte: u8) -> bool {
-    if let Some(place) = bytes.get_mut(at) {
-        *place = byte;
+/// A record's bytes, one of their places, another byte for it, and whether a record is read then.
+type Changed = (&'static [u8], usize, u8, bool);
+
+static CHANGED: [Changed; 11] = [
+    (&ADDED, 36, 0, false),
+    (&MARKED, 33, 2, false),
+    (&MARKED, 34, 2, false),
+    (&MARKED, 38, 0, false),
+    (&WIDENED, 4, 0, false),
+    (&WIDENED, 6, 0, true),
+    (&SWEPT, 4, 0, false),
+    (&SWEPT, 5, 0, false),
+    (&SWEPT, 9, 0, false),
+    (&SWEPT, 10, 0, false),
+    (&SWEPT, 0, 11, false),
+];
+
+/// Whether the bytes, of which one is another, begin with a record.
+fn is_record_with(bytes: &[u8], at: usize, byte: u8) -> bool {
+    let mut changed = [0; 64];
+    for (k, (place, old)) in changed.iter_mut().zip(bytes).enumerate() {
+        *place = if k == at { byte } else { *old };
     }
-    Record::decode(&bytes, KEY).is_some()
+    Record::decode(&changed[..bytes.len().min(64)], KEY).is_some()
 }
 
 #[test]
 fn small_records_by_their_bytes(rt: HostRuntime) {
-    assert!(rt; is_one_record(&ADDED));
-    assert!(rt; is_one_record(&MARKED));
-    assert!(rt; is_one_record(&WIDENED));
-    assert!(rt; is_one_record(&SWEPT));
+    holds(&rt, is_one_record(&ADDED));
+    holds(&rt, is_one_record(&MARKED));
+    holds(&rt, is_one_record(&WIDENED));
+    holds(&rt, is_one_record(&SWEPT));
     let added = Record::Add {
         tx: 1,
         row: 7,
         key: &TEN,
         leaf: 2,
     };
-    assert!(rt; Record::decode(&ADDED, KEY) == Some((added, ADDED.len())));
+    holds(
+        &rt,
+        Record::decode(&ADDED, KEY) == Some((added, ADDED.len())),
+    );
 }
 
 #[test]
 fn slots_by_their_places(rt: HostRuntime) {
     let slots = Slots { bytes: &SWEPT[6..] };
-    assert!(rt; slots.count() == 3 && slots.rise());
-    assert!(rt; slots.get(0) == Some(0) && slots.get(2) == Some(258));
-    assert!(rt; slots.get(3).is_none());
+    let found = [slots.get(0), slots.get(2), slots.get(3)];
+    same(&rt, &found, &[Some(0), Some(258), None]);
+    same(&rt, &(slots.count(), slots.rise()), &(3, true));
 }
 
 #[test]
 fn small_records_out_of_range(rt: HostRuntime) {
-    assert!(rt; !is_record_with(ADDED, 36, 0));
-    assert!(rt; !is_record_with(MARKED, 33, 2));
-    assert!(rt; !is_record_with(MARKED, 34, 2));
-    assert!(rt; !is_record_with(MARKED, 38, 0));
-    assert!(rt; !is_record_with(WIDENED, 4, 0));
-    assert!(rt; is_record_with(WIDENED, 6, 0));
-    assert!(rt; !is_record_with(SWEPT, 4, 0));
-    assert!(rt; !is_record_with(SWEPT, 5, 0));
-    assert!(rt; !is_record_with(SWEPT, 9, 0));
-    assert!(rt; !is_record_with(SWEPT, 10, 0));
-    assert!(rt; !is_record_with(SWEPT, 0, 11));
+    for (bytes, at, byte, is_record) in &CHANGED {
+        let found = is_record_with(bytes, *at, *byte);
+        same(&rt, &(*at, *byte, found), &(*at, *byte, *is_record));
+    }
 }
 
 /// A sweep of page 2 that counts this many slots, from 0 on, and has 101.
@@ -99,10 +114,16 @@ fn long_sweep(count: u8) -> [u8; 208] {
     bytes
 }
 
+/// How many bytes the record has that a long sweep begins with.
+fn length_of_sweep(count: u8) -> Option<usize> {
+    match Record::decode(&long_sweep(count), KEY) {
+        Some((_, size)) => Some(size),
+        None => None,
+    }
+}
+
 #[test]
 fn a_sweep_has_a_hundred_slots_at_most(rt: HostRuntime) {
-    let most = long_sweep(100);
-    let more = long_sweep(101);
-    assert!(rt; matches!(Record::decode(&most, KEY), Some((_, 206))));
-    assert!(rt; Record::decode(&more, KEY).is_none());
+    same(&rt, &length_of_sweep(100), &Some(206));
+    same(&rt, &length_of_sweep(101), &None);
 }

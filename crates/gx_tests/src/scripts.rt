@@ -1,12 +1,11 @@
 //! Scripts against an index that answers from a list, in pieces of any size.
-use crate::asserts::same;
+use crate::asserts::{got, holds, same};
 use gx_geom::{Box2, Refusal};
 use gx_machine::{Call, Entries, Entry, Query, Reply};
 use gx_script::{Answers, Line, Noted, ScriptFault, parse, run};
 use std::alloc::{AllocError, Global};
 use std::io::{self, ErrorKind, Read, Write};
 use std::process::Abort;
-use std::test::Fail;
 
 // It keeps what was inserted. An overlap finds all of it and a search within nothing; an equal search is busy.
 #[derive(Drop)]
@@ -118,6 +117,19 @@ impl Write for Sip {
     }
 }
 
+// What a script comes to over a list.
+fn result_of<R: Read, W: Write>(
+    list: &mut List,
+    reader: &mut R,
+    writer: &mut W,
+) -> Result<(), ScriptFault> {
+    run(&mut Noted::new(reader), &mut Noted::new(writer), list)
+}
+
+fn ends(rt: &impl Abort, found: Result<(), ScriptFault>, wanted: Result<(), ScriptFault>) {
+    holds(rt, found == wanted);
+}
+
 // A script that comes in pieces of so many bytes gives this text in such pieces.
 fn gives_in_pieces<R: Abort + AllocGlobal>(rt: &R, script: &[u8], text: &[u8], size: usize) {
     let mut reader = Drip {
@@ -132,44 +144,41 @@ fn gives_in_pieces<R: Abort + AllocGlobal>(rt: &R, script: &[u8], text: &[u8], s
         interrupts: false,
         most: usize::MAX,
     };
-    let result = run(
-        &mut Noted::new(&mut reader),
-        &mut Noted::new(&mut writer),
-        &mut List::new(rt.alloc()),
-    );
-    assert!(rt; result == Ok(()));
+    let mut list = List::new(rt.alloc());
+    let result = result_of(&mut list, &mut reader, &mut writer);
+    ends(rt, result, Ok(()));
     same(rt, &writer.taken.as_slice(), &text);
 }
 
-// A script gives this text, whatever pieces it comes in and goes out in.
-fn gives<R: Abort + AllocGlobal>(rt: &R, script: &[u8], text: &[u8]) -> Result<(), Fail> {
+// A script that comes whole gives this text.
+fn gives_at_once<R: Abort + AllocGlobal>(rt: &R, script: &[u8], text: &[u8]) {
     let mut reader = script;
     let mut writer = Vec::new(rt.alloc());
-    let result = run(
-        &mut Noted::new(&mut reader),
-        &mut Noted::new(&mut writer),
-        &mut List::new(rt.alloc()),
-    );
-    assert!(rt; result == Ok(()));
+    let mut list = List::new(rt.alloc());
+    let result = result_of(&mut list, &mut reader, &mut writer);
+    ends(rt, result, Ok(()));
     same(rt, &writer.as_slice(), &text);
-    for size in [1, 2, 3, 7, 1000] {
-        gives_in_pieces(rt, script, text, size);
+}
+
+// A script gives this text, whatever pieces it comes in and goes out in.
+fn gives<R: Abort + AllocGlobal>(rt: &R, script: &[u8], text: &[u8]) {
+    gives_at_once(rt, script, text);
+    for size in &[1, 2, 3, 7, 1000] {
+        gives_in_pieces(rt, script, text, *size);
     }
-    Ok(())
 }
 
 /// A script and the text that it gives.
 type Row = (&'static [u8], &'static [u8]);
 
-fn each_gives<R: Abort + AllocGlobal>(rt: &R, rows: &[Row]) -> Result<(), Fail> {
+fn each_gives<R: Abort + AllocGlobal>(rt: &R, rows: &[Row]) {
     for (script, text) in rows {
-        gives(rt, script, text)?;
+        gives(rt, script, text);
     }
-    Ok(())
 }
 
 // Ends of lines.
-const ENDS: [Row; 7] = [
+static ENDS: [Row; 7] = [
     (b"", b""),
     (b"1 BEGIN", b"1 ok\n"),
     (
@@ -183,7 +192,7 @@ const ENDS: [Row; 7] = [
 ];
 
 // Words and what separates them.
-const WORDS: [Row; 6] = [
+static WORDS: [Row; 6] = [
     (b"\t1\t \tBEGIN\t \n", b"1 ok\n"),
     (
         b"1 begin\n1 Begin\n1 HELLO\n1BEGIN\n",
@@ -208,7 +217,7 @@ const WORDS: [Row; 6] = [
 ];
 
 // Rows and corners at their bounds.
-const NUMBERS: [Row; 7] = [
+static NUMBERS: [Row; 7] = [
     (
         b"0001 INSERT 007 -00 0000 01 2\n1 OVERLAP 0 0 1 1\n",
         b"1 inserted\n1 found 1\n1 entry 7 0 0 1 2\n",
@@ -240,7 +249,7 @@ const NUMBERS: [Row; 7] = [
 ];
 
 // Sessions, and what is tested before them.
-const SESSIONS: [Row; 5] = [
+static SESSIONS: [Row; 5] = [
     (
         b"0 BEGIN\n9 BEGIN\n257 BEGIN\n",
         b"0 refused 15 bad session\n9 refused 15 bad session\n257 refused 15 bad session\n",
@@ -261,7 +270,7 @@ const SESSIONS: [Row; 5] = [
 ];
 
 // Replies of each kind.
-const REPLIES: [Row; 2] = [
+static REPLIES: [Row; 2] = [
     (
         b"8 DELETE 1 0 0 0 0\n8 EQUAL 0 0 0 0\n8 WITHIN -1 -1 1 1\n",
         b"8 deleted\n8 refused 5 busy 3\n8 found 0\n",
@@ -273,16 +282,16 @@ const REPLIES: [Row; 2] = [
 ];
 
 #[test]
-fn scripts_and_their_texts(rt: HostRuntime) -> Result<(), Fail> {
-    each_gives(&rt, &ENDS)?;
-    each_gives(&rt, &WORDS)?;
-    each_gives(&rt, &NUMBERS)?;
-    each_gives(&rt, &SESSIONS)?;
-    each_gives(&rt, &REPLIES)
+fn scripts_and_their_texts(rt: HostRuntime) {
+    each_gives(&rt, &ENDS);
+    each_gives(&rt, &WORDS);
+    each_gives(&rt, &NUMBERS);
+    each_gives(&rt, &SESSIONS);
+    each_gives(&rt, &REPLIES);
 }
 
 // How a line begins, how long spaces make it, how it ends, and the text that it gives.
-const LONG_LINES: [(&[u8], usize, &[u8], &[u8]); 8] = [
+static LONG_LINES: [(&[u8], usize, &[u8], &[u8]); 8] = [
     (b"", 1024, b"\n", b""),
     (b"", 1025, b"\n", b"line 1 bad\n"),
     (b"", 1024, b"\r\n", b""),
@@ -293,17 +302,20 @@ const LONG_LINES: [(&[u8], usize, &[u8], &[u8]); 8] = [
     (b"1 BEGIN", 3000, b"\n1 ABORT\n", b"line 1 bad\n1 aborted\n"),
 ];
 
+// A line that begins so, and that spaces make so long, and its end.
+fn line(alloc: Global, begin: &[u8], size: usize, end: &[u8]) -> Result<Vec<u8>, AllocError> {
+    let mut line = Vec::from_slice(alloc, begin)?;
+    line.resize(size, b' ')?;
+    line.extend_from_slice(end)?;
+    Ok(line)
+}
+
 #[test]
-fn a_line_has_1024_bytes_at_most(rt: HostRuntime) -> Result<(), Fail> {
-    for (begin, size, end, text) in LONG_LINES {
-        let mut line = Vec::from_slice(rt.alloc(), begin)?;
-        for _ in begin.len()..size {
-            line.push(b' ')?;
-        }
-        line.extend_from_slice(end)?;
-        gives(&rt, line.as_slice(), text)?;
+fn a_line_has_1024_bytes_at_most(rt: HostRuntime) {
+    for (begin, size, end, text) in &LONG_LINES {
+        let line = got(&rt, line(rt.alloc(), begin, *size, end));
+        gives(&rt, line.as_slice(), text);
     }
-    Ok(())
 }
 
 const INSERT: &[u8] =
@@ -312,30 +324,32 @@ const INSERT: &[u8] =
 const FOUND: &[u8] =
     b"1 entry 18446744073709551615 -2147483648 -2147483648 2147483647 2147483647\n";
 
-// Appends bytes 200 times.
-fn append(to: &mut Vec<u8>, bytes: &[u8]) -> Result<(), AllocError> {
-    for _ in 0..200u8 {
-        to.extend_from_slice(bytes)?;
-    }
-    Ok(())
+// The bytes 200 times between others.
+fn many(alloc: Global, before: &[u8], bytes: &[u8], behind: &[u8]) -> Result<Vec<u8>, AllocError> {
+    let all = bytes.repeat(alloc, 200)?;
+    [before, all.as_slice(), behind].concat(alloc)
+}
+
+// What is written where 200 rows are inserted and found.
+fn many_found(alloc: Global) -> Result<Vec<u8>, AllocError> {
+    let inserted = many(alloc, b"", b"1 inserted\n", b"1 found 200\n")?;
+    many(alloc, inserted.as_slice(), FOUND, b"1 aborted\n")
 }
 
 // More text than waits at once.
 #[test]
-fn a_reply_is_longer_than_what_waits(rt: HostRuntime) -> Result<(), Fail> {
-    let mut script = Vec::new(rt.alloc());
-    append(&mut script, INSERT)?;
-    script.extend_from_slice(b"1 OVERLAP 0 0 0 0\n1 ABORT\n")?;
-    let mut text = Vec::new(rt.alloc());
-    append(&mut text, b"1 inserted\n")?;
-    text.extend_from_slice(b"1 found 200\n")?;
-    append(&mut text, FOUND)?;
-    text.extend_from_slice(b"1 aborted\n")?;
-    gives(&rt, script.as_slice(), text.as_slice())
+fn a_reply_is_longer_than_what_waits(rt: HostRuntime) {
+    let alloc = rt.alloc();
+    let script = got(
+        &rt,
+        many(alloc, b"", INSERT, b"1 OVERLAP 0 0 0 0\n1 ABORT\n"),
+    );
+    let text = got(&rt, many_found(alloc));
+    gives(&rt, script.as_slice(), text.as_slice());
 }
 
 #[test]
-fn a_reader_that_fails_ends_the_script(rt: HostRuntime) -> Result<(), Fail> {
+fn a_reader_that_fails_ends_the_script(rt: HostRuntime) {
     let mut reader = Drip {
         rest: b"1 BEGIN\nx\n1 ABORT\n1 COM",
         size: 5,
@@ -343,57 +357,52 @@ fn a_reader_that_fails_ends_the_script(rt: HostRuntime) -> Result<(), Fail> {
         fails: true,
     };
     let mut writer = Vec::new(rt.alloc());
-    let mut index = List::new(rt.alloc());
-    let result = run(
-        &mut Noted::new(&mut reader),
-        &mut Noted::new(&mut writer),
-        &mut index,
-    );
-    assert!(rt; result == Err(ScriptFault::Read));
-    assert!(rt; writer.as_slice() == b"1 ok\nline 2 bad\n1 aborted\n".as_slice());
-    same(&rt, &index.calls, &2);
-    Ok(())
+    let mut list = List::new(rt.alloc());
+    let result = result_of(&mut list, &mut reader, &mut writer);
+    ends(&rt, result, Err(ScriptFault::Read));
+    let text = b"1 ok\nline 2 bad\n1 aborted\n".as_slice();
+    same(&rt, &(writer.as_slice(), list.calls), &(text, 2));
+}
+
+const TEXT: &[u8] = b"1 ok\n1 inserted\n1 found 1\n1 entry 7 0 0 1 1\n1 aborted\n";
+
+// How many calls are asked where the writer takes so much of that text.
+fn calls_asked(most: usize) -> u64 {
+    match most {
+        0..=4 => 1,
+        5..=15 => 2,
+        16..=43 => 3,
+        _ => 4,
+    }
 }
 
 // However much the writer takes, that is the front of the text, and no call is asked past the first reply that is cut.
-#[test]
-fn a_writer_that_fails_ends_the_script(rt: HostRuntime) -> Result<(), Fail> {
-    let text = b"1 ok\n1 inserted\n1 found 1\n1 entry 7 0 0 1 1\n1 aborted\n".as_slice();
-    for most in 0..text.len() {
-        let mut reader = b"1 BEGIN\n1 INSERT 7 0 0 1 1\n1 OVERLAP 0 0 1 1\n1 ABORT\n".as_slice();
-        let mut writer = Sip {
-            taken: Vec::new(rt.alloc()),
-            size: 3,
-            interrupts: false,
-            most,
-        };
-        let mut index = List::new(rt.alloc());
-        let result = run(
-            &mut Noted::new(&mut reader),
-            &mut Noted::new(&mut writer),
-            &mut index,
-        );
-        assert!(rt; result == Err(ScriptFault::Write));
-        assert!(rt; writer.taken.as_slice() == text.split_at(most).0);
-        let asked = if most < 5 {
-            1
-        } else if most < 16 {
-            2
-        } else if most < 44 {
-            3
-        } else {
-            4
-        };
-        same(&rt, &index.calls, &asked);
-    }
-    Ok(())
+fn stops_at<R: Abort + AllocGlobal>(rt: &R, most: usize) {
+    let mut reader = b"1 BEGIN\n1 INSERT 7 0 0 1 1\n1 OVERLAP 0 0 1 1\n1 ABORT\n".as_slice();
+    let mut writer = Sip {
+        taken: Vec::new(rt.alloc()),
+        size: 3,
+        interrupts: false,
+        most,
+    };
+    let mut list = List::new(rt.alloc());
+    let result = result_of(&mut list, &mut reader, &mut writer);
+    ends(rt, result, Err(ScriptFault::Write));
+    same(rt, &Some(writer.taken.as_slice()), &TEXT.get(..most));
+    same(rt, &list.calls, &calls_asked(most));
 }
 
 #[test]
-fn a_line_is_read_by_itself(rt: HostRuntime) -> Result<(), Fail> {
-    assert!(rt; parse(b" \t\r") == Line::Blank);
-    assert!(rt; parse(b"2 ABORT") == Line::Asks(2, Call::Abort));
-    assert!(rt; parse(b"300 EQUAL 1 0 0 0") == Line::Reversed(300));
-    assert!(rt; parse(b"2 ABORT\n") == Line::Bad);
-    Ok(())
+fn a_writer_that_fails_ends_the_script(rt: HostRuntime) {
+    for most in 0..TEXT.len() {
+        stops_at(&rt, most);
+    }
+}
+
+#[test]
+fn a_line_is_read_by_itself(rt: HostRuntime) {
+    holds(&rt, parse(b" \t\r") == Line::Blank);
+    holds(&rt, parse(b"2 ABORT") == Line::Asks(2, Call::Abort));
+    holds(&rt, parse(b"300 EQUAL 1 0 0 0") == Line::Reversed(300));
+    holds(&rt, parse(b"2 ABORT\n") == Line::Bad);
 }

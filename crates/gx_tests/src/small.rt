@@ -1,171 +1,259 @@
 //! Small changes of a page, byte for byte: one of each kind, and each page or key that it is refused for.
-use crate::nodes::{Numbered, is_alike, write, write_child, write_pair};
+ghost use Rattle.std.specs.Prelude.{◌≤◌};
+
+use crate::asserts::same;
+use crate::nodes::Item::{Child, Other, Pair};
+use crate::nodes::Key::{Of, Reversed};
+use crate::nodes::{Key, Node, Numbered, is_alike, put_node};
+use crate::pages::fresh;
+use Change::{Add, Mark, Remove, Set};
 use gx_class::{Box2Class, IntervalClass};
+use gx_node::MAX_ENTRIES;
 use gx_node::small::{add_pair, mark_pair, remove_slots, set_key};
 use gx_page::Page;
-use std::alloc::Global;
 use std::process::Abort;
-use std::test::Fail;
 
-/// A leaf whose pair of each number has its key, the row that is ten more, and this mark.
-fn put_leaf<K: Numbered>(rt: &impl Abort, page: &mut Page, marks: &[u8]) {
-    page.reset(0, 2);
-    page.set_nsn(0x0102_0304_0506_0708);
-    page.set_right(0x0a0b_0c0d);
-    let mut n: u8 = 0;
-    for mark in marks {
-        write_pair(rt, page, K::bytes(n), n.saturating_add(10), *mark);
-        n = n.saturating_add(1);
+/// How many of a key's 16 bytes are given: all, or all but the last.
+#[derive(Clone, Copy)]
+enum Given {
+    Whole,
+    Cut,
+}
+
+impl Given {
+    fn length(self) -> usize
+        ensures { result ≤ 16 }
+    {
+        match self {
+            Given::Whole => 16,
+            Given::Cut => 15,
+        }
     }
 }
 
-/// An inner node of level 3 whose children have these keys, and are on the pages from 21 on.
-fn put_inner<K: Numbered>(rt: &impl Abort, page: &mut Page, keys: &[u8]) {
-    page.reset(3, 2);
-    page.set_nsn(0x0102_0304_0506_0708);
-    let mut child: u8 = 21;
-    for key in keys {
-        write_child(rt, page, K::bytes(*key), child);
-        child = child.saturating_add(1);
+/// A small change, by a key's bytes or by slots of two bytes each.
+#[derive(Clone, Copy)]
+enum Change {
+    /// A row gets this mark.
+    Mark(u64, Key, bool),
+    /// A row comes to a leaf that has at most so many.
+    Add(usize, u64, Key),
+    /// A slot gets another key.
+    Set(usize, Key),
+    /// Slots leave.
+    Remove(&'static [u8]),
+}
+
+/// Whether a change is made.
+fn is_made<K: Numbered>(page: &mut Page, change: Change, given: Given) -> bool {
+    let length = given.length();
+    match change {
+        Mark(row, key, mark) => mark_pair::<K>(page, row, &key.bytes::<K>()[..length], mark),
+        Add(most, row, key) => {
+            add_pair::<K>(
+                page,
+                most.min(MAX_ENTRIES),
+                row,
+                &key.bytes::<K>()[..length],
+            )
+        }
+        Set(slot, key) => set_key::<K>(page, slot, &key.bytes::<K>()[..length]),
+        Remove(slots) => remove_slots::<K>(page, slots),
     }
 }
 
-/// Bytes that spell no key: the first corner lies behind the second.
-fn reversed<K: Numbered>() -> [u8; 16] {
-    let mut bytes = K::bytes(1);
-    bytes[0] = 1;
-    bytes
+/// A page, changes with whether each is made, and the page then.
+type Case = (Node, &'static [(Change, Given, bool)], Node);
+
+/// Fails unless the changes are made or not, and leave that page.
+fn changes<K: Numbered>(rt: &impl Abort, page: &mut Page, wanted: &mut Page, case: &Case) {
+    let (before, changes, after) = case;
+    put_node::<K>(rt, page, before);
+    for (change, given, is_wanted) in *changes {
+        same(rt, &is_made::<K>(page, *change, *given), is_wanted);
+    }
+    put_node::<K>(rt, wanted, after);
+    is_alike(rt, page, wanted, 0);
 }
 
-fn marks<K: Numbered>(rt: &impl Abort, alloc: Global) -> Result<(), Fail> {
-    let mut page = Page::fresh(alloc, 0, 2)?;
-    let mut wanted = Page::fresh(alloc, 0, 9)?;
-    put_leaf::<K>(rt, &mut page, &[0, 1, 0]);
-    assert!(rt; mark_pair::<K>(&mut page, 12, &K::bytes(2), true));
-    assert!(rt; mark_pair::<K>(&mut page, 11, &K::bytes(1), false));
-    put_leaf::<K>(rt, &mut wanted, &[0, 0, 1]);
-    is_alike(rt, &page, &wanted, 0);
-    for (row, key) in [(11, K::bytes(2)), (12, K::bytes(3)), (12, reversed::<K>())] {
-        assert!(rt; !mark_pair::<K>(&mut page, row, &key, false));
+fn all_change<K: Numbered>(rt: &(impl Abort + AllocGlobal), cases: &[Case]) {
+    let mut page = fresh(rt, 0, 2);
+    let mut wanted = fresh(rt, 0, 9);
+    for case in cases {
+        changes::<K>(rt, &mut page, &mut wanted, case);
     }
-    assert!(rt; !mark_pair::<K>(&mut page, 12, &K::bytes(2)[..15], false));
-    is_alike(rt, &page, &wanted, 1);
-    Ok(())
 }
+
+/// Leaves of three pairs, of which the second or the third is marked.
+const SECOND: Node = (
+    0,
+    &[Pair(Of(0), 10, 0), Pair(Of(1), 11, 1), Pair(Of(2), 12, 0)],
+);
+
+const THIRD: Node = (
+    0,
+    &[Pair(Of(0), 10, 0), Pair(Of(1), 11, 0), Pair(Of(2), 12, 1)],
+);
 
 /// Of two items that are one pair's, the first gets the mark.
-fn first_of_two<K: Numbered>(rt: &impl Abort, alloc: Global) -> Result<(), Fail> {
-    let mut page = Page::fresh(alloc, 0, 2)?;
-    let mut wanted = Page::fresh(alloc, 0, 2)?;
-    for n in 0..2u8 {
-        write_pair(rt, &mut page, K::bytes(5), 7, 0);
-        write_pair(rt, &mut wanted, K::bytes(5), 7, 1 - n);
-    }
-    assert!(rt; mark_pair::<K>(&mut page, 7, &K::bytes(5), true));
-    is_alike(rt, &page, &wanted, 0);
-    Ok(())
-}
+static MARKS: [Case; 3] = [
+    (
+        SECOND,
+        &[
+            (Mark(12, Of(2), true), Given::Whole, true),
+            (Mark(11, Of(1), false), Given::Whole, true),
+        ],
+        THIRD,
+    ),
+    (
+        THIRD,
+        &[
+            (Mark(11, Of(2), false), Given::Whole, false),
+            (Mark(12, Of(3), false), Given::Whole, false),
+            (Mark(12, Reversed, false), Given::Whole, false),
+            (Mark(12, Of(2), false), Given::Cut, false),
+        ],
+        THIRD,
+    ),
+    (
+        (0, &[Pair(Of(5), 7, 0), Pair(Of(5), 7, 0)]),
+        &[(Mark(7, Of(5), true), Given::Whole, true)],
+        (0, &[Pair(Of(5), 7, 1), Pair(Of(5), 7, 0)]),
+    ),
+];
 
-fn pairs<K: Numbered>(rt: &impl Abort, alloc: Global) -> Result<(), Fail> {
-    let mut page = Page::fresh(alloc, 0, 2)?;
-    let mut wanted = Page::fresh(alloc, 0, 9)?;
-    put_leaf::<K>(rt, &mut page, &[0, 1]);
-    assert!(rt; add_pair::<K>(&mut page, 3, 12, &K::bytes(2)));
-    put_leaf::<K>(rt, &mut wanted, &[0, 1, 0]);
-    is_alike(rt, &page, &wanted, 0);
-    for (row, key) in [(10, K::bytes(0)), (11, K::bytes(1)), (13, reversed::<K>())] {
-        assert!(rt; !add_pair::<K>(&mut page, 4, row, &key));
-    }
-    assert!(rt; !add_pair::<K>(&mut page, 4, 13, &K::bytes(3)[..15]));
-    assert!(rt; !add_pair::<K>(&mut page, 3, 13, &K::bytes(3)));
-    is_alike(rt, &page, &wanted, 1);
-    Ok(())
-}
+static PAIRS: [Case; 2] = [
+    (
+        (0, &[Pair(Of(0), 10, 0), Pair(Of(1), 11, 1)]),
+        &[(Add(3, 12, Of(2)), Given::Whole, true)],
+        SECOND,
+    ),
+    (
+        SECOND,
+        &[
+            (Add(4, 10, Of(0)), Given::Whole, false),
+            (Add(4, 11, Of(1)), Given::Whole, false),
+            (Add(4, 13, Reversed), Given::Whole, false),
+            (Add(4, 13, Of(3)), Given::Cut, false),
+            (Add(3, 13, Of(3)), Given::Whole, false),
+        ],
+        SECOND,
+    ),
+];
 
-fn keys<K: Numbered>(rt: &impl Abort, alloc: Global) -> Result<(), Fail> {
-    let mut page = Page::fresh(alloc, 0, 2)?;
-    let mut wanted = Page::fresh(alloc, 0, 9)?;
-    put_inner::<K>(rt, &mut page, &[4, 5, 6]);
-    assert!(rt; set_key::<K>(&mut page, 1, &K::bytes(90)));
-    put_inner::<K>(rt, &mut wanted, &[4, 90, 6]);
-    is_alike(rt, &page, &wanted, 0);
-    assert!(rt; !set_key::<K>(&mut page, 3, &K::bytes(7)));
-    assert!(rt; !set_key::<K>(&mut page, 2, &reversed::<K>()));
-    assert!(rt; !set_key::<K>(&mut page, 2, &K::bytes(7)[..15]));
-    is_alike(rt, &page, &wanted, 1);
-    Ok(())
-}
+const KEYS_BEFORE: Node = (3, &[Child(Of(4), 21), Child(Of(5), 22), Child(Of(6), 23)]);
 
-fn slots<K: Numbered>(rt: &impl Abort, alloc: Global) -> Result<(), Fail> {
-    let mut page = Page::fresh(alloc, 0, 2)?;
-    let mut wanted = Page::fresh(alloc, 0, 9)?;
-    put_leaf::<K>(rt, &mut page, &[0, 0, 1, 0, 1]);
-    wanted.copy_from(&page);
-    assert!(rt; !remove_slots::<K>(&mut page, &[0, 2, 0, 3]));
-    assert!(rt; !remove_slots::<K>(&mut page, &[0, 2, 0, 5]));
-    assert!(rt; !remove_slots::<K>(&mut page, &[1, 2]));
-    is_alike(rt, &page, &wanted, 0);
-    assert!(rt; remove_slots::<K>(&mut page, &[0, 2, 0, 4]));
-    put_leaf::<K>(rt, &mut wanted, &[0, 0]);
-    write_pair(rt, &mut wanted, K::bytes(3), 13, 0);
-    is_alike(rt, &page, &wanted, 1);
-    Ok(())
-}
+const KEYS_AFTER: Node = (3, &[Child(Of(4), 21), Child(Of(90), 22), Child(Of(6), 23)]);
 
-/// Fails unless no small change of a leaf fits the page.
-fn fits_no_leaf<K: Numbered>(rt: &impl Abort, page: &mut Page) {
-    assert!(rt; !mark_pair::<K>(page, 11, &K::bytes(1), false));
-    assert!(rt; !add_pair::<K>(page, 100, 19, &K::bytes(9)));
-    assert!(rt; !remove_slots::<K>(page, &[0, 1]));
-}
+static KEYS: [Case; 2] = [
+    (
+        KEYS_BEFORE,
+        &[(Set(1, Of(90)), Given::Whole, true)],
+        KEYS_AFTER,
+    ),
+    (
+        KEYS_AFTER,
+        &[
+            (Set(3, Of(7)), Given::Whole, false),
+            (Set(2, Reversed), Given::Whole, false),
+            (Set(2, Of(7)), Given::Cut, false),
+        ],
+        KEYS_AFTER,
+    ),
+];
+
+const FIVE: Node = (
+    0,
+    &[
+        Pair(Of(0), 10, 0),
+        Pair(Of(1), 11, 0),
+        Pair(Of(2), 12, 1),
+        Pair(Of(3), 13, 0),
+        Pair(Of(4), 14, 1),
+    ],
+);
+
+static SLOTS: [Case; 2] = [
+    (
+        FIVE,
+        &[
+            (Remove(&[0, 2, 0, 3]), Given::Whole, false),
+            (Remove(&[0, 2, 0, 5]), Given::Whole, false),
+            (Remove(&[1, 2]), Given::Whole, false),
+        ],
+        FIVE,
+    ),
+    (
+        FIVE,
+        &[(Remove(&[0, 2, 0, 4]), Given::Whole, true)],
+        (
+            0,
+            &[Pair(Of(0), 10, 0), Pair(Of(1), 11, 0), Pair(Of(3), 13, 0)],
+        ),
+    ),
+];
+
+/// Changes of a leaf, none of which is made.
+const OF_A_LEAF: &[(Change, Given, bool)] = &[
+    (Mark(11, Of(1), false), Given::Whole, false),
+    (Add(100, 19, Of(9)), Given::Whole, false),
+    (Remove(&[0, 1]), Given::Whole, false),
+];
+
+/// A change of an inner node that isn't made.
+const OF_AN_INNER_NODE: &[(Change, Given, bool)] = &[(Set(0, Of(7)), Given::Whole, false)];
 
 /// A leaf takes no bound, an inner node no pair, and a page with an item that is no entry takes nothing.
-fn others<K: Numbered>(rt: &impl Abort, alloc: Global) -> Result<(), Fail> {
-    let mut page = Page::fresh(alloc, 0, 2)?;
-    put_leaf::<K>(rt, &mut page, &[1, 1]);
-    assert!(rt; !set_key::<K>(&mut page, 0, &K::bytes(7)));
-    write_pair(rt, &mut page, K::bytes(2), 12, 2);
-    fits_no_leaf::<K>(rt, &mut page);
-    put_inner::<K>(rt, &mut page, &[1, 1]);
-    fits_no_leaf::<K>(rt, &mut page);
-    write(rt, &mut page, &[0; 21]);
-    assert!(rt; !set_key::<K>(&mut page, 0, &K::bytes(7)));
-    put_inner::<K>(rt, &mut page, &[1]);
-    write_child(rt, &mut page, reversed::<K>(), 22);
-    assert!(rt; !set_key::<K>(&mut page, 0, &K::bytes(7)));
-    page.reset(1, 2);
-    write_pair(rt, &mut page, K::bytes(1), 11, 1);
-    fits_no_leaf::<K>(rt, &mut page);
-    Ok(())
+const LEAF: Node = (0, &[Pair(Of(0), 10, 1), Pair(Of(1), 11, 1)]);
+
+const NO_LEAF: Node = (
+    0,
+    &[Pair(Of(0), 10, 1), Pair(Of(1), 11, 1), Pair(Of(2), 12, 2)],
+);
+
+const INNER: Node = (3, &[Child(Of(1), 21), Child(Of(1), 22)]);
+
+const NO_INNER: Node = (3, &[Child(Of(1), 21), Child(Of(1), 22), Other(&[0; 21])]);
+
+const NO_KEY: Node = (3, &[Child(Of(1), 21), Child(Reversed, 22)]);
+
+const PAIR_ABOVE: Node = (1, &[Pair(Of(1), 11, 1)]);
+
+static OTHERS: [Case; 6] = [
+    (LEAF, OF_AN_INNER_NODE, LEAF),
+    (NO_LEAF, OF_A_LEAF, NO_LEAF),
+    (INNER, OF_A_LEAF, INNER),
+    (NO_INNER, OF_AN_INNER_NODE, NO_INNER),
+    (NO_KEY, OF_AN_INNER_NODE, NO_KEY),
+    (PAIR_ABOVE, OF_A_LEAF, PAIR_ABOVE),
+];
+
+#[test]
+fn marks_of_pairs(rt: HostRuntime) {
+    all_change::<Box2Class>(&rt, &MARKS);
+    all_change::<IntervalClass>(&rt, &MARKS);
 }
 
 #[test]
-fn marks_of_pairs(rt: HostRuntime) -> Result<(), Fail> {
-    marks::<Box2Class>(&rt, rt.alloc())?;
-    marks::<IntervalClass>(&rt, rt.alloc())?;
-    first_of_two::<Box2Class>(&rt, rt.alloc())
+fn pairs_added(rt: HostRuntime) {
+    all_change::<Box2Class>(&rt, &PAIRS);
+    all_change::<IntervalClass>(&rt, &PAIRS);
 }
 
 #[test]
-fn pairs_added(rt: HostRuntime) -> Result<(), Fail> {
-    pairs::<Box2Class>(&rt, rt.alloc())?;
-    pairs::<IntervalClass>(&rt, rt.alloc())
+fn keys_of_bounds(rt: HostRuntime) {
+    all_change::<Box2Class>(&rt, &KEYS);
+    all_change::<IntervalClass>(&rt, &KEYS);
 }
 
 #[test]
-fn keys_of_bounds(rt: HostRuntime) -> Result<(), Fail> {
-    keys::<Box2Class>(&rt, rt.alloc())?;
-    keys::<IntervalClass>(&rt, rt.alloc())
+fn slots_removed(rt: HostRuntime) {
+    all_change::<Box2Class>(&rt, &SLOTS);
+    all_change::<IntervalClass>(&rt, &SLOTS);
 }
 
 #[test]
-fn slots_removed(rt: HostRuntime) -> Result<(), Fail> {
-    slots::<Box2Class>(&rt, rt.alloc())?;
-    slots::<IntervalClass>(&rt, rt.alloc())
-}
-
-#[test]
-fn pages_that_fit_nothing(rt: HostRuntime) -> Result<(), Fail> {
-    others::<Box2Class>(&rt, rt.alloc())?;
-    others::<IntervalClass>(&rt, rt.alloc())
+fn pages_that_fit_nothing(rt: HostRuntime) {
+    all_change::<Box2Class>(&rt, &OTHERS);
+    all_change::<IntervalClass>(&rt, &OTHERS);
 }

@@ -1,8 +1,8 @@
 -- A page that gets another node.
 use Rattle.std.proofs.Common.{◌≡◌, ◌≢◌, ℕ, zero, suc, ◌-◌, ◌<◌, ◌≤◌, List, length, get_or, set, refl, ap, ◌∙◌, arith}
 use Rattle.std.proofs.lemmas.List.{length-set, get_or-set_same, get_or-set_other}
-use Rattle.gx_tree_laws.specs.Steps.{ChangesOnly, node_with}
-use Rattle.gx_tree_laws.specs.Trees.{Pair, Child, Node, Used}
+use Rattle.gx_node.specs.Steps.{ChangesOnly, node_with}
+use Rattle.gx_node.specs.Trees.{Pair, Child, Node, Used}
 use Rattle.gx_node.specs.Store.{Store, node_at, blank, tree_of, with_node}
 
 module _ {B : Type 0} where

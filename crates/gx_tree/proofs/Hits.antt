@@ -1,7 +1,7 @@
 -- Hits gathered one after another are those that pass.
 use Rattle.std.proofs.Common.{◌≡◌, ℕ, zero, suc, ◌+◌, ◌<◌, ◌≤◌, Bool, true, false, cond, List, [], ◌∷◌, ◌++◌, length, map, filter, drop, get_or, refl, sym, ap, ◌∙◌, arith, Some, None}
 use Rattle.std.specs.Prelude.{slice_get}
-use Rattle.gx_tree_laws.specs.Lists.{how_many, one_if}
+use Rattle.gx_node.specs.Lists.{how_many, one_if}
 use Rattle.gx_node.specs.Hits.{IsNextHit}
 use Rattle.std.proofs.lemmas.List.{length-map}
 use Rattle.gx_node.proofs.Slots.{made_at}

@@ -1,15 +1,15 @@
 -- Keys stay keys of the class.
 use Rattle.std.proofs.Common.{◌≡◌, ◌≢◌, ℕ, suc, ◌<◌, ◌≤◌, inl, inr, Bool, true, false, List, [], ◌∷◌, ◌++◌, filter, sym, subst, arith}
 use Rattle.std.specs.Prelude.{if◌then◌else◌}
-use Rattle.gx_tree_laws.specs.Lists.{Each}
-use Rattle.gx_tree_laws.specs.Trees.{Pair, Child, Node, Tree, Rules, Used, times, child_pages, is_entry}
-use Rattle.gx_tree_laws.specs.Legal.{Legal}
-use Rattle.gx_tree_laws.specs.Steps.{Step, Splits, SplitsRoot, Widens, Adds, Marks, Sweeps, IsStep, IsSplit, IsRootSplit, ChangesOnly, with_key, with_mark, spares}
+use Rattle.gx_node.specs.Lists.{Each}
+use Rattle.gx_node.specs.Trees.{Pair, Child, Node, Tree, Rules, Used, times, child_pages, is_entry}
+use Rattle.gx_node.specs.Legal.{Legal}
+use Rattle.gx_node.specs.Steps.{Step, Splits, SplitsRoot, Widens, Adds, Marks, Sweeps, IsStep, IsSplit, IsRootSplit, ChangesOnly, with_key, with_mark, spares}
 use Rattle.std.proofs.lemmas.Bool.{cases_eq}
-use Rattle.gx_tree_laws.proofs.Chains.{some_times, each_with_key}
-use Rattle.gx_tree_laws.proofs.PageSteps.{each_filter}
-use Rattle.gx_tree_laws.proofs.Runs.{each_child_used}
-use Rattle.gx_tree_laws.proofs.Sums.{each-append, each_staying, each_going, each_map}
+use Rattle.gx_node.proofs.Chains.{some_times, each_with_key}
+use Rattle.gx_node.proofs.PageSteps.{each_filter}
+use Rattle.gx_node.proofs.Runs.{each_child_used}
+use Rattle.gx_node.proofs.Sums.{each-append, each_staying, each_going, each_map}
 use Rattle.gx_node.specs.Keyed.{AreKeys, BringsKeys}
 
 module _ {K : Type 0} (IsKey : K → Type 0) where

@@ -4,7 +4,7 @@ use Rattle.std.specs.Cmp.{IsTotalOrder, tied_itself, Equal-is}
 use Rattle.std.specs.Ordering.{is_eq}
 use Rattle.std.specs.declared.cmp.Ordering.{Ordering}
 use Rattle.std.specs.declared.cmp.Ordering.TheVariants.{Equal}
-use Rattle.gx_tree_laws.specs.Trees.{IsLawful}
+use Rattle.gx_node.specs.Trees.{IsLawful}
 
 pub lawful : {B : Type 0} (cmp : B → B → Ordering) (inside : B → B → Bool) (most : ℕ) → 2 ≤ most → IsTotalOrder cmp
     → ((a b c : B) → inside a b ≡ true → inside b c ≡ true → inside a c ≡ true) → ((a b : B) → cmp a b ≡ Equal → a ≡ b)

@@ -5,8 +5,8 @@ use Rattle.std.proofs.lemmas.Option.{slice_get_within}
 use Rattle.gx_page.specs.Contents.{Contents}
 use Rattle.gx_node.specs.Edits.{with_pairs, marked_as}
 use Rattle.gx_node.specs.Reading.{Format, leaf_of, inner_of}
-use Rattle.gx_tree_laws.specs.Steps.{ChangesOnly, node_with}
-use Rattle.gx_tree_laws.specs.Trees.{Pair, Child, Node, Used}
+use Rattle.gx_node.specs.Steps.{ChangesOnly, node_with}
+use Rattle.gx_node.specs.Trees.{Pair, Child, Node, Used}
 use Rattle.gx_tree.specs.Seeking.{Seeks}
 use Rattle.gx_node.specs.Store.{Store, node_of, node_at, tree_of, with_node}
 use Rattle.gx_tree.specs.Writing.{SetsMark}

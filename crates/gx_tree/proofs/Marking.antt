@@ -4,11 +4,11 @@ use Rattle.std.specs.Prelude.{slice_get}
 use Rattle.std.proofs.lemmas.Bool.{cases_eq}
 use Rattle.gx_machine.specs.declared.entry.Entry.{Entry}
 use Rattle.gx_node.proofs.OneChanged.{mark_once}
-use Rattle.gx_tree_laws.specs.Legal.{Legal}
-use Rattle.gx_tree_laws.specs.Lists.{Each, sum_over, how_many}
-use Rattle.gx_tree_laws.specs.Steps.{ChangesOnly, EntriesCover, IsAdding, IsMarking}
-use Rattle.gx_tree_laws.specs.Trees.{Pair, Tree, Rules, Used, times, leaves, standing, is_entry}
-use Rattle.gx_tree_laws.proofs.Chains.{one_off}
+use Rattle.gx_node.specs.Legal.{Legal}
+use Rattle.gx_node.specs.Lists.{Each, sum_over, how_many}
+use Rattle.gx_node.specs.Steps.{ChangesOnly, EntriesCover, IsAdding, IsMarking}
+use Rattle.gx_node.specs.Trees.{Pair, Tree, Rules, Used, times, leaves, standing, is_entry}
+use Rattle.gx_node.proofs.Chains.{one_off}
 use Rattle.gx_node.specs.Store.{Store, tree_of, node_at}
 use Rattle.gx_tree.specs.Writing.{Appends, SetsMark, live}
 use Rattle.gx_tree.specs.declared.seek.Sought.TheVariants.{Here}

@@ -5,8 +5,8 @@ use Rattle.std.proofs.lemmas.Bool.{eqb-true}
 use Rattle.std.proofs.lemmas.List.{length-map}
 use Rattle.gx_node.specs.Hits.{IsNextHit}
 use Rattle.gx_node.proofs.Slots.{made_at}
-use Rattle.gx_tree_laws.specs.Lists.{one_if, how_many}
-use Rattle.gx_tree_laws.specs.Trees.{Child, times}
+use Rattle.gx_node.specs.Lists.{one_if, how_many}
+use Rattle.gx_node.specs.Trees.{Child, times}
 use Rattle.gx_tree.specs.Splitting.{NamesOnce}
 use Rattle.gx_tree.proofs.Hits.{next_taken, none_left, none_behind, hit_alone, hit_passes}
 

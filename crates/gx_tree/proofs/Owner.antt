@@ -1,11 +1,17 @@
--- Why pages were refused.
-use Rattle.gx_node.specs.declared.fault.StepFault.{StepFault}
-use Rattle.gx_node.specs.declared.fault.StepFault.TheVariants.{Memory, Damaged, PagesFull, Pages}
-use Rattle.gx_node.specs.Owner.{IsWhy}
+-- What a step leaves that was refused.
+use Rattle.std.specs.Prelude.{Result, Ok, Err, OnErr}
+use Rattle.gx_node.specs.declared.fault.SplitFault.{SplitFault}
+use Rattle.gx_node.specs.declared.fault.SplitFault.TheVariants.{PagesFull, Step}
+use Rattle.gx_node.specs.declared.fault.StepFault.TheVariants.{Damaged, Pages}
+use Rattle.gx_node.specs.Owner.{IsWhyOfSplit}
 
 -- a fault that isn't of pages needs no reason
-pub why_any : {F : Type 0} (why : F → Type 0) (fault : StepFault F) → IsWhy (λ _. ⊥) fault → IsWhy why fault
-why_any why Memory is = is
-why_any why Damaged is = is
+pub why_any : {F : Type 0} (why : F → Type 0) (fault : SplitFault F) → IsWhyOfSplit (λ _. ⊥) fault → IsWhyOfSplit why fault
 why_any why PagesFull is = is
-why_any why (Pages fault) is = absurd is
+why_any why (Step Damaged) is = is
+why_any why (Step (Pages fault)) is = absurd is
+
+-- what holds, holds where a step was refused
+pub where_refused : {A F P : Type 0} (result : Result A F) → P → OnErr result P
+where_refused (Ok done) holds = tt
+where_refused (Err fault) holds = holds

@@ -7,10 +7,10 @@ use Rattle.std.proofs.Math.Seq.{take-append_seam}
 use Rattle.gx_class.specs.Sides.{LeavesEach}
 use Rattle.gx_page.specs.Contents.{Contents}
 use Rattle.gx_node.specs.Reading.{Format, leaf_of, inner_of, pair_of, child_of}
-use Rattle.gx_tree_laws.specs.Lists.{Each, staying, going}
-use Rattle.gx_tree_laws.specs.Trees.{Pair, Child, Node, Rules, size}
-use Rattle.gx_tree_laws.specs.Steps.{IsUnion}
-use Rattle.gx_tree_laws.proofs.Sums.{each-map, each_unmap, map_parted_staying, map_parted_going}
+use Rattle.gx_node.specs.Lists.{Each, staying, going}
+use Rattle.gx_node.specs.Trees.{Pair, Child, Node, Rules, size}
+use Rattle.gx_node.specs.Steps.{IsUnion}
+use Rattle.gx_node.proofs.Sums.{each-map, each_unmap, map_parted_staying, map_parted_going}
 use Rattle.gx_tree.specs.Halved.{Halved}
 use Rattle.gx_tree.specs.Splitting.{AreHalves, HalvesKeys, Unites, UnitesAny, keys_in, least_of, left_of, right_of, on_side}
 use Rattle.gx_node.specs.Store.{node_of}

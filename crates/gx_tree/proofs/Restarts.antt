@@ -1,11 +1,11 @@
 -- A descent begins again at a full node that can't be split.
 use Rattle.std.proofs.Common.{◌≡◌, ◌≢◌, ◌∙◌, ◌==◌, ◌||◌, ◌&&◌, ℕ, Bool, true, false, not, inl, inr, refl, ap, arith}
 use Rattle.std.proofs.lemmas.Bool.{ne_eqb}
-use Rattle.gx_tree_laws.specs.Trees.{Tree, Rules, Used, times, child_pages}
-use Rattle.gx_tree_laws.specs.Legal.{Legal}
-use Rattle.gx_tree_laws.specs.Reach.{TraversalItem}
-use Rattle.gx_tree_laws.specs.Writes.{has_place, must_restart}
-use Rattle.gx_tree_laws.proofs.Sums.{total_one}
+use Rattle.gx_node.specs.Trees.{Tree, Rules, Used, times, child_pages}
+use Rattle.gx_node.specs.Legal.{Legal}
+use Rattle.gx_node.specs.Reach.{TraversalItem}
+use Rattle.gx_node.specs.Writes.{has_place, must_restart}
+use Rattle.gx_node.proofs.Sums.{total_one}
 use Rattle.gx_tree.specs.Splitting.{HasNoPlace}
 
 or_right : (a b : Bool) → b ≡ true → (a || b) ≡ true

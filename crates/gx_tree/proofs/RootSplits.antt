@@ -1,10 +1,10 @@
 -- A split of the root, from the changes that make it.
 use Rattle.std.proofs.Common.{◌≡◌, ℕ, suc, ◌+◌, ◌-◌, ◌^◌, ◌<◌, ◌≤◌, ◌⊎◌, inl, inr, Bool, not, List, [], ◌∷◌, length, map, refl, sym, ap, ◌∙◌, subst, arith}
 use Rattle.std.proofs.lemmas.List.{length-set, length-append}
-use Rattle.gx_tree_laws.specs.Lists.{staying, going}
-use Rattle.gx_tree_laws.specs.Trees.{Node, Rules, Used, size}
-use Rattle.gx_tree_laws.specs.Legal.{Legal}
-use Rattle.gx_tree_laws.specs.Steps.{IsUnion, IsRootSplit, node_with}
+use Rattle.gx_node.specs.Lists.{staying, going}
+use Rattle.gx_node.specs.Trees.{Node, Rules, Used, size}
+use Rattle.gx_node.specs.Legal.{Legal}
+use Rattle.gx_node.specs.Steps.{IsUnion, IsRootSplit, node_with}
 use Rattle.gx_node.specs.declared.items.TheConstants.{MAX_ENTRIES}
 use Rattle.gx_node.specs.Store.{Store, node_at, tree_of, with_node, with_page}
 use Rattle.gx_tree.specs.Splitting.{left_of, right_of, least_of, keys_in, CanSplitRoot, DidSplitRoot}

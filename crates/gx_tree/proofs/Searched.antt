@@ -2,14 +2,14 @@
 use Rattle.std.proofs.Common.{◌≡◌, ◌&&◌, Bool, true, List, [], ◌∷◌, length, ap, sym, ◌∙◌, arith}
 use Rattle.std.specs.Prelude.{Result, Err}
 use Rattle.std.proofs.lemmas.Bool.{and_parts}
-use Rattle.gx_tree_laws.specs.Lists.{one_if, how_many, Each}
-use Rattle.gx_tree_laws.specs.Trees.{Pair, Tree, Rules, leaves, standing}
-use Rattle.gx_tree_laws.specs.Legal.{Legal}
-use Rattle.gx_tree_laws.specs.Reach.{TraversalItem}
-use Rattle.gx_tree_laws.specs.Looks.{IsLook, LeadsTo}
-use Rattle.gx_tree_laws.proofs.Chains.{each_linked}
-use Rattle.gx_tree_laws.proofs.KeysLead.{keys_lead}
-use Rattle.gx_tree_laws.proofs.Sums.{sum_over_same, each_map}
+use Rattle.gx_node.specs.Lists.{one_if, how_many, Each}
+use Rattle.gx_node.specs.Trees.{Pair, Tree, Rules, leaves, standing}
+use Rattle.gx_node.specs.Legal.{Legal}
+use Rattle.gx_node.specs.Reach.{TraversalItem}
+use Rattle.gx_node.specs.Looks.{IsLook, LeadsTo}
+use Rattle.gx_node.proofs.Chains.{each_linked}
+use Rattle.gx_node.proofs.KeysLead.{keys_lead}
+use Rattle.gx_node.proofs.Sums.{sum_over_same, each_map}
 use Rattle.gx_node.specs.Keyed.{AreKeys}
 
 -- the same error in results of two types

@@ -1,10 +1,10 @@
 -- Sides that a test gives.
 use Rattle.std.proofs.Common.{◌≡◌, ℕ, suc, ◌<◌, Bool, true, false, cond, not, ◌&&◌, ◌||◌, List, [], ◌∷◌, length, map, filter, get_or, refl, sym, ap, ◌∙◌, arith, Some}
 use Rattle.std.specs.Prelude.{slice_get}
-use Rattle.gx_tree_laws.specs.Lists.{staying}
-use Rattle.gx_tree_laws.specs.Steps.{spares}
-use Rattle.gx_tree_laws.specs.Trees.{Pair}
-use Rattle.gx_tree_laws.specs.Writes.{is_sweepable}
+use Rattle.gx_node.specs.Lists.{staying}
+use Rattle.gx_node.specs.Steps.{spares}
+use Rattle.gx_node.specs.Trees.{Pair}
+use Rattle.gx_node.specs.Writes.{is_sweepable}
 
 module _ {X : Type 0} (test : X → Bool) where
   -- up to a slot the sides are what the test says

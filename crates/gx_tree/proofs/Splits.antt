@@ -2,9 +2,9 @@
 use Rattle.std.proofs.Common.{◌≡◌, ◌≢◌, ℕ, zero, suc, ◌+◌, ◌-◌, ◌<◌, ◌≤◌, Bool, true, false, not, List, [], ◌∷◌, ◌++◌, length, map, take, set, get_or, refl, sym, ap, ◌∙◌, subst, arith}
 use Rattle.std.proofs.Math.Seq.{get_or-append_seam}
 use Rattle.std.proofs.lemmas.List.{length-set, length-append, set-set, get_or-set_same, get_or-set_other, take_more, take_more_set}
-use Rattle.gx_tree_laws.specs.Lists.{staying, going}
-use Rattle.gx_tree_laws.specs.Trees.{Node, Rules, Used, size}
-use Rattle.gx_tree_laws.specs.Steps.{IsUnion, IsSplit, node_with}
+use Rattle.gx_node.specs.Lists.{staying, going}
+use Rattle.gx_node.specs.Trees.{Node, Rules, Used, size}
+use Rattle.gx_node.specs.Steps.{IsUnion, IsSplit, node_with}
 use Rattle.gx_node.specs.Store.{Store, node_at, tree_of, blank, with_node, with_page, with_split}
 use Rattle.gx_tree.specs.Splitting.{left_of, right_of, least_of, keys_in, parent_of, split_store, CanSplit, DidSplit}
 use Rattle.gx_tree.proofs.Hits.{map-append}

@@ -5,10 +5,10 @@ use Rattle.std.proofs.lemmas.Bool.{eqb-true}
 use Rattle.std.proofs.lemmas.List.{take_more_set, length-set}
 use Rattle.gx_machine.specs.declared.entry.Entry.{Entry}
 use Rattle.gx_node.specs.Edits.{entry_of}
-use Rattle.gx_tree_laws.specs.Lists.{how_many, one_if, staying}
-use Rattle.gx_tree_laws.specs.Trees.{Pair, Node}
-use Rattle.gx_tree_laws.specs.Steps.{ChangesOnly, IsSweep, spares}
-use Rattle.gx_tree_laws.specs.Writes.{is_sweepable}
+use Rattle.gx_node.specs.Lists.{how_many, one_if, staying}
+use Rattle.gx_node.specs.Trees.{Pair, Node}
+use Rattle.gx_node.specs.Steps.{ChangesOnly, IsSweep, spares}
+use Rattle.gx_node.specs.Writes.{is_sweepable}
 use Rattle.gx_node.specs.Store.{Store, node_at, tree_of}
 use Rattle.gx_tree.specs.Sweeping.{Planned, PlansSweep, TakesOut, slots_from, slots_of, takes_none}
 use Rattle.gx_tree.specs.Writing.{Swept}

@@ -1,13 +1,13 @@
 -- The order of a look's stack doesn't matter.
 use Rattle.std.proofs.Common.{◌≡◌, ℕ, ◌+◌, ◌<◌, ◌≤◌, ◌&&◌, ◌==◌, Bool, List, [], ◌∷◌, ◌++◌, map, filter, length, refl, ap, sym, ◌∙◌, subst, arith}
 use Rattle.std.proofs.lemmas.List.{append_assoc}
-use Rattle.gx_tree_laws.specs.Lists.{one_if, how_many}
-use Rattle.gx_tree_laws.specs.Trees.{Pair, Tree, Rules, IsLawful, Used}
-use Rattle.gx_tree_laws.specs.Legal.{Legal}
-use Rattle.gx_tree_laws.specs.Reach.{TraversalItem, ahead_of, ahead, pages_ahead}
-use Rattle.gx_tree_laws.specs.Looks.{ItemFits, IsLook, LeadsTo, stacked, found_with}
-use Rattle.gx_tree_laws.proofs.Sums.{sum_over-append, each_parts, each-append}
-use Rattle.gx_tree_laws.proofs.OwnLook.{look_goes_on, pages_fall, item_used, ahead_less}
+use Rattle.gx_node.specs.Lists.{one_if, how_many}
+use Rattle.gx_node.specs.Trees.{Pair, Tree, Rules, IsLawful, Used}
+use Rattle.gx_node.specs.Legal.{Legal}
+use Rattle.gx_node.specs.Reach.{TraversalItem, ahead_of, ahead, pages_ahead}
+use Rattle.gx_node.specs.Looks.{ItemFits, IsLook, LeadsTo, stacked, found_with}
+use Rattle.gx_node.proofs.Sums.{sum_over-append, each_parts, each-append}
+use Rattle.gx_node.proofs.OwnLook.{look_goes_on, pages_fall, item_used, ahead_less}
 use Rattle.gx_tree.specs.declared.found.Found.{Found}
 use Rattle.gx_tree.specs.Found.{pair_found, pairs_found, found_at}
 use Rattle.gx_tree.specs.Looking.{beyond, below, LookStep}

@@ -1,13 +1,13 @@
 -- The entry by which a descent goes down is the only one that names its page.
 use Rattle.std.proofs.Common.{◌≡◌, ◌≢◌, ℕ, zero, suc, ◌<◌, ◌≤◌, ◌==◌, true, List, [], ◌∷◌, map, ap, sym, subst, arith, Some}
 use Rattle.std.specs.Prelude.{slice_get}
-use Rattle.gx_tree_laws.specs.Lists.{Each, one_if}
-use Rattle.gx_tree_laws.specs.Trees.{Child, Tree, Rules, Used, child_pages, times, parents}
-use Rattle.gx_tree_laws.specs.Legal.{ChildFits, Legal}
-use Rattle.gx_tree_laws.specs.Writes.{IsDescent}
-use Rattle.gx_tree_laws.proofs.Chains.{one_at, none_times}
-use Rattle.gx_tree_laws.proofs.DescentSteps.{descent_goes_down}
-use Rattle.gx_tree_laws.proofs.Sums.{each_map, each_unmap, total_one}
+use Rattle.gx_node.specs.Lists.{Each, one_if}
+use Rattle.gx_node.specs.Trees.{Child, Tree, Rules, Used, child_pages, times, parents}
+use Rattle.gx_node.specs.Legal.{ChildFits, Legal}
+use Rattle.gx_node.specs.Writes.{IsDescent}
+use Rattle.gx_node.proofs.Chains.{one_at, none_times}
+use Rattle.gx_node.proofs.DescentSteps.{descent_goes_down}
+use Rattle.gx_node.proofs.Sums.{each_map, each_unmap, total_one}
 
 module _ {K : Type 0} where
   -- what holds of each entry holds of a slot's

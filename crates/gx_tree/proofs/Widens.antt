@@ -4,13 +4,13 @@ use Rattle.std.specs.Prelude.{slice_get, IfSome}
 use Rattle.std.proofs.lemmas.Bool.{cases_eq}
 use Rattle.gx_node.specs.Edits.{bounded_by}
 use Rattle.gx_node.proofs.OneChanged.{bound_once}
-use Rattle.gx_tree_laws.specs.Lists.{Each}
-use Rattle.gx_tree_laws.specs.Trees.{Pair, Child, Node, Tree, Rules, IsLawful, Used, standing}
-use Rattle.gx_tree_laws.specs.Legal.{Legal}
-use Rattle.gx_tree_laws.specs.Steps.{ChangesOnly, EntriesCover, IsWidening, with_key}
-use Rattle.gx_tree_laws.specs.Reach.{TraversalItem}
-use Rattle.gx_tree_laws.specs.Writes.{IsDescent}
-use Rattle.gx_tree_laws.proofs.PageSteps.{legal_widened, standing_widened}
+use Rattle.gx_node.specs.Lists.{Each}
+use Rattle.gx_node.specs.Trees.{Pair, Child, Node, Tree, Rules, IsLawful, Used, standing}
+use Rattle.gx_node.specs.Legal.{Legal}
+use Rattle.gx_node.specs.Steps.{ChangesOnly, EntriesCover, IsWidening, with_key}
+use Rattle.gx_node.specs.Reach.{TraversalItem}
+use Rattle.gx_node.specs.Writes.{IsDescent}
+use Rattle.gx_node.proofs.PageSteps.{legal_widened, standing_widened}
 use Rattle.gx_tree.specs.declared.descent.Descended.{Descended}
 use Rattle.gx_tree.specs.declared.descent.Descended.TheVariants.{Again, Leaf, FullLeaf, FullInner, Down, Widened}
 use Rattle.gx_tree.specs.Descending.{StepsDown, next_of}

@@ -3,9 +3,9 @@ use Rattle.std.specs.Prelude.{◌≡◌, ◌≢◌, ℕ, Bool, true, false, ◌<
 use Rattle.std.specs.List.{IsFirstBest}
 use Rattle.gx_node.specs.Hits.{costs_less}
 use Rattle.gx_node.specs.Edits.{bounded_by}
-use Rattle.gx_tree_laws.specs.Trees.{Child, Node}
-use Rattle.gx_tree_laws.specs.Steps.{ChangesOnly}
-use Rattle.gx_tree_laws.specs.Reach.{TraversalItem}
+use Rattle.gx_node.specs.Trees.{Child, Node}
+use Rattle.gx_node.specs.Steps.{ChangesOnly}
+use Rattle.gx_node.specs.Reach.{TraversalItem}
 use Rattle.gx_node.specs.Store.{Store, tree_of}
 use Rattle.gx_tree.specs.declared.descent.Way.{Way}
 use Rattle.gx_tree.specs.declared.descent.Way.TheVariants.{Again, Add, FullLeaf, FullInner, Down, Widen}
@@ -54,6 +54,15 @@ is_widened did.Again = false
 is_widened did.Leaf = false
 is_widened did.FullLeaf = false
 is_widened did.FullInner = false
+
+-- the slot whose bound was widened, if one was, is below so many
+abbrev pub SlotBelow : {B : Type 0} → ℕ → Descended B → Type 0
+SlotBelow most (did.Widened next slot key) = slot < most
+SlotBelow most (did.Down next) = Unit {0}
+SlotBelow most did.Again = Unit {0}
+SlotBelow most did.Leaf = Unit {0}
+SlotBelow most did.FullLeaf = Unit {0}
+SlotBelow most did.FullInner = Unit {0}
 
 -- the item to which it went down, if it did
 abbrev pub next_of : {B : Type 0} → Descended B → Option TraversalItem

@@ -1,6 +1,6 @@
 -- What a look found, as the pairs that it stands for.
 use Rattle.std.specs.Prelude.{ℕ, List, map}
-use Rattle.gx_tree_laws.specs.Trees.{Pair}
+use Rattle.gx_node.specs.Trees.{Pair}
 use Rattle.gx_tree.specs.declared.found.Found.{Found}
 
 abbrev pub pair_found : {B : Type 0} → Found B → Pair B

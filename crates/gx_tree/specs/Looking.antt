@@ -1,7 +1,7 @@
 -- A step of a look, whose stack has its top last.
 use Rattle.std.specs.Prelude.{ℕ, ◌≡◌, Bool, if◌then◌else◌, nat_lt, List, [], ◌∷◌, ◌++◌, map, filter}
-use Rattle.gx_tree_laws.specs.Trees.{Pair, Child, Node, Tree}
-use Rattle.gx_tree_laws.specs.Reach.{TraversalItem}
+use Rattle.gx_node.specs.Trees.{Pair, Child, Node, Tree}
+use Rattle.gx_node.specs.Reach.{TraversalItem}
 use Rattle.gx_tree.specs.declared.found.Found.{Found}
 use Rattle.gx_tree.specs.Found.{found_at}
 

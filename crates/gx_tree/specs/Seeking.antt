@@ -1,7 +1,7 @@
 -- What a seek comes to at a leaf.
 use Rattle.std.specs.Prelude.{◌≡◌, Bool, true, false, Some, slice_get}
-use Rattle.gx_tree_laws.specs.Lists.{how_many}
-use Rattle.gx_tree_laws.specs.Trees.{Pair, Node}
+use Rattle.gx_node.specs.Lists.{how_many}
+use Rattle.gx_node.specs.Trees.{Pair, Node}
 use Rattle.gx_tree.specs.declared.seek.Sought.{Sought}
 use Rattle.gx_tree.specs.declared.seek.Sought.TheVariants.{Here, Right}
 

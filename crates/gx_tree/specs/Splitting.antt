@@ -2,10 +2,10 @@
 use Rattle.std.specs.Prelude.{◌≡◌, ℕ, suc, ◌<◌, ◌≤◌, ◌+◌, ◌*◌, ◌/◌, ◌^◌, ◌⊎◌, max, Bool, true, false, List, [], ◌∷◌, ◌++◌, length, map, slice_get, Option, Some, None}
 use Rattle.gx_node.specs.Edits.{with_children}
 use Rattle.gx_node.specs.declared.items.TheConstants.{MAX_ENTRIES}
-use Rattle.gx_tree_laws.specs.Lists.{Each, staying, going}
-use Rattle.gx_tree_laws.specs.Trees.{Child, Node, Tree, Rules, size, times, child_pages}
-use Rattle.gx_tree_laws.specs.Steps.{IsUnion, IsSplit, IsRootSplit, node_with, with_key}
-use Rattle.gx_tree_laws.specs.Writes.{has_place}
+use Rattle.gx_node.specs.Lists.{Each, staying, going}
+use Rattle.gx_node.specs.Trees.{Child, Node, Tree, Rules, size, times, child_pages}
+use Rattle.gx_node.specs.Steps.{IsUnion, IsSplit, IsRootSplit, node_with, with_key}
+use Rattle.gx_node.specs.Writes.{has_place}
 use Rattle.gx_tree.specs.Halved.{Halved}
 use Rattle.gx_node.specs.Store.{Store, node_at, tree_of, with_node, with_page, with_split}
 use Rattle.gx_tree.specs.declared.split.Split.{Split}

@@ -2,10 +2,10 @@
 use Rattle.std.specs.Prelude.{◌≡◌, ℕ, suc, ◌==◌, Bool, true, false, List, [], ◌∷◌, length, map}
 use Rattle.gx_machine.specs.declared.entry.Entry.{Entry}
 use Rattle.gx_node.specs.Edits.{entry_of}
-use Rattle.gx_tree_laws.specs.Lists.{staying}
-use Rattle.gx_tree_laws.specs.Trees.{Node}
-use Rattle.gx_tree_laws.specs.Steps.{ChangesOnly}
-use Rattle.gx_tree_laws.specs.Writes.{is_sweepable}
+use Rattle.gx_node.specs.Lists.{staying}
+use Rattle.gx_node.specs.Trees.{Node}
+use Rattle.gx_node.specs.Steps.{ChangesOnly}
+use Rattle.gx_node.specs.Writes.{is_sweepable}
 use Rattle.gx_node.specs.Owner.{Asking, Prepares}
 use Rattle.gx_node.specs.Store.{Store, tree_of}
 

@@ -1,6 +1,6 @@
 -- What a look wants.
 use Rattle.std.specs.Prelude.{ℕ, Bool, not, ◌&&◌, ◌==◌, Option, Some, None}
-use Rattle.gx_tree_laws.specs.Trees.{Pair}
+use Rattle.gx_node.specs.Trees.{Pair}
 
 -- whether a pair is live, or else has the row that is asked for
 abbrev pub has_row : {B : Type 0} → Option ℕ → Pair B → Bool

@@ -1,10 +1,10 @@
 -- What the steps that write do to the pages.
 use Rattle.std.specs.Prelude.{◌≡◌, ℕ, ◌<◌, Bool, true, false, [], ◌∷◌, ◌++◌, length, Some, slice_get, slice_set}
 use Rattle.gx_machine.specs.declared.entry.Entry.{Entry}
-use Rattle.gx_tree_laws.specs.Lists.{how_many}
-use Rattle.gx_tree_laws.specs.Trees.{Pair, Tree}
-use Rattle.gx_tree_laws.specs.Steps.{ChangesOnly, IsSweep}
-use Rattle.gx_tree_laws.specs.Writes.{is_sweepable}
+use Rattle.gx_node.specs.Lists.{how_many}
+use Rattle.gx_node.specs.Trees.{Pair, Tree}
+use Rattle.gx_node.specs.Steps.{ChangesOnly, IsSweep}
+use Rattle.gx_node.specs.Writes.{is_sweepable}
 use Rattle.gx_node.specs.Edits.{marked_as, entry_of}
 use Rattle.gx_tree.specs.Seeking.{Seeks}
 use Rattle.gx_node.specs.Store.{Store, tree_of}

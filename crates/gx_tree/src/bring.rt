@@ -1,6 +1,6 @@
 //! A page is brought for a step.
-ghost use Rattle.std.specs.Prelude.{◌≡◌, ◌≢◌, [], ◌∷◌, Err, IfErr, OnOk, OnErr};
-ghost use Rattle.gx_tree_laws.specs.Trees.{Used};
+ghost use Rattle.std.specs.Prelude.{◌≡◌, [], ◌∷◌, Err, IfErr, OnOk, OnErr};
+ghost use Rattle.gx_node.specs.Trees.{Used};
 ghost use Rattle.gx_node.specs.Owner.{Brings, AsksAtMost, KeepsSince, IsWhy, IsWhyLater, Asks};
 ghost use Rattle.gx_node.specs.Store.{Stays, tree_of};
 
@@ -23,14 +23,10 @@ pub(crate) fn bring_page<K: KeyClass, P: Pages<K>>(
     ensures why { IfErr result (IsWhy (P.why pages.old pages.new)) }
     ensures later { OnOk result (IsWhyLater P.why pages.old pages.new) }
     ensures damaged { result ≡ Err StepFault.Damaged → ¬ Used (tree_of (P.store pages.new)) page }
-    ensures memory { result ≢ Err StepFault.Memory }
-    ensures full { result ≢ Err StepFault.PagesFull }
 {
     if page == 0 || pages.used() < page {
         return Err(StepFault::Damaged);
     }
-    match pages.bring(&[page]) {
-        Ok(()) => Ok(()),
-        Err(fault) => Err(StepFault::Pages(fault)),
-    }
+    pages.bring(&[page])?;
+    Ok(())
 }

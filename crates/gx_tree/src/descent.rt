@@ -3,8 +3,8 @@ ghost use Rattle.std.specs.Prelude.{◌≡◌, ◌≢◌, ◌≤◌, ◌<◌, le
 ghost use Rattle.std.specs.Prelude.{OnErr, ℕ, [], ◌∷◌};
 ghost use Rattle.std.specs.Bool.{OnTrue, OnFalse};
 ghost use Rattle.gx_node.specs.Reading.{format_of, is_node};
-ghost use Rattle.gx_tree_laws.specs.Trees.{Used};
-ghost use Rattle.gx_tree.specs.Descending.{Descends, StepsDown, is_widened, next_of};
+ghost use Rattle.gx_node.specs.Trees.{Used};
+ghost use Rattle.gx_tree.specs.Descending.{Descends, SlotBelow, StepsDown, is_widened, next_of};
 ghost use Rattle.gx_node.specs.Owner.{KeepsSince, KeepsSinceBut, IsWhy, IsWhyLater, Brings, AsksAtMost, AsksToWrite};
 ghost use Rattle.gx_node.specs.Owner.{Asks, to_write};
 ghost use Rattle.gx_node.specs.Store.{node_of, tree_of, Stays};
@@ -148,8 +148,6 @@ pub fn way_step<K: KeyClass, P: Pages<K>>(
         → (0 < ((tree_of (P.store pages.new)).node item.now.page).level)
         × (length ((tree_of (P.store pages.new)).node item.now.page).children ≡ 0) }
     ensures held { OnOk result (P.held pages.new item.now.page × Used (tree_of (P.store pages.new)) item.now.page) }
-    ensures memory { result ≢ Err StepFault.Memory }
-    ensures full { result ≢ Err StepFault.PagesFull }
 {
     bring_page(pages, item.page())?;
     let room = pages.room();
@@ -161,7 +159,7 @@ pub fn way_step<K: KeyClass, P: Pages<K>>(
 }
 
 /// Makes a step of a descent for a coming key at the page of its item, as `way_step` says: it goes down, and where the
-/// child's bound doesn't cover the key it widens it first, to the union of the two.
+/// child's bound doesn't cover the key it widens it first, to the union of the two, in a slot below `most`.
 ///
 /// Refused with `Pages` where the page could not be brought, or what the widening needs could not be had, and with
 /// `Damaged` only where `way_step` is: nothing has changed then.
@@ -183,13 +181,12 @@ pub fn descend_step<K: KeyClass, P: PagesMut<K>>(
     ensures changing { IfOk result (λ did. is_widened did ≡ true → P.changing pages.new item.now.page) }
     ensures descended { P.steady pages.old
         → IfOk result (StepsDown K.cost K.joined most (P.store pages.old) (P.store pages.new) item.now coming.now) }
+    ensures slot { IfOk result (SlotBelow most) }
     ensures refused { P.steady pages.old → OnErr result (P.store pages.new ≡ P.store pages.old) }
     ensures damaged { P.steady pages.old → result ≡ Err StepFault.Damaged
         → Used (tree_of (P.store pages.old)) item.now.page
         → (0 < ((tree_of (P.store pages.old)).node item.now.page).level)
         × (length ((tree_of (P.store pages.old)).node item.now.page).children ≡ 0) }
-    ensures memory { result ≢ Err StepFault.Memory }
-    ensures full { result ≢ Err StepFault.PagesFull }
 {
     match way_step(pages, item, coming, most)? {
         Way::Again => Ok(Descended::Again),
@@ -198,9 +195,7 @@ pub fn descend_step<K: KeyClass, P: PagesMut<K>>(
         Way::FullInner => Ok(Descended::FullInner),
         Way::Down(_, child) => Ok(Descended::Down(TraversalItem::new(child, pages.counter()))),
         Way::Widen(slot, child, bound) => {
-            if let Err(fault) = pages.prepare(&[item.page()], 0) {
-                return Err(StepFault::Pages(fault));
-            }
+            pages.prepare(&[item.page()], 0)?;
             pages.change(item.page(), SetBound { slot, bound });
             Ok(Descended::Widened(TraversalItem::new(child, pages.counter()), slot, bound))
         }

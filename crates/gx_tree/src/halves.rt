@@ -2,7 +2,7 @@
 ghost use Rattle.std.specs.Prelude.{◌≡◌, ◌≤◌, ◌<◌, ◌++◌, ◌∷◌, [], ◌⊎◌, true, List, length, map, IfSome, IfNone};
 ghost use Rattle.gx_node.specs.Reading.{format_of, is_node};
 ghost use Rattle.gx_node.specs.declared.items.TheConstants.{MAX_ENTRIES};
-ghost use Rattle.gx_tree_laws.specs.Trees.{size};
+ghost use Rattle.gx_node.specs.Trees.{size};
 ghost use Rattle.gx_node.specs.Keyed.{rules_of};
 ghost use Rattle.gx_tree.specs.Splitting.{AreHalves, HalvesKeys, UnitesAny, Unites, keys_in, least_of, on_side};
 ghost use Rattle.gx_node.specs.Store.{node_of};

@@ -13,7 +13,7 @@ pub struct TraversalItem {
 }
 
 impl Model for TraversalItem {
-    ghost use Rattle.gx_tree_laws.specs.Reach as reach;
+    ghost use Rattle.gx_node.specs.Reach as reach;
 
     ghost Value = { reach.TraversalItem };
 

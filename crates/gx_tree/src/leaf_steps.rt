@@ -5,8 +5,8 @@ ghost use Rattle.std.specs.List.{list_any};
 ghost use Rattle.gx_machine.specs.declared.entry.Entry.{Entry};
 ghost use Rattle.gx_node.specs.Edits.{entry_of};
 ghost use Rattle.gx_node.specs.declared.items.TheConstants.{MAX_ENTRIES};
-ghost use Rattle.gx_tree_laws.specs.Trees.{Pair, Used};
-ghost use Rattle.gx_tree_laws.specs.Writes.{is_sweepable};
+ghost use Rattle.gx_node.specs.Trees.{Pair, Used};
+ghost use Rattle.gx_node.specs.Writes.{is_sweepable};
 ghost use Rattle.gx_node.specs.Owner.{KeepsSince, KeepsSinceBut, IsWhy, IsWhyLater, Brings, Prepares, AsksAtMost};
 ghost use Rattle.gx_node.specs.Owner.{AsksToWrite, Asks, to_write};
 ghost use Rattle.gx_tree.specs.Seeking.{is_here};
@@ -45,8 +45,6 @@ pub(crate) fn bring_leaf<K: KeyClass, P: PagesMut<K>>(
     ensures later { OnOk result (IsWhyLater P.why pages.old pages.new) }
     ensures damaged { result ≡ Err StepFault.Damaged → Used (tree_of (P.store pages.new)) page
         → ((tree_of (P.store pages.new)).node page).level ≢ 0 }
-    ensures memory { result ≢ Err StepFault.Memory }
-    ensures full { result ≢ Err StepFault.PagesFull }
 {
     bring_page(pages, page)?;
     let page = pages.page(page);
@@ -57,11 +55,12 @@ pub(crate) fn bring_leaf<K: KeyClass, P: PagesMut<K>>(
     }
 }
 
-/// Makes ready to change a page that is held. Refused with `Pages`.
+/// Makes ready to change a page that is held. Refused where what that
+/// needs could not be had.
 pub(crate) fn prepare_page<K: KeyClass, P: PagesMut<K>>(
     pages: &mut P,
     page: u32,
-) -> Result<(), StepFault<P::Fault>>
+) -> Result<(), P::Fault>
     requires { P.held pages.old page }
     ensures same { P.store pages.new ≡ P.store pages.old }
     ensures held { P.held pages.new page }
@@ -69,15 +68,9 @@ pub(crate) fn prepare_page<K: KeyClass, P: PagesMut<K>>(
     ensures steady { P.steady pages.old → P.steady pages.new }
     ensures since { KeepsSince P.since pages.old pages.new }
     ensures asked { Asks P.asked (Prepares (page ∷ []) 0 ∷ []) pages.old pages.new }
-    ensures why { IfErr result (IsWhy (P.why pages.old pages.new)) }
-    ensures damaged { result ≢ Err StepFault.Damaged }
-    ensures memory { result ≢ Err StepFault.Memory }
-    ensures full { result ≢ Err StepFault.PagesFull }
+    ensures why { IfErr result (P.why pages.old pages.new) }
 {
-    match pages.prepare(&[page], 0) {
-        Ok(()) => Ok(()),
-        Err(fault) => Err(StepFault::Pages(fault)),
-    }
+    pages.prepare(&[page], 0)
 }
 
 /// Puts a live pair behind the last of the leaf on a page, where a node has at most `most` entries, which is at most
@@ -105,8 +98,6 @@ pub fn add_step<K: KeyClass, P: PagesMut<K>>(
     ensures damaged { P.steady pages.old → result ≡ Err StepFault.Damaged → Used (tree_of (P.store pages.old)) page
         → ((tree_of (P.store pages.old)).node page).level ≡ 0
         → most ≤ length ((tree_of (P.store pages.old)).node page).pairs }
-    ensures memory { result ≢ Err StepFault.Memory }
-    ensures full { result ≢ Err StepFault.PagesFull }
 {
     if bring_leaf(pages, page)? >= most {
         return Err(StepFault::Damaged);
@@ -141,8 +132,6 @@ pub fn set_mark_step<K: Probing, P: PagesMut<K>>(
     ensures refused { P.steady pages.old → OnErr result (P.store pages.new ≡ P.store pages.old) }
     ensures damaged { P.steady pages.old → result ≡ Err StepFault.Damaged → Used (tree_of (P.store pages.old)) page
         → ((tree_of (P.store pages.old)).node page).level ≢ 0 }
-    ensures memory { result ≢ Err StepFault.Memory }
-    ensures full { result ≢ Err StepFault.PagesFull }
 {
     match seek_step(pages, wanted, page)? {
         Sought::Here(slot, before) => {

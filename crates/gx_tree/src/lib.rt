@@ -20,7 +20,7 @@ mod wanted;
 
 pub use descent::{Descended, Way, descend_step, way_step};
 pub use found::Found;
-pub use gx_node::{Edit, Pages, PagesMut, StepFault};
+pub use gx_node::{Edit, LookFault, Pages, PagesMut, SplitFault, StepFault};
 pub use item::TraversalItem;
 pub use leaf_steps::{add_step, set_mark_step};
 pub use look::{Look, look_step};

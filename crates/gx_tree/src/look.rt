@@ -3,11 +3,11 @@ ghost use Rattle.std.specs.Prelude.{◌≡◌, ◌<◌, ◌≤◌, ◌++◌, ◌
 ghost use Rattle.std.specs.Prelude.{slice_get, Some, Err, IfOk, IfErr, OnOk, OnErr};
 ghost use Rattle.gx_node.specs.Hits.{passing_of};
 ghost use Rattle.gx_node.specs.Reading.{format_of, is_node};
-ghost use Rattle.gx_tree_laws.specs.Trees.{Pair, Used};
-ghost use Rattle.gx_tree_laws.specs.Reach as reach;
+ghost use Rattle.gx_node.specs.Trees.{Pair, Used};
+ghost use Rattle.gx_node.specs.Reach as reach;
 ghost use Rattle.gx_tree.specs.Found.{found_at};
 ghost use Rattle.gx_tree.specs.Looking.{below, beyond, item_of, LookStep, Reads};
-ghost use Rattle.gx_node.specs.Owner.{AsksAtMost, KeepsSince, IsWhy, IsWhyLater, Brings, Asks};
+ghost use Rattle.gx_node.specs.Owner.{AsksAtMost, KeepsSince, IsWhyOfLook, IsWhyLater, Brings, Asks};
 ghost use Rattle.gx_node.specs.Store.{node_of, tree_of, Stays};
 ghost use Rattle.gx_tree.specs.Wants.{has_row, wants};
 
@@ -18,7 +18,7 @@ use crate::stack::Stack;
 use crate::wanted::Wanted;
 use gx_class::{KeyClass, Probing};
 use gx_geom::Shape;
-use gx_node::{BLOCK, Inner, Leaf, Pages, StepFault};
+use gx_node::{BLOCK, Inner, Leaf, LookFault, Pages, StepFault};
 use gx_page::Page;
 use std::alloc::{AllocError, Global};
 
@@ -201,7 +201,7 @@ pub fn look_step<K: Probing, P: Pages<K>>(
     pages: &mut P,
     wanted: &Wanted<K>,
     look: &mut Look<K::Key>,
-) -> Result<(), StepFault<P::Fault>>
+) -> Result<(), LookFault<P::Fault>>
     requires { 0 < length look.old.stack.items }
     ensures stays { Stays (P.steady pages.old) (P.store pages.old) (P.store pages.new) }
     ensures steady { P.steady pages.old → P.steady pages.new }
@@ -211,22 +211,20 @@ pub fn look_step<K: Probing, P: Pages<K>>(
         → Asks P.asked (Brings (item.page ∷ []) ∷ []) pages.old pages.new) }
     ensures tried { OnErr result ((rest : List reach.TraversalItem) (item : reach.TraversalItem)
         → look.old.stack.items ≡ rest ++ item ∷ [] → AsksAtMost P.asked (item.page ∷ []) pages.old pages.new) }
-    ensures why { IfErr result (IsWhy (P.why pages.old pages.new)) }
+    ensures why { IfErr result (IsWhyOfLook (P.why pages.old pages.new)) }
     ensures later { OnOk result (IsWhyLater P.why pages.old pages.new) }
     ensures step { OnOk result (LookStep (tree_of (P.store pages.new)) (wants K.passes wanted.now.keys wanted.now.row)
         (K.passes wanted.now.bounds) look.old.stack.items look.new.stack.items
         look.old.found.items look.new.found.items) }
-    ensures damaged { result ≡ Err StepFault.Damaged → (rest : List reach.TraversalItem) (item : reach.TraversalItem)
+    ensures damaged { result ≡ Err (LookFault.Step StepFault.Damaged)
+        → (rest : List reach.TraversalItem) (item : reach.TraversalItem)
         → look.old.stack.items ≡ rest ++ item ∷ [] → ¬ Used (tree_of (P.store pages.new)) item.page }
-    ensures refused { OnErr result (result ≢ Err StepFault.Memory → look.new ≡ look.old) }
-    ensures full { result ≢ Err StepFault.PagesFull }
+    ensures refused { OnErr result (result ≢ Err LookFault.Memory → look.new ≡ look.old) }
 {
     let item = look.stack.last();
     bring_page(pages, item.page())?;
     let counter = pages.counter();
     let room = pages.room();
-    match read(look, wanted, pages.page(item.page()), room, counter) {
-        Ok(()) => Ok(()),
-        Err(_) => Err(StepFault::Memory),
-    }
+    read(look, wanted, pages.page(item.page()), room, counter)?;
+    Ok(())
 }

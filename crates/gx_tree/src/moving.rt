@@ -1,8 +1,8 @@
 //! Entries that move by sides, as a node is split.
 ghost use Rattle.std.specs.Prelude.{◌≡◌, ◌<◌, ◌≤◌, ℕ, suc, map, not, length, []};
-ghost use Rattle.gx_tree_laws.specs.Lists.{staying};
-ghost use Rattle.gx_tree_laws.specs.Trees.{size};
-ghost use Rattle.gx_tree_laws.specs.Steps.{node_with};
+ghost use Rattle.gx_node.specs.Lists.{staying};
+ghost use Rattle.gx_node.specs.Trees.{size};
+ghost use Rattle.gx_node.specs.Steps.{node_with};
 ghost use Rattle.gx_node.specs.Owner.{KeepsSinceBut, Asks};
 ghost use Rattle.gx_tree.specs.Splitting.{left_of};
 ghost use Rattle.gx_node.specs.Store.{node_at, with_node, with_page};

@@ -1,7 +1,7 @@
 //! The way to a pair that is there.
 ghost use Rattle.std.specs.Prelude.{◌≡◌, ◌≢◌, ◌≤◌, length, map, Err, IfOk, IfErr, OnOk, [], ◌∷◌, OnErr};
 ghost use Rattle.gx_node.specs.Hits.{IsNextHit};
-ghost use Rattle.gx_tree_laws.specs.Trees.{Used};
+ghost use Rattle.gx_node.specs.Trees.{Used};
 ghost use Rattle.gx_node.specs.Owner.{KeepsSince, IsWhy, IsWhyLater, Brings, AsksAtMost, Asks};
 ghost use Rattle.gx_tree.specs.Seeking.{Seeks};
 ghost use Rattle.gx_node.specs.Store.{tree_of, Stays};
@@ -62,8 +62,6 @@ pub fn seek_step<K: Probing, P: Pages<K>>(
         ((tree_of (P.store pages.new)).node page)) }
     ensures damaged { result ≡ Err StepFault.Damaged → Used (tree_of (P.store pages.new)) page
         → ((tree_of (P.store pages.new)).node page).level ≢ 0 }
-    ensures memory { result ≢ Err StepFault.Memory }
-    ensures full { result ≢ Err StepFault.PagesFull }
 {
     bring_page(pages, page)?;
     let page = pages.page(page);

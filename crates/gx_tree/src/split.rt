@@ -4,11 +4,11 @@ ghost use Rattle.std.specs.Prelude.{slice_index_or, ◌==◌, Err, IfOk, IfErr, 
 ghost use Rattle.gx_node.specs.Hits.{IsNextHit};
 ghost use Rattle.gx_node.specs.Reading.{format_of, is_node};
 ghost use Rattle.gx_node.specs.declared.items.TheConstants.{MAX_ENTRIES};
-ghost use Rattle.gx_tree_laws.specs.Legal.{Legal};
-ghost use Rattle.gx_tree_laws.specs.Trees.{Used, size, times, child_pages};
+ghost use Rattle.gx_node.specs.Legal.{Legal};
+ghost use Rattle.gx_node.specs.Trees.{Used, size, times, child_pages};
 ghost use Rattle.gx_node.specs.Keyed.{rules_of};
 ghost use Rattle.gx_node.specs.Owner.{KeepsSince, KeepsSinceBut, IsWhy, IsWhyLater, Brings, AsksAtMost, AsksToWrite};
-ghost use Rattle.gx_node.specs.Owner.{Asks, to_write};
+ghost use Rattle.gx_node.specs.Owner.{Asks, IsWhyOfSplit, to_write};
 ghost use Rattle.gx_tree.specs.Splitting.{NamesOnce, CanSplit, DidSplit, HasNoPlace, Splits, parent_of, has_split};
 ghost use Rattle.gx_node.specs.Store.{node_of, node_at, tree_of, Stays, with_node};
 
@@ -16,7 +16,7 @@ use crate::edits::{AppendChild, Link, SetBound};
 use crate::halves::{Halves, halve};
 use crate::moving::{keep_side, take_side, turn};
 use gx_class::KeyClass;
-use gx_node::{Inner, MAX_ENTRIES, Pages, PagesMut, StepFault};
+use gx_node::{Inner, MAX_ENTRIES, Pages, PagesMut, SplitFault, StepFault};
 use gx_page::Page;
 
 /// What a split did.
@@ -104,17 +104,13 @@ fn bring_both<K: KeyClass, P: Pages<K>>(
     ensures later { OnOk result (IsWhyLater P.why pages.old pages.new) }
     ensures damaged { result ≡ Err StepFault.Damaged → Used (tree_of (P.store pages.new)) page
         → Used (tree_of (P.store pages.new)) parent → page ≡ parent }
-    ensures memory { result ≢ Err StepFault.Memory }
-    ensures full { result ≢ Err StepFault.PagesFull }
 {
     let used = pages.used();
     if page == 0 || used < page || parent == 0 || used < parent || page == parent {
         return Err(StepFault::Damaged);
     }
-    match pages.bring(&[page, parent]) {
-        Ok(()) => Ok(()),
-        Err(fault) => Err(StepFault::Pages(fault)),
-    }
+    pages.bring(&[page, parent])?;
+    Ok(())
 }
 
 /// Where and how a node that is held can be split. `None` where its parent has no place for that.
@@ -127,7 +123,7 @@ fn plan_split<K: KeyClass, P: PagesMut<K>>(
     parent: u32,
     most: usize,
     keys: &mut [K::Key],
-) -> Result<Option<(usize, Halves<K::Key>)>, StepFault<P::Fault>>
+) -> Result<Option<(usize, Halves<K::Key>)>, SplitFault<P::Fault>>
     requires most { (4 ≤ most) × (most ≤ MAX_ENTRIES) }
     requires space { MAX_ENTRIES ≤ length keys.old }
     requires held { P.held pages.now page × P.held pages.now parent }
@@ -135,31 +131,31 @@ fn plan_split<K: KeyClass, P: PagesMut<K>>(
         (P.store pages.now) page parent p.0 p.1.sides p.1.left p.1.right)) }
     ensures none { IfOk result (λ plan. IfNone plan (HasNoPlace (rules_of K.Key.Shape most)
         (tree_of (P.store pages.now)) page parent)) }
-    ensures full { result ≡ Err StepFault.PagesFull → (P.store pages.now).room ≤ length (P.store pages.now).nodes }
-    ensures why { IfErr result (IsWhy (λ _. ⊥)) }
-    ensures placed { result ≡ Err StepFault.PagesFull
+    ensures full { result ≡ Err SplitFault.PagesFull → (P.store pages.now).room ≤ length (P.store pages.now).nodes }
+    ensures why { IfErr result (IsWhyOfSplit (λ _. ⊥)) }
+    ensures placed { result ≡ Err SplitFault.PagesFull
         → ¬ HasNoPlace (rules_of K.Key.Shape most) (tree_of (P.store pages.now)) page parent }
     ensures only_full { IfOk result (λ plan. IfSome plan (λ _. most ≤ size (node_at (P.store pages.now).nodes page))) }
-    ensures damaged { result ≡ Err StepFault.Damaged → 0 < (node_at (P.store pages.now).nodes parent).level
+    ensures damaged { result ≡ Err (SplitFault.Step StepFault.Damaged)
+        → 0 < (node_at (P.store pages.now).nodes parent).level
         → (P.store pages.now).counter + 1 < 2 ^ 64
         → (size (node_at (P.store pages.now).nodes page) < most)
         ⊎ (MAX_ENTRIES < size (node_at (P.store pages.now).nodes page)) }
-    ensures memory { result ≢ Err StepFault.Memory }
 {
     let room = pages.room();
     let above = pages.page(parent);
     if above.level() == 0 || pages.counter() == u64::MAX {
-        return Err(StepFault::Damaged);
+        return Err(SplitFault::Step(StepFault::Damaged));
     }
     let Some(slot) = place_of::<K>(above, room, page, most) else {
         return Ok(None);
     };
     if pages.used() >= room {
-        return Err(StepFault::PagesFull);
+        return Err(SplitFault::PagesFull);
     }
     match halve::<K>(pages.page(page), room, most, keys) {
         Some(halves) => Ok(Some((slot, halves))),
-        None => Err(StepFault::Damaged),
+        None => Err(SplitFault::Step(StepFault::Damaged)),
     }
 }
 
@@ -262,7 +258,7 @@ pub fn split_step<K: KeyClass, P: PagesMut<K>>(
     parent: u32,
     most: usize,
     keys: &mut [K::Key],
-) -> Result<Option<Split<K::Key>>, StepFault<P::Fault>>
+) -> Result<Option<Split<K::Key>>, SplitFault<P::Fault>>
     requires most { (4 ≤ most) × (most ≤ MAX_ENTRIES) }
     requires space { MAX_ENTRIES ≤ length keys.old }
     ensures steady { P.steady pages.old → P.steady pages.new }
@@ -273,7 +269,7 @@ pub fn split_step<K: KeyClass, P: PagesMut<K>>(
         pages.new) }
     ensures tried { OnErr result (AsksToWrite P.asked (page ∷ parent ∷ []) 1 pages.old pages.new) }
     ensures none { IfOk result (λ did. IfNone did (KeepsSince P.since pages.old pages.new)) }
-    ensures why { IfErr result (IsWhy (P.why pages.old pages.new)) }
+    ensures why { IfErr result (IsWhyOfSplit (P.why pages.old pages.new)) }
     ensures held { IfOk result (λ did. IfSome did (λ split.
         P.held pages.new page × P.held pages.new parent × P.held pages.new split.sibling)) }
     ensures changing { IfOk result (λ did. IfSome did (λ split.
@@ -285,27 +281,24 @@ pub fn split_step<K: KeyClass, P: PagesMut<K>>(
         (page ≢ parent) × (split.sibling ≢ page) × (split.sibling ≢ parent))) }
     ensures only_full { P.steady pages.old
         → IfOk result (λ did. IfSome did (λ _. most ≤ size (node_at (P.store pages.old).nodes page))) }
-    ensures placed { P.steady pages.old → result ≡ Err StepFault.PagesFull
+    ensures placed { P.steady pages.old → result ≡ Err SplitFault.PagesFull
         → ¬ HasNoPlace (rules_of K.Key.Shape most) (tree_of (P.store pages.old)) page parent }
     ensures split { P.steady pages.old
         → IfOk result (Splits (rules_of K.Key.Shape most) K.sides_of (P.store pages.old) (P.store pages.new) page
         parent) }
     ensures refused { P.steady pages.old → OnErr result (P.store pages.new ≡ P.store pages.old) }
-    ensures full { P.steady pages.old → result ≡ Err StepFault.PagesFull
+    ensures full { P.steady pages.old → result ≡ Err SplitFault.PagesFull
         → (P.store pages.old).room ≤ length (P.store pages.old).nodes }
-    ensures damaged { P.steady pages.old → result ≡ Err StepFault.Damaged
+    ensures damaged { P.steady pages.old → result ≡ Err (SplitFault.Step StepFault.Damaged)
         → Legal (rules_of K.Key.Shape most) (tree_of (P.store pages.old)) → Used (tree_of (P.store pages.old)) page
         → Used (tree_of (P.store pages.old)) parent → page ≢ parent
         → 0 < (node_at (P.store pages.old).nodes parent).level → most ≤ size (node_at (P.store pages.old).nodes page)
         → (P.store pages.old).counter + 1 < 2 ^ 64 → ⊥ }
-    ensures memory { result ≢ Err StepFault.Memory }
 {
     bring_both(pages, page, parent)?;
     let Some((slot, halves)) = plan_split(pages, page, parent, most, keys)? else {
         return Ok(None);
     };
-    if let Err(fault) = pages.prepare(&[page, parent], 1) {
-        return Err(StepFault::Pages(fault));
-    }
+    pages.prepare(&[page, parent], 1)?;
     Ok(Some(make_split(pages, page, parent, slot, &halves, most)))
 }

@@ -2,10 +2,10 @@
 ghost use Rattle.std.specs.Prelude.{true, ◌≡◌, ◌≢◌, ◌<◌, ◌≤◌, ◌+◌, ◌^◌, ◌⊎◌, ℕ, suc, length, Err, IfOk, IfErr, OnOk};
 ghost use Rattle.std.specs.Prelude.{OnErr, [], ◌∷◌};
 ghost use Rattle.gx_node.specs.declared.items.TheConstants.{MAX_ENTRIES};
-ghost use Rattle.gx_tree_laws.specs.Legal.{Legal};
-ghost use Rattle.gx_tree_laws.specs.Trees.{Used, size};
+ghost use Rattle.gx_node.specs.Legal.{Legal};
+ghost use Rattle.gx_node.specs.Trees.{Used, size};
 ghost use Rattle.gx_node.specs.Keyed.{rules_of};
-ghost use Rattle.gx_node.specs.Owner.{KeepsSince, IsWhy, AsksToWrite, Asks, to_write};
+ghost use Rattle.gx_node.specs.Owner.{KeepsSince, IsWhyOfSplit, AsksToWrite, Asks, to_write};
 ghost use Rattle.gx_tree.specs.Splitting.{CanSplitRoot, DidSplitRoot};
 ghost use Rattle.gx_node.specs.Store.{node_at, tree_of};
 
@@ -14,7 +14,7 @@ use crate::edits::{AppendChild, Link, RaiseRoot};
 use crate::halves::{Halves, halve};
 use crate::moving::{take_side, turn};
 use gx_class::KeyClass;
-use gx_node::{MAX_ENTRIES, PagesMut, StepFault};
+use gx_node::{MAX_ENTRIES, PagesMut, SplitFault, StepFault};
 
 /// What a split of the root did.
 #[derive(Clone, Copy, Debug)]
@@ -37,33 +37,33 @@ fn plan_root<K: KeyClass, P: PagesMut<K>>(
     pages: &P,
     most: usize,
     keys: &mut [K::Key],
-) -> Result<Halves<K::Key>, StepFault<P::Fault>>
+) -> Result<Halves<K::Key>, SplitFault<P::Fault>>
     requires most { (4 ≤ most) × (most ≤ MAX_ENTRIES) }
     requires space { MAX_ENTRIES ≤ length keys.old }
     requires held { P.held pages.now 1 }
     ensures some { IfOk result (λ h. CanSplitRoot (rules_of K.Key.Shape most) K.sides_of (P.store pages.now) h.sides
         h.left h.right) }
-    ensures why { IfErr result (IsWhy (λ _. ⊥)) }
+    ensures why { IfErr result (IsWhyOfSplit (λ _. ⊥)) }
     ensures only_full { OnOk result (most ≤ size (node_at (P.store pages.now).nodes 1)) }
-    ensures full { result ≡ Err StepFault.PagesFull → (P.store pages.now).room < length (P.store pages.now).nodes + 2 }
-    ensures damaged { result ≡ Err StepFault.Damaged → 0 < (node_at (P.store pages.now).nodes 1).level
+    ensures full { result ≡ Err SplitFault.PagesFull → (P.store pages.now).room < length (P.store pages.now).nodes + 2 }
+    ensures damaged { result ≡ Err (SplitFault.Step StepFault.Damaged)
+        → 0 < (node_at (P.store pages.now).nodes 1).level
         → (node_at (P.store pages.now).nodes 1).level + 1 < 2 ^ 16
         → (size (node_at (P.store pages.now).nodes 1) < most)
         ⊎ (MAX_ENTRIES < size (node_at (P.store pages.now).nodes 1)) }
-    ensures memory { result ≢ Err StepFault.Memory }
 {
     let room = pages.room();
     let used = pages.used();
     let root = pages.page(1);
     if root.level() == 0 || root.level() == u16::MAX {
-        return Err(StepFault::Damaged);
+        return Err(SplitFault::Step(StepFault::Damaged));
     }
     if used >= room || used + 1 >= room {
-        return Err(StepFault::PagesFull);
+        return Err(SplitFault::PagesFull);
     }
     match halve::<K>(root, room, most, keys) {
         Some(halves) => Ok(halves),
-        None => Err(StepFault::Damaged),
+        None => Err(SplitFault::Step(StepFault::Damaged)),
     }
 }
 
@@ -138,7 +138,7 @@ pub fn split_root_step<K: KeyClass, P: PagesMut<K>>(
     pages: &mut P,
     most: usize,
     keys: &mut [K::Key],
-) -> Result<RootSplit<K::Key>, StepFault<P::Fault>>
+) -> Result<RootSplit<K::Key>, SplitFault<P::Fault>>
     requires most { (4 ≤ most) × (most ≤ MAX_ENTRIES) }
     requires space { MAX_ENTRIES ≤ length keys.old }
     ensures steady { P.steady pages.old → P.steady pages.new }
@@ -147,7 +147,7 @@ pub fn split_root_step<K: KeyClass, P: PagesMut<K>>(
     ensures kept { OnErr result (KeepsSince P.since pages.old pages.new) }
     ensures asked { OnOk result (Asks P.asked (to_write true (1 ∷ []) 2) pages.old pages.new) }
     ensures tried { OnErr result (AsksToWrite P.asked (1 ∷ []) 2 pages.old pages.new) }
-    ensures why { IfErr result (IsWhy (P.why pages.old pages.new)) }
+    ensures why { IfErr result (IsWhyOfSplit (P.why pages.old pages.new)) }
     ensures held { IfOk result (λ did. P.held pages.new 1 × P.held pages.new did.first × P.held pages.new did.second) }
     ensures changing { IfOk result (λ did. P.changing pages.new 1 × P.changing pages.new did.first
         × P.changing pages.new did.second) }
@@ -158,18 +158,15 @@ pub fn split_root_step<K: KeyClass, P: PagesMut<K>>(
     ensures split { P.steady pages.old
         → IfOk result (DidSplitRoot (rules_of K.Key.Shape most) K.sides_of (P.store pages.old) (P.store pages.new)) }
     ensures refused { P.steady pages.old → OnErr result (P.store pages.new ≡ P.store pages.old) }
-    ensures full { P.steady pages.old → result ≡ Err StepFault.PagesFull
+    ensures full { P.steady pages.old → result ≡ Err SplitFault.PagesFull
         → (P.store pages.old).room < length (P.store pages.old).nodes + 2 }
-    ensures damaged { P.steady pages.old → result ≡ Err StepFault.Damaged
+    ensures damaged { P.steady pages.old → result ≡ Err (SplitFault.Step StepFault.Damaged)
         → Legal (rules_of K.Key.Shape most) (tree_of (P.store pages.old))
         → most ≤ size (node_at (P.store pages.old).nodes 1) → (node_at (P.store pages.old).nodes 1).level + 1 < 2 ^ 16
         → ⊥ }
-    ensures memory { result ≢ Err StepFault.Memory }
 {
     bring_page(pages, 1)?;
     let halves = plan_root(pages, most, keys)?;
-    if let Err(fault) = pages.prepare(&[1], 2) {
-        return Err(StepFault::Pages(fault));
-    }
+    pages.prepare(&[1], 2)?;
     Ok(make_root_split(pages, &halves, most))
 }

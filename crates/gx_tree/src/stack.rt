@@ -1,7 +1,7 @@
 //! The stack of a look.
 ghost use Rattle.std.specs.Prelude.{◌≡◌, ◌<◌, ◌==◌, ◌↔◌, ◌++◌, ◌∷◌, [], length, IfOk, IsSome, List, OnOk};
 ghost use Rattle.std.specs.Option.{option_to_list};
-ghost use Rattle.gx_tree_laws.specs.Reach as reach;
+ghost use Rattle.gx_node.specs.Reach as reach;
 
 use crate::item::TraversalItem;
 use smallvec::SmallVec;

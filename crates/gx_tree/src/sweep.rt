@@ -1,11 +1,11 @@
 //! The sweep of a leaf: what goes is told before it goes.
-ghost use Rattle.std.specs.Prelude.{◌≡◌, ◌≢◌, ◌≤◌, ◌<◌, ℕ, Bool, true, false, length, map, take, Some, slice_get, Err};
+ghost use Rattle.std.specs.Prelude.{◌≡◌, ◌≤◌, ◌<◌, ℕ, Bool, true, false, length, map, take, Some, slice_get, Err};
 ghost use Rattle.std.specs.Prelude.{OnOk, OnErr, IfOk, IfErr, ◌∷◌, []};
 ghost use Rattle.gx_machine.specs.declared.entry.Entry.{Entry};
 ghost use Rattle.gx_node.specs.Edits.{entry_of};
 ghost use Rattle.gx_node.specs.declared.items.TheConstants.{MAX_ENTRIES};
-ghost use Rattle.gx_tree_laws.specs.Trees.{Pair, Used};
-ghost use Rattle.gx_tree_laws.specs.Writes.{is_sweepable};
+ghost use Rattle.gx_node.specs.Trees.{Pair, Used};
+ghost use Rattle.gx_node.specs.Writes.{is_sweepable};
 ghost use Rattle.gx_node.specs.Owner.{KeepsSince, KeepsSinceBut, IsWhy, IsWhyLater, Brings, AsksAtMost, AsksToWrite};
 ghost use Rattle.gx_node.specs.Owner.{Asks, to_write};
 ghost use Rattle.gx_node.specs.Store.{node_at, tree_of, Stays};
@@ -67,9 +67,10 @@ impl Sweep {
         self.page
     }
 
-    /// The slots of the pairs that go, rising.
+    /// The slots of the pairs that go, rising: `MAX_ENTRIES` at most.
     pub fn slots(&self) -> &[u16]
-        ensures { result.now ≡ slots_of self.now }
+        ensures listed { result.now ≡ slots_of self.now }
+        ensures few { length result.now ≤ MAX_ENTRIES }
     {
         &self.slots[..self.gone]
     }
@@ -166,8 +167,6 @@ pub fn plan_sweep<K: KeyClass, P: PagesMut<K>, F: Fn(Entry<K::Key>) -> bool>(
     ensures damaged { result ≡ Err StepFault.Damaged → Used (tree_of (P.store pages.new)) page
         → ((tree_of (P.store pages.new)).node page).level ≡ 0
         → MAX_ENTRIES < length ((tree_of (P.store pages.new)).node page).pairs }
-    ensures memory { result ≢ Err StepFault.Memory }
-    ensures full { result ≢ Err StepFault.PagesFull }
 {
     let count = bring_leaf(pages, page)?;
     if count > MAX_ENTRIES {
@@ -185,11 +184,8 @@ pub fn plan_sweep<K: KeyClass, P: PagesMut<K>, F: Fn(Entry<K::Key>) -> bool>(
 /// Takes the pairs of a sweep out of its leaf, which is held and still as it was planned. Where the sweep is empty
 /// nothing changes, and nothing is made ready.
 ///
-/// Refused with `Pages` where what the change needs could not be had. Nothing has changed then.
-pub fn make_sweep<K: KeyClass, P: PagesMut<K>>(
-    pages: &mut P,
-    sweep: &Sweep,
-) -> Result<(), StepFault<P::Fault>>
+/// Refused where what the change needs could not be had. Nothing has changed then.
+pub fn make_sweep<K: KeyClass, P: PagesMut<K>>(pages: &mut P, sweep: &Sweep) -> Result<(), P::Fault>
     requires held { P.held pages.old sweep.now.page × Used (tree_of (P.store pages.old)) sweep.now.page }
     requires fits { FitsLeaf sweep.now ((tree_of (P.store pages.old)).node sweep.now.page) }
     ensures steady { P.steady pages.old → P.steady pages.new }
@@ -197,14 +193,11 @@ pub fn make_sweep<K: KeyClass, P: PagesMut<K>>(
     ensures kept { OnErr result (KeepsSince P.since pages.old pages.new) }
     ensures spared { takes_none sweep.now ≡ true → KeepsSince P.since pages.old pages.new }
     ensures asked { Asks P.asked (to_take_out (takes_none sweep.now) sweep.now.page) pages.old pages.new }
-    ensures why { IfErr result (IsWhy (P.why pages.old pages.new)) }
+    ensures why { IfErr result (P.why pages.old pages.new) }
     ensures held { P.held pages.new sweep.now.page }
     ensures changing { OnOk result (takes_none sweep.now ≡ false → P.changing pages.new sweep.now.page) }
     ensures takes { OnOk result (TakesOut sweep.now (P.store pages.old) (P.store pages.new)) }
     ensures refused { OnErr result (P.store pages.new ≡ P.store pages.old) }
-    ensures damaged { result ≢ Err StepFault.Damaged }
-    ensures memory { result ≢ Err StepFault.Memory }
-    ensures full { result ≢ Err StepFault.PagesFull }
 {
     if sweep.is_empty() {
         return Ok(());
@@ -247,8 +240,6 @@ pub fn sweep_step<K: KeyClass, P: PagesMut<K>, F: Fn(Entry<K::Key>) -> bool>(
     ensures damaged { P.steady pages.old → result ≡ Err StepFault.Damaged → Used (tree_of (P.store pages.old)) page
         → ((tree_of (P.store pages.old)).node page).level ≡ 0
         → MAX_ENTRIES < length ((tree_of (P.store pages.old)).node page).pairs }
-    ensures memory { result ≢ Err StepFault.Memory }
-    ensures full { result ≢ Err StepFault.PagesFull }
 {
     let sweep = plan_sweep(pages, page, claimed)?;
     if sweep.is_empty() {

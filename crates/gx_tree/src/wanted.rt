@@ -2,7 +2,7 @@
 ghost use Rattle.std.specs.Prelude.{◌≡◌, not, ◌&&◌, ◌==◌, if◌then◌else◌, map, IfSome};
 ghost use Rattle.std.specs.Ordering.{is_eq};
 ghost use Rattle.gx_machine.specs.Keys.{keys_of, key_matches};
-ghost use Rattle.gx_tree_laws.specs.Trees.{Pair};
+ghost use Rattle.gx_node.specs.Trees.{Pair};
 ghost use Rattle.gx_tree.specs.Wants.{has_row, wants};
 
 use gx_class::Probing;

@@ -1,5 +1,5 @@
 //! What a run begins with: a device with a tree of some rows, and the storage over it.
-ghost use Rattle.std.specs.Prelude.{◌≡◌, length, IfOk};
+ghost use Rattle.std.specs.Prelude.{◌≡◌, length, replicate, false, IfOk};
 
 use crate::storage::book::Book;
 use crate::storage::fault::{StorageFault, What};
@@ -7,10 +7,10 @@ use crate::storage::mirror::{Mirror, PAGES};
 use crate::storage::volume::Volume;
 use gx_class::Box2Class;
 use gx_disk::{FuseDisk, MemDisk, SectorDisk};
+use gx_durable::ReadKeys;
 use gx_format::{format, sectors_for};
 use gx_glog::{Extent, Glog, first_body};
 use gx_pool::Pool;
-use gx_readings::ReadKeys;
 use gx_storage::Storage;
 use gx_store::laws::a_store_starts;
 use gx_store::{NodeTest, PageStore};
@@ -93,6 +93,13 @@ fn room_for_key(alloc: Global, size: usize) -> Result<Vec<u8>, AllocError>
     vec![in alloc; 0; size]
 }
 
+/// A bit for each page, none of them set.
+fn room_for_bits(alloc: Global) -> Result<Vec<bool>, AllocError>
+    ensures { IfOk result (λ imaged. imaged.items ≡ replicate PAGES false) }
+{
+    vec![in alloc; false; PAGES as usize]
+}
+
 /// A storage over a device whose log has one batch.
 pub(crate) fn open<D: SectorDisk + Drop, K: ReadKeys>(
     alloc: Global,
@@ -109,5 +116,6 @@ pub(crate) fn open<D: SectorDisk + Drop, K: ReadKeys>(
     let store = PageStore::new(disk, pool, used, tree.counter(), PAGES);
     let log = Glog::start(alloc, Extent::A, 1)?;
     let key = room_for_key(alloc, K::KEY)?;
-    Ok(Volume::new(Storage::new(log, store, tree.most(), key)))
+    let imaged = room_for_bits(alloc)?;
+    Ok(Volume::new(Storage::new(log, store, tree.most(), key, imaged)))
 }

@@ -2,14 +2,14 @@
 use crate::storage::counts::Done;
 use crate::storage::fault::{StorageFault, What};
 use crate::storage::run::{Run, snapshot};
-use crate::storage::volume::Fault;
+use crate::storage::volume::{Fault, NoSplit};
 use gx_class::{Box2Class, KeyClass};
 use gx_geom::{Box2, Refusal};
 use gx_glog::{Stage, Turn};
 use gx_record::{Mark, Record};
 use gx_storage::Help;
 use gx_store::StoreFault;
-use gx_tree::StepFault;
+use gx_tree::{SplitFault, StepFault};
 
 /// How often a call is tried.
 pub(crate) const TRIES: u32 = 200;
@@ -37,9 +37,15 @@ impl Run {
         match fault {
             StepFault::Pages(StoreFault::Device) => self.failed(),
             StepFault::Pages(fault) => self.follow(fault),
-            StepFault::PagesFull => Err(StorageFault::PagesFull),
-            StepFault::Memory => Err(StorageFault::Memory),
             StepFault::Damaged => Err(StorageFault::Unexpected(What::Step)),
+        }
+    }
+
+    /// The same for a split.
+    pub(crate) fn help_split(&mut self, fault: NoSplit) -> Result<(), StorageFault> {
+        match fault {
+            SplitFault::PagesFull => Err(StorageFault::PagesFull),
+            SplitFault::Step(fault) => self.help(fault),
         }
     }
 

@@ -13,8 +13,8 @@ use gx_node::MAX_ENTRIES;
 use gx_page::Page;
 use gx_plain_reader::Node;
 use gx_tree::{
-    Descended, Pages, RootSplit, Sought, Split, StepFault, TraversalItem, Wanted, add_step,
-    descend_step, set_mark_step, split_root_step, split_step, sweep_step,
+    Descended, Pages, RootSplit, Sought, Split, SplitFault, StepFault, TraversalItem, Wanted,
+    add_step, descend_step, set_mark_step, split_root_step, split_step, sweep_step,
 };
 use std::alloc::Global;
 use std::convert::Infallible;
@@ -39,11 +39,15 @@ pub(crate) fn room_for_keys(alloc: Global) -> Result<Vec<Box2>, StorageFault> {
 }
 
 /// Why a step of the tree in memory is refused.
-fn refused(fault: StepFault<Infallible>) -> StorageFault {
+fn refused(_fault: StepFault<Infallible>) -> StorageFault {
+    StorageFault::Unexpected(What::Tree)
+}
+
+/// Why a split of the tree in memory is refused.
+fn split_refused(fault: SplitFault<Infallible>) -> StorageFault {
     match fault {
-        StepFault::PagesFull => StorageFault::PagesFull,
-        StepFault::Memory => StorageFault::Memory,
-        StepFault::Pages(_) | StepFault::Damaged => StorageFault::Unexpected(What::Tree),
+        SplitFault::PagesFull => StorageFault::PagesFull,
+        SplitFault::Step(fault) => refused(fault),
     }
 }
 
@@ -156,7 +160,7 @@ impl Mirror {
         if self.keys.len() < MAX_ENTRIES {
             return Err(StorageFault::Unexpected(What::Tree));
         }
-        split_step(&mut self.pages, page, parent, most, &mut self.keys).map_err(refused)
+        split_step(&mut self.pages, page, parent, most, &mut self.keys).map_err(split_refused)
     }
 
     /// Splits the root.
@@ -165,7 +169,7 @@ impl Mirror {
         if self.keys.len() < MAX_ENTRIES {
             return Err(StorageFault::Unexpected(What::Tree));
         }
-        split_root_step(&mut self.pages, most, &mut self.keys).map_err(refused)
+        split_root_step(&mut self.pages, most, &mut self.keys).map_err(split_refused)
     }
 
     /// Inserts a pair that stands nowhere.
@@ -177,7 +181,7 @@ impl Mirror {
                 break;
             }
             let next = insert_step(&mut self.pages, place, entry, most, &mut self.keys);
-            match next.map_err(refused)? {
+            match next.map_err(split_refused)? {
                 Some(next) => place = next,
                 None => return Ok(()),
             }

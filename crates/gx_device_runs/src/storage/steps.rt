@@ -124,10 +124,7 @@ impl Run {
     ) -> Result<Sought, StorageFault> {
         let wanted = Wanted::<Box2Class>::entry(entry);
         for _try in 0..TRIES {
-            match self
-                .volume
-                .set_mark(transaction, &wanted, page, entry, marked)
-            {
+            match self.volume.set_mark(transaction, page, entry, marked) {
                 Ok(sought) => {
                     let other = self.tree.set_mark(&wanted, page, marked)?;
                     agree(sought == other, What::Mark, page)?;
@@ -181,7 +178,7 @@ impl Run {
                     }
                     return Ok(());
                 }
-                Err(fault) => self.help(fault)?,
+                Err(fault) => self.help_split(fault)?,
             }
         }
         Err(StorageFault::Unexpected(What::Split))
@@ -198,7 +195,7 @@ impl Run {
                     self.has_record();
                     return Ok(());
                 }
-                Err(fault) => self.help(fault)?,
+                Err(fault) => self.help_split(fault)?,
             }
         }
         Err(StorageFault::Unexpected(What::Split))

@@ -7,18 +7,21 @@ ghost use Rattle.gx_device_runs.specs.Ready.{IsReady};
 
 use gx_class::Probing;
 use gx_disk::SectorDisk;
+use gx_durable::ReadKeys;
 use gx_geom::Refusal;
 use gx_glog::{PLACES, Stage, Turn};
 use gx_machine::Entry;
 use gx_node::MAX_ENTRIES;
-use gx_readings::ReadKeys;
 use gx_record::Record;
 use gx_storage::{Help, Storage};
 use gx_store::StoreFault;
-use gx_tree::{Descended, RootSplit, Sought, Split, StepFault, TraversalItem, Wanted};
+use gx_tree::{Descended, RootSplit, Sought, Split, SplitFault, StepFault, TraversalItem};
 
 /// Why a call of the pages answers nothing.
 pub(crate) type Fault = StepFault<StoreFault>;
+
+/// Why a split answers nothing.
+pub(crate) type NoSplit = SplitFault<StoreFault>;
 
 /// Pages with their log.
 #[derive(Drop)]
@@ -111,20 +114,16 @@ impl<D: SectorDisk, K: ReadKeys> Volume<D, K> {
         if self.is_closed() {
             return Err(StepFault::Pages(StoreFault::NoRoom));
         }
-        match self.storage.append_commit(transaction, number) {
-            Ok(()) => Ok(()),
-            Err(fault) => Err(StepFault::Pages(fault)),
-        }
+        self.storage.append_commit(transaction, number)?;
+        Ok(())
     }
 
     pub(crate) fn append_end(&mut self, transaction: u64) -> Result<(), Fault> {
         if self.is_closed() {
             return Err(StepFault::Pages(StoreFault::NoRoom));
         }
-        match self.storage.append_end(transaction) {
-            Ok(()) => Ok(()),
-            Err(fault) => Err(StepFault::Pages(fault)),
-        }
+        self.storage.append_end(transaction)?;
+        Ok(())
     }
 
     pub(crate) fn add(
@@ -172,16 +171,16 @@ impl<D: SectorDisk, K: ReadKeys> Volume<D, K> {
         page: u32,
         parent: u32,
         keys: &mut [K::Key],
-    ) -> Result<Option<Split<K::Key>>, Fault> {
+    ) -> Result<Option<Split<K::Key>>, NoSplit> {
         if self.is_closed() || keys.len() < MAX_ENTRIES {
-            return Err(StepFault::Pages(StoreFault::NoRoom));
+            return Err(NoSplit::from(StoreFault::NoRoom));
         }
         self.storage.split(page, parent, keys)
     }
 
-    pub(crate) fn split_root(&mut self, keys: &mut [K::Key]) -> Result<RootSplit<K::Key>, Fault> {
+    pub(crate) fn split_root(&mut self, keys: &mut [K::Key]) -> Result<RootSplit<K::Key>, NoSplit> {
         if self.is_closed() || keys.len() < MAX_ENTRIES {
-            return Err(StepFault::Pages(StoreFault::NoRoom));
+            return Err(NoSplit::from(StoreFault::NoRoom));
         }
         self.storage.split_root(keys)
     }
@@ -191,7 +190,6 @@ impl<D: SectorDisk, K: ReadKeys + Probing> Volume<D, K> {
     pub(crate) fn set_mark(
         &mut self,
         transaction: u64,
-        wanted: &Wanted<K>,
         page: u32,
         entry: &Entry<K::Key>,
         marked: bool,
@@ -199,7 +197,6 @@ impl<D: SectorDisk, K: ReadKeys + Probing> Volume<D, K> {
         if self.is_closed() {
             return Err(StepFault::Pages(StoreFault::NoRoom));
         }
-        self.storage
-            .set_mark(transaction, wanted, page, entry, marked)
+        self.storage.set_mark(transaction, page, entry, marked)
     }
 }

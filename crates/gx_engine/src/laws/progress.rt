@@ -15,8 +15,8 @@ ghost use Rattle.gx_engine.specs.Made.{Makes};
 
 use crate::laws::a_class_is_lawful;
 use gx_disk::SectorDisk;
+use gx_durable::ReadKeys;
 use gx_index_laws::measures::what_a_call_has_left_is_bounded;
-use gx_readings::ReadKeys;
 
 /// What there is left to flush falls by each step of the log and of a checkpoint that did work, and by each page that
 /// was written: the calls of the batch in flight and of the one that fills, the dirty pages, and the calls of a

@@ -6,7 +6,7 @@ ghost use Rattle.gx_machine.specs.Keys.{keys_of};
 ghost use Rattle.gx_machine.specs.Machine.{is_session};
 ghost use Rattle.gx_tree.specs.declared.descent.Way.TheVariants.{Add};
 ghost use Rattle.gx_tree.specs.Descending.{WayAt, next_of};
-ghost use Rattle.gx_tree_laws.specs.Reach as reach;
+ghost use Rattle.gx_node.specs.Reach as reach;
 ghost use Rattle.gx_phases.specs.declared.phase.Phase.TheVariants.{Open};
 ghost use Rattle.gx_phases.specs.Moves.{HasWrite, is_open, transaction_of, written_state};
 ghost use Rattle.gx_disk.specs.declared.layout.TheConstants.{MAX_PAGES};
@@ -25,13 +25,14 @@ use crate::Engine;
 use crate::laws::a_class_is_lawful;
 use crate::work::Work;
 use gx_disk::SectorDisk;
+use gx_durable::ReadKeys;
 use gx_events::{Need, Outcome};
 use gx_geom::Refusal;
 use gx_machine::{Entry, Reply};
-use gx_readings::ReadKeys;
+use gx_node::laws::{small_pairs, small_removals};
 use gx_storage::laws::a_volume_shows_keys;
 use gx_store::StoreFault;
-use gx_tree::{Descended, RootSplit, Split, StepFault, TraversalItem};
+use gx_tree::{Descended, RootSplit, Split, SplitFault, StepFault, TraversalItem};
 
 impl<D: SectorDisk, K: ReadKeys> Engine<D, K> {
     // A call descends at this item, to which it came from this page.
@@ -145,7 +146,8 @@ impl<D: SectorDisk, K: ReadKeys> Engine<D, K> {
         requires descends { phase_in session self.old ≡ Open (Insert entry) (Descends parent item) }
         requires works { self.old.sessions.failed ≡ false }
         requires early { is_due self.old ≡ false }
-        ensures comes { AddsAs K.Key.Shape K.KeyClass D.state session (Insert entry) self.old self.new result }
+        ensures comes { AddsAs K.Key.Shape K.KeyClass D.state session (Insert entry) item.page self.old self.new
+            result }
         ensures moves { (IsSteadyAs D.state self.old.volume.shelf
             → WayAt K.cost K.joined self.old.volume.most (store_at K.KeyClass D.state self.old.volume.shelf) item
             entry.key Add) → MovesAs K.Key.Shape K.is_proper K.said K.KeyClass D.state session self.old self.new result
@@ -153,14 +155,14 @@ impl<D: SectorDisk, K: ReadKeys> Engine<D, K> {
         ensures device { IsRead D.state self.old self.new }
     {
         a_class_is_lawful::<K>();
+        small_pairs::<K>(self.storage.most());
         K::known(&entry.key);
         self.sessions.stands();
+        self.storage.in_order();
         match self.add_pair(session, &entry, &item) {
             Ok(()) => self.note_added(session, entry, &item),
             Err(StepFault::Pages(fault)) => self.refuse(fault),
-            Err(StepFault::Memory | StepFault::Damaged | StepFault::PagesFull) => self.break_off(
-                Refusal::Damaged,
-            ),
+            Err(StepFault::Damaged) => self.break_off(Refusal::Damaged),
         }
     }
 
@@ -182,7 +184,7 @@ impl<D: SectorDisk, K: ReadKeys> Engine<D, K> {
         &mut self,
         parent: u32,
         item: &TraversalItem,
-    ) -> Result<Option<Split<K::Key>>, StepFault<StoreFault>>
+    ) -> Result<Option<Split<K::Key>>, SplitFault<StoreFault>>
         requires early { is_due self.old ≡ false }
         ensures splits { SplittingAs K.Key.Shape K.is_proper K.said K.KeyClass D.state self.old.volume self.new.volume
             item.now.page parent result }
@@ -197,7 +199,7 @@ impl<D: SectorDisk, K: ReadKeys> Engine<D, K> {
     }
 
     // Splits the root, as storage does.
-    fn split_root(&mut self) -> Result<RootSplit<K::Key>, StepFault<StoreFault>>
+    fn split_root(&mut self) -> Result<RootSplit<K::Key>, SplitFault<StoreFault>>
         requires early { is_due self.old ≡ false }
         ensures splits { RootSplittingAs K.Key.Shape K.is_proper K.said K.KeyClass D.state self.old.volume
             self.new.volume result }
@@ -231,9 +233,9 @@ impl<D: SectorDisk, K: ReadKeys> Engine<D, K> {
         self.sessions.stands();
         match self.split_node(parent, &item) {
             Ok(_) => self.begin_again(session),
-            Err(StepFault::Pages(fault)) => self.refuse(fault),
-            Err(StepFault::PagesFull) => self.close(session, Refusal::PagesFull),
-            Err(StepFault::Memory | StepFault::Damaged) => self.break_off(Refusal::Damaged),
+            Err(SplitFault::PagesFull) => self.close(session, Refusal::PagesFull),
+            Err(SplitFault::Step(StepFault::Pages(fault))) => self.refuse(fault),
+            Err(SplitFault::Step(StepFault::Damaged)) => self.break_off(Refusal::Damaged),
         }
     }
 
@@ -256,9 +258,9 @@ impl<D: SectorDisk, K: ReadKeys> Engine<D, K> {
         self.sessions.stands();
         match self.split_root() {
             Ok(_) => self.begin_again(session),
-            Err(StepFault::Pages(fault)) => self.refuse(fault),
-            Err(StepFault::PagesFull) => self.close(session, Refusal::PagesFull),
-            Err(StepFault::Memory | StepFault::Damaged) => self.break_off(Refusal::Damaged),
+            Err(SplitFault::PagesFull) => self.close(session, Refusal::PagesFull),
+            Err(SplitFault::Step(StepFault::Pages(fault))) => self.refuse(fault),
+            Err(SplitFault::Step(StepFault::Damaged)) => self.break_off(Refusal::Damaged),
         }
     }
 
@@ -302,15 +304,15 @@ impl<D: SectorDisk, K: ReadKeys> Engine<D, K> {
         ensures device { IsRead D.state self.old self.new }
     {
         a_class_is_lawful::<K>();
+        small_removals::<K>();
         self.sessions.stands();
         self.storage.most();
+        self.storage.in_order();
         match self.sweep_leaf(&item) {
             Ok(true) => Outcome::More,
             Ok(false) => self.split_here(session, parent, item),
             Err(StepFault::Pages(fault)) => self.refuse(fault),
-            Err(StepFault::Memory | StepFault::Damaged | StepFault::PagesFull) => self.break_off(
-                Refusal::Damaged,
-            ),
+            Err(StepFault::Damaged) => self.break_off(Refusal::Damaged),
         }
     }
 
@@ -346,9 +348,7 @@ impl<D: SectorDisk, K: ReadKeys> Engine<D, K> {
                 Descended::FullInner => self.split_here(session, parent, item),
             },
             Err(StepFault::Pages(fault)) => self.refuse(fault),
-            Err(StepFault::Memory | StepFault::Damaged | StepFault::PagesFull) => self.break_off(
-                Refusal::Damaged,
-            ),
+            Err(StepFault::Damaged) => self.break_off(Refusal::Damaged),
         }
     }
 

@@ -20,10 +20,11 @@ use crate::laws::a_class_is_lawful;
 use crate::work::Work;
 use gx_class::Probing;
 use gx_disk::SectorDisk;
+use gx_durable::ReadKeys;
 use gx_events::{Need, Outcome};
 use gx_geom::Refusal;
 use gx_machine::{Entry, Reply};
-use gx_readings::ReadKeys;
+use gx_node::laws::{leaves, small_marks};
 use gx_storage::laws::{a_volume_shows_keys, a_volume_shows_the_logs_tree};
 use gx_store::StoreFault;
 use gx_tree::{Sought, StepFault, Wanted};
@@ -98,10 +99,8 @@ impl<D: SectorDisk, K: ReadKeys + Probing> Engine<D, K> {
         ensures only { self.new ≡ record self.old { volume = self.new.volume } }
         ensures device { IsRead D.state self.old self.new }
     {
-        let wanted = Wanted::<K>::entry(entry);
         let transaction = self.sessions.transaction(session);
-        self.storage
-            .set_mark(transaction, &wanted, leaf, entry, marked)
+        self.storage.set_mark(transaction, leaf, entry, marked)
     }
 
     // Seeks an entry's pair in this leaf. Nothing is logged.
@@ -145,15 +144,15 @@ impl<D: SectorDisk, K: ReadKeys + Probing> Engine<D, K> {
         a_class_is_lawful::<K>();
         a_volume_shows_the_logs_tree::<D, K>();
         a_volume_shows_keys::<D, K>();
+        leaves::<K>();
+        small_marks::<K>(self.storage.most());
         K::known(&entry.key);
         self.sessions.stands();
         self.storage.in_order();
         match self.give_mark(session, &entry, leaf, marked) {
             Ok(sought) => self.note_set(session, entry, leaf, marked, sought),
             Err(StepFault::Pages(fault)) => self.refuse(fault),
-            Err(StepFault::Memory | StepFault::Damaged | StepFault::PagesFull) => self.break_off(
-                Refusal::Damaged,
-            ),
+            Err(StepFault::Damaged) => self.break_off(Refusal::Damaged),
         }
     }
 
@@ -218,9 +217,7 @@ impl<D: SectorDisk, K: ReadKeys + Probing> Engine<D, K> {
         match self.seek_pair(&entry, leaf) {
             Ok(sought) => self.write_sought(session, entry, leaf, marked, sought),
             Err(StepFault::Pages(fault)) => self.refuse(fault),
-            Err(StepFault::Memory | StepFault::Damaged | StepFault::PagesFull) => self.break_off(
-                Refusal::Damaged,
-            ),
+            Err(StepFault::Damaged) => self.break_off(Refusal::Damaged),
         }
     }
 

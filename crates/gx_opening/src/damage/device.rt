@@ -10,9 +10,9 @@ use super::Damage;
 use super::pages::in_pages;
 use crate::formatted_for;
 use gx_disk::SectorDisk;
+use gx_durable::ReadKeys;
 use gx_found_log::{LogFault, examine_class_log};
 use gx_glog::Parameters;
-use gx_readings::ReadKeys;
 use std::alloc::Global;
 
 // What is damaged of a log that isn't read back.

@@ -12,12 +12,12 @@ ghost use Rattle.gx_opening.specs.Setting.{PagesShowAs};
 
 use super::Damage;
 use crate::notes_of;
-use gx_analysis::{Analysis, Touch};
 use gx_disk::SectorDisk;
+use gx_durable::ReadKeys;
 use gx_legality::{LegalityFault, are_in_order, test_tree};
 use gx_machine::Entry;
 use gx_pool::{Pool, PoolFault};
-use gx_readings::ReadKeys;
+use gx_recovery::{Analysis, Touch};
 use gx_store::laws::{a_store_starts, going_on};
 use gx_store::{NodeTest, PageStore, StoreFault};
 use std::alloc::Global;

@@ -5,8 +5,8 @@ ghost use Rattle.gx_restart.specs.Idle.{IsSeenIdle};
 ghost use Rattle.gx_restart.specs.Opened.{IsOpened};
 
 use gx_disk::SectorDisk;
+use gx_durable::ReadKeys;
 use gx_engine::laws::a_class_is_lawful;
-use gx_readings::ReadKeys;
 
 /// An engine that was opened over an honest device is seen as a machine with one set, under the number of the log that
 /// was found, and eight sessions of which none has a transaction.

@@ -9,13 +9,13 @@ ghost use Rattle.gx_restart.specs.Undoing.{OnlyUndoes};
 
 use super::losers::losers_of;
 use gx_disk::SectorDisk;
+use gx_durable::ReadKeys;
 use gx_engine::laws::{a_class_is_lawful, a_log_tells_who_was_cut_off};
 use gx_engine::{Engine, NotOpened, Start};
 use gx_geom::{Refusal, Shape};
 use gx_glog::close_later;
 use gx_opening::Standing;
 use gx_opening::laws::what_is_found_stands;
-use gx_readings::ReadKeys;
 use std::alloc::{AllocError, Global};
 
 // What an engine starts from, where this was found.

@@ -2,9 +2,9 @@
 ghost use Rattle.std.specs.Prelude.{◌≡◌, map, IfOk};
 ghost use Rattle.gx_engine.specs.Losing.{touch_of};
 
-use gx_analysis::Touch;
 use gx_engine::Loser;
 use gx_machine::Entry;
+use gx_recovery::Touch;
 use gx_txn::Note;
 use std::alloc::{AllocError, Global};
 

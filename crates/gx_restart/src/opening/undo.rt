@@ -7,11 +7,11 @@ ghost use Rattle.gx_restart.specs.Undoing.{AreFreeBelow, GoesBy, IsFreeAt, OnlyU
 
 use gx_class::Probing;
 use gx_disk::SectorDisk;
+use gx_durable::ReadKeys;
 use gx_engine::{Engine, drive, repeat};
 use gx_events::Event;
 use gx_geom::Refusal;
 use gx_machine::Reply;
-use gx_readings::ReadKeys;
 
 // Ends the checkpoint that runs.
 fn end_checkpoint<D: SectorDisk, K: ReadKeys + Probing>(

@@ -5,10 +5,10 @@ ghost use Rattle.gx_restart.specs.Bringing.{Brings, Helps, IsBrought, IsHelped, 
 
 use super::stop::Stop;
 use gx_disk::SectorDisk;
+use gx_durable::ReadKeys;
 use gx_engine::{EVENTS, Engine};
 use gx_events::{Need, Outcome};
 use gx_geom::Refusal;
-use gx_readings::ReadKeys;
 
 // Makes the event that is named.
 fn make<D: SectorDisk, K: ReadKeys>(engine: &mut Engine<D, K>, named: Need) -> Outcome<K::Key>

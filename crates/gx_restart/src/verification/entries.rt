@@ -6,16 +6,16 @@ ghost use Rattle.gx_restart.specs.Bringing.{Brings, Helps, IsBrought};
 ghost use Rattle.gx_restart.specs.Counted.{HasLive, HasLiveOn};
 ghost use Rattle.gx_restart.specs.Pages.{IsNode};
 ghost use Rattle.gx_restart.specs.Sizes.{live_on};
-ghost use Rattle.gx_tree_laws.specs.Lists.{one_if};
+ghost use Rattle.gx_node.specs.Lists.{one_if};
 
 use crate::text::Stop;
 use crate::text::bring::bring;
 use gx_class::KeyClass;
 use gx_disk::SectorDisk;
+use gx_durable::ReadKeys;
 use gx_engine::Engine;
 use gx_node::Leaf;
 use gx_page::Page;
-use gx_readings::ReadKeys;
 use gx_storage::laws::a_volume_shows_the_logs_tree;
 
 // One for a pair that isn't marked.

@@ -1,26 +1,28 @@
 //! A pair is added to a leaf.
-ghost use Rattle.std.specs.Prelude.{◌≡◌, ◌≢◌, ◌≤◌, ◌+◌, true, false, length, Err, OnOk, OnErr, IfErr};
+ghost use Rattle.std.specs.Prelude.{◌≡◌, ◌≤◌, ◌+◌, length, Err, OnOk, OnErr, IfErr};
 ghost use Rattle.gx_glog.specs.declared.stage.Turn.TheVariants.{Closed};
 ghost use Rattle.gx_store.specs.Since.{IsStamped};
-ghost use Rattle.gx_tree_laws.specs.Trees.{Used};
+ghost use Rattle.gx_node.specs.Trees.{Used};
 ghost use Rattle.gx_tree.specs.Writing.{Appends};
-ghost use Rattle.gx_record.specs.Writing.{write_record};
-ghost use Rattle.gx_storage.specs.Changes.{begun, write_of};
+ghost use Rattle.gx_storage.specs.Changes.{begun};
+ghost use Rattle.gx_storage.specs.Imaged.{is_imaged};
 ghost use Rattle.gx_storage.specs.Setting.{IsSteadyAs, IsWhyAs, LogsAs, OwnNumberAs, ShowsTheSame, UnloggedAs, tree_at};
+ghost use Rattle.gx_storage.specs.Small.{IsSpelled, add_room, add_said};
 
 use crate::Storage;
+use crate::changes::added::{add_size, write_add};
 use crate::changes::room::begin_event;
-use crate::changes::written::{write_record, write_size};
 use gx_disk::SectorDisk;
+use gx_durable::ReadKeys;
 use gx_machine::Entry;
-use gx_readings::ReadKeys;
-use gx_record::Mark;
+use gx_node::laws::leaves;
 use gx_store::StoreFault;
 use gx_tree::{StepFault, add_step};
 
 impl<D: SectorDisk, K: ReadKeys> Storage<D, K> {
-    /// Puts a live pair behind the last of the leaf on a page, and appends the transaction's write of it: the entry
-    /// wasn't there, which is told as a mark.
+    /// Puts a live pair behind the last of the leaf on a page, and appends the transaction's record of it: small where
+    /// the log's extent has an image of the leaf, else its write with the image of the leaf; the entry wasn't there,
+    /// which is told as a mark.
     ///
     /// Refused with `Pages` where the log has no room for the record (`NoRoom`), or the page could not be brought;
     /// with `Damaged` only where it isn't a leaf that is taken, or has no room. Nothing has changed then, and nothing
@@ -32,39 +34,43 @@ impl<D: SectorDisk, K: ReadKeys> Storage<D, K> {
         entry: &Entry<K::Key>,
     ) -> Result<(), StepFault<StoreFault>>
         requires still { self.old.log.turn ≡ Closed }
-        ensures logged { OnOk result (LogsAs K.Key.Shape K.is_proper K.said K.KeyClass D.state (write_record K.KEY)
-            self.old self.new (write_of K.spelling transaction entry.now.row entry.now.key true false page
+        ensures logged { OnOk result (LogsAs K.Key.Shape K.is_proper K.said K.KeyClass D.state
+            (add_room (is_imaged self.old.imaged page) K.KEY) self.old self.new
+            (add_said K.spelling (is_imaged self.old.imaged page) transaction entry.now.row entry.now.key page
             (D.state self.new.shelf.disk).seen self.new.shelf)) }
         ensures unlogged { OnErr result (UnloggedAs K.Key.Shape K.is_proper K.said K.KeyClass D.state
-            (begun self.old (write_record K.KEY)) self.old self.new) }
+            (begun self.old (add_room (is_imaged self.old.imaged page) K.KEY)) self.old self.new) }
         ensures added { IsSteadyAs D.state self.old.shelf
             → OnOk result (Appends self.old.most (tree_at K.KeyClass D.state self.old.shelf)
             (tree_at K.KeyClass D.state self.new.shelf) page entry.now) }
         ensures stamped { IsSteadyAs D.state self.old.shelf
             → OnOk result (IsStamped self.old.log.used self.old.shelf.frames self.new.shelf.frames page) }
         ensures own { OnOk result (OwnNumberAs D.state self.new.shelf page) }
+        ensures entry { OnOk result (IsSpelled K.spelling entry.now.row entry.now.key) }
         ensures refused { IsSteadyAs D.state self.old.shelf
             → OnErr result (ShowsTheSame K.KeyClass D.state self.old.shelf self.new.shelf) }
-        ensures why { IfErr result (IsWhyAs K.KeyClass D.state (begun self.old (write_record K.KEY)) self.new.shelf) }
+        ensures why { IfErr result (IsWhyAs K.KeyClass D.state
+            (begun self.old (add_room (is_imaged self.old.imaged page) K.KEY)) self.new.shelf) }
         ensures damaged { IsSteadyAs D.state self.old.shelf → result ≡ Err StepFault.Damaged
             → Used (tree_at K.KeyClass D.state self.old.shelf) page
             → ((tree_at K.KeyClass D.state self.old.shelf).node page).level ≡ 0
             → self.old.most ≤ length ((tree_at K.KeyClass D.state self.old.shelf).node page).pairs }
-        ensures memory { result ≢ Err StepFault.Memory }
-        ensures full { result ≢ Err StepFault.PagesFull }
     {
-        begin_event(&self.log, &mut self.store, write_size::<K>());
+        leaves::<K>();
+        let small = self.imaged.has(page);
+        self.store.in_order();
+        begin_event(&self.log, &mut self.store, add_size::<K>(small));
         add_step(&mut self.store, page, entry, self.most)?;
         self.store.in_order();
-        write_record(
+        write_add(
             &mut self.log,
             &self.store,
             &mut self.key,
+            &mut self.imaged,
+            small,
             transaction,
             entry.row,
             entry.key,
-            Mark::Marked,
-            Mark::Live,
             page,
         );
         Ok(())

@@ -1,38 +1,25 @@
 //! A step of a descent, which may widen a bound.
 ghost use Rattle.std.specs.Prelude.{◌≡◌, ◌≢◌, ◌<◌, ℕ, true, length, Err, IfOk, OnErr, IfErr};
 ghost use Rattle.gx_glog.specs.declared.stage.Turn.TheVariants.{Closed};
-ghost use Rattle.gx_tree_laws.specs.Trees.{Used};
+ghost use Rattle.gx_node.specs.Trees.{Used};
 ghost use Rattle.gx_tree.specs.Descending.{StepsDown, WayAt, is_widened};
-ghost use Rattle.gx_record.specs.declared.sizes.TheConstants.{PAGE_RECORD};
 ghost use Rattle.gx_storage.specs.Changes.{begun, begun_at, has_room};
 ghost use Rattle.gx_storage.specs.Changing.{HasToWiden, unwidened};
-ghost use Rattle.gx_storage.specs.Setting.{IsSinceAs, IsSteadyAs, IsWhyAs, LogsIfAs, OwnNumberAs, ShowsTheSame};
-ghost use Rattle.gx_storage.specs.Setting.{UnloggedAs, page_given_at, store_at, tree_at};
+ghost use Rattle.gx_storage.specs.Imaged.{is_imaged};
+ghost use Rattle.gx_storage.specs.Setting.{IsSinceAs, IsSteadyAs, IsWhyAs, LogsDescentAs, OwnNumberAs, ShowsTheSame};
+ghost use Rattle.gx_storage.specs.Setting.{UnloggedAs, store_at, tree_at};
+ghost use Rattle.gx_storage.specs.Small.{widen_room};
 
 use crate::Storage;
-use crate::changes::given::give_page;
 use crate::changes::room::{begin_event, begin_reading, has_room};
+use crate::changes::widened::{widen_size, write_widen};
 use gx_disk::SectorDisk;
+use gx_durable::ReadKeys;
 use gx_geom::Shape;
 use gx_glog::Glog;
-use gx_readings::ReadKeys;
-use gx_record::PAGE_RECORD;
+use gx_node::laws::inners;
 use gx_store::{PageStore, StoreFault};
 use gx_tree::{Descended, Pages, StepFault, TraversalItem, Way, descend_step, way_step};
-
-/// Whether a step of a descent widened a bound.
-fn was_widened<B: Shape>(did: &Descended<B>) -> bool
-    ensures { result ≡ is_widened did.now }
-{
-    match did {
-        Descended::Widened(..) => true,
-        Descended::Down(_)
-        | Descended::Again
-        | Descended::Leaf
-        | Descended::FullLeaf
-        | Descended::FullInner => false,
-    }
-}
 
 /// What a step of a descent did that took this way, where the counter of splits is `seen`. `None` where it has to
 /// widen a bound.
@@ -50,35 +37,35 @@ fn unwidened<B: Shape>(way: Way<B>, seen: u64) -> Option<Descended<B>>
 }
 
 /// Says what a descent does at the page of its item, as the tree's `way_step` does. No room in the log is asked for.
-/// The event then begins whose record gives the page.
+/// The event then begins whose record has so many bytes.
 fn read_way<D: SectorDisk, K: ReadKeys>(
     log: &Glog,
     store: &mut PageStore<D, K>,
     item: &TraversalItem,
     coming: &K::Key,
     most: usize,
+    size: usize,
 ) -> Result<Way<K::Key>, StepFault<StoreFault>>
-    ensures since { (q : ℕ) → IsSinceAs K.KeyClass D.state (begun_at log.now PAGE_RECORD store.old) store.new q }
+    ensures since { (q : ℕ) → IsSinceAs K.KeyClass D.state (begun_at log.now size store.old) store.new q }
     ensures same { IsSteadyAs D.state store.old → ShowsTheSame K.KeyClass D.state store.old store.new }
-    ensures why { IfErr result (IsWhyAs K.KeyClass D.state (begun_at log.now PAGE_RECORD store.old) store.new) }
+    ensures why { IfErr result (IsWhyAs K.KeyClass D.state (begun_at log.now size store.old) store.new) }
     ensures way { IfOk result (WayAt K.cost K.joined most (store_at K.KeyClass D.state store.new) item.now coming.now) }
     ensures damaged { result ≡ Err StepFault.Damaged → Used (tree_at K.KeyClass D.state store.new) item.now.page
         → (0 < ((tree_at K.KeyClass D.state store.new).node item.now.page).level)
         × (length ((tree_at K.KeyClass D.state store.new).node item.now.page).children ≡ 0) }
     ensures room { result ≢ Err (StepFault.Pages StoreFault.NoRoom) }
-    ensures memory { result ≢ Err StepFault.Memory }
-    ensures full { result ≢ Err StepFault.PagesFull }
 {
     begin_reading(log, store);
     let way = way_step(store, item, coming, most);
-    begin_event(log, store, PAGE_RECORD);
+    begin_event(log, store, size);
     way
 }
 
 impl<D: SectorDisk, K: ReadKeys> Storage<D, K> {
     /// Makes a step of a descent for a coming key at the page of its item, as the tree's `descend_step` says. Where a
-    /// bound was widened the record of its page is appended; else nothing has changed and nothing is logged, and no
-    /// room is asked for.
+    /// bound was widened its record is appended: small, with the slot and the key that it has now, where the log's
+    /// extent has an image of the page, else with the image of the page. Else nothing has changed and nothing is
+    /// logged, and no room is asked for.
     ///
     /// Refused with `Pages` where the page could not be brought, or the bound has to be widened and the log has no
     /// room for the record (`NoRoom`); with `Damaged` only where the page isn't taken, or has a level above 0 and no
@@ -89,17 +76,18 @@ impl<D: SectorDisk, K: ReadKeys> Storage<D, K> {
         coming: &K::Key,
     ) -> Result<Descended<K::Key>, StepFault<StoreFault>>
         requires still { self.old.log.turn ≡ Closed }
-        ensures logged { IfOk result (λ did. LogsIfAs K.Key.Shape K.is_proper K.said K.KeyClass D.state PAGE_RECORD
-            self.old self.new (page_given_at D.state item.now.page self.new.shelf) (is_widened did)) }
+        ensures logged { IfOk result (LogsDescentAs K.Key.Shape K.is_proper K.said K.KeyClass D.state item.now.page
+            self.old self.new) }
         ensures unlogged { OnErr result (UnloggedAs K.Key.Shape K.is_proper K.said K.KeyClass D.state
-            (begun self.old PAGE_RECORD) self.old self.new) }
+            (begun self.old (widen_room (is_imaged self.old.imaged item.now.page) K.KEY)) self.old self.new) }
         ensures descended { IsSteadyAs D.state self.old.shelf
             → IfOk result (StepsDown K.cost K.joined self.old.most (store_at K.KeyClass D.state self.old.shelf)
             (store_at K.KeyClass D.state self.new.shelf) item.now coming.now) }
         ensures own { IfOk result (λ did. is_widened did ≡ true → OwnNumberAs D.state self.new.shelf item.now.page) }
         ensures refused { IsSteadyAs D.state self.old.shelf
             → OnErr result (ShowsTheSame K.KeyClass D.state self.old.shelf self.new.shelf) }
-        ensures why { IfErr result (IsWhyAs K.KeyClass D.state (begun self.old PAGE_RECORD) self.new.shelf) }
+        ensures why { IfErr result (IsWhyAs K.KeyClass D.state
+            (begun self.old (widen_room (is_imaged self.old.imaged item.now.page) K.KEY)) self.new.shelf) }
         ensures damaged { IsSteadyAs D.state self.old.shelf → result ≡ Err StepFault.Damaged
             → Used (tree_at K.KeyClass D.state self.old.shelf) item.now.page
             → (0 < ((tree_at K.KeyClass D.state self.old.shelf).node item.now.page).level)
@@ -107,25 +95,35 @@ impl<D: SectorDisk, K: ReadKeys> Storage<D, K> {
         ensures room { result ≡ Err (StepFault.Pages StoreFault.NoRoom)
             → HasToWiden K.cost K.joined self.old.most (store_at K.KeyClass D.state self.new.shelf) item.now
             coming.now }
-        ensures memory { result ≢ Err StepFault.Memory }
-        ensures full { result ≢ Err StepFault.PagesFull }
     {
-        if !has_room(&self.log, PAGE_RECORD) {
-            let way = read_way(&self.log, &mut self.store, item, coming, self.most)?;
+        let page = item.page();
+        let small = self.imaged.has(page);
+        let size = widen_size::<K>(small);
+        if !has_room(&self.log, size) {
+            let way = read_way(&self.log, &mut self.store, item, coming, self.most, size)?;
             match unwidened(way, self.store.counter()) {
                 Some(did) => return Ok(did),
                 None => return Err(StepFault::Pages(StoreFault::NoRoom)),
             }
         }
-        begin_event(&self.log, &mut self.store, PAGE_RECORD);
-        let did = descend_step(&mut self.store, item, coming, self.most)?;
-        if !was_widened(&did) {
-            return Ok(did);
-        }
+        inners::<K>();
         self.store.in_order();
-        let counter = self.store.counter();
-        let used = self.store.used();
-        give_page(&mut self.log, &self.store, counter, used, item.page());
+        begin_event(&self.log, &mut self.store, size);
+        let did = descend_step(&mut self.store, item, coming, self.most)?;
+        let Descended::Widened(_, slot, key) = &did else {
+            return Ok(did);
+        };
+        self.store.in_order();
+        write_widen(
+            &mut self.log,
+            &self.store,
+            &mut self.key,
+            &mut self.imaged,
+            small,
+            page,
+            *slot,
+            *key,
+        );
         Ok(did)
     }
 }

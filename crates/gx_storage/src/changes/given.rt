@@ -6,20 +6,34 @@ ghost use Rattle.gx_page.specs.Format.{IsWellFormed};
 ghost use Rattle.gx_store.specs.Standing.{standing};
 ghost use Rattle.gx_store.specs.State.{IsHeld};
 ghost use Rattle.gx_record.specs.declared.sizes.TheConstants.{PAGE_RECORD};
+ghost use Rattle.gx_storage.specs.Imaged.{imaged_with};
 ghost use Rattle.gx_storage.specs.Setting.{IsLastAs, OwnNumberAs, page_given_at};
 
+use crate::imaged::Imaged;
 use gx_disk::SectorDisk;
 use gx_durable::calls::append;
+use gx_durable::{OfClass, ReadKeys};
 use gx_glog::Glog;
-use gx_readings::{OfClass, ReadKeys};
 use gx_record::{PageImage, PageImages, Record};
 use gx_store::PageStore;
 
+/// What always holds of a page that is held: it has an image as it stands, under its own number.
+pub(crate) fn has_image<D: SectorDisk, K: ReadKeys>(store: &PageStore<D, K>, page: u32)
+    requires { IsHeld store.now page }
+    ensures formed { IsWellFormed (standing store.now.frames (D.state store.now.disk).seen page) }
+    ensures own { OwnNumberAs D.state store.now page }
+{
+    store.in_order();
+    let held = store.held_page(page);
+    held.image();
+}
+
 /// Appends the record of a page that was changed, of which the record has the image as it is held, with the counter
-/// and the number of pages in use.
+/// and the number of pages in use. The page's bit is set.
 pub(crate) fn give_page<D: SectorDisk, K: ReadKeys>(
     log: &mut Glog,
     store: &PageStore<D, K>,
+    imaged: &mut Imaged,
     counter: u64,
     used: u32,
     page: u32,
@@ -32,6 +46,7 @@ pub(crate) fn give_page<D: SectorDisk, K: ReadKeys>(
     ensures last { IsLastAs K.Key.Shape K.is_proper K.said K.KeyClass (page_given_at D.state page store.now) log.old
         log.new }
     ensures formed { IsWellFormed (standing store.now.frames (D.state store.now.disk).seen page) }
+    ensures imaged { imaged.new ≡ imaged_with (page_given_at D.state page store.now) imaged.old }
     ensures own { OwnNumberAs D.state store.now page }
 {
     store.in_order();
@@ -47,4 +62,5 @@ pub(crate) fn give_page<D: SectorDisk, K: ReadKeys>(
             }),
         },
     );
+    imaged.note(page);
 }

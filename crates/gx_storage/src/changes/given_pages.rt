@@ -6,15 +6,17 @@ ghost use Rattle.gx_record.specs.Format.{IsPage};
 ghost use Rattle.gx_record.specs.Seen.{numbered};
 ghost use Rattle.gx_record.specs.declared.sizes.TheConstants.{SPLIT_RECORD};
 ghost use Rattle.gx_store.specs.State.{IsHeld};
-ghost use Rattle.gx_tree_laws.specs.Lists.{Each};
+ghost use Rattle.gx_node.specs.Lists.{Each};
 ghost use Rattle.gx_storage.specs.Changes.{image_at};
 ghost use Rattle.gx_storage.specs.Giving.{IsGiven, rising};
+ghost use Rattle.gx_storage.specs.Imaged.{imaged_with};
 ghost use Rattle.gx_storage.specs.Setting.{IsLastAs, pages_given_at};
 
+use crate::imaged::Imaged;
 use gx_disk::SectorDisk;
 use gx_durable::calls::append;
+use gx_durable::{OfClass, ReadKeys};
 use gx_glog::Glog;
-use gx_readings::{OfClass, ReadKeys};
 use gx_record::{PageImage, PageImages, Record};
 use gx_store::PageStore;
 use gx_tree::Pages;
@@ -52,10 +54,11 @@ fn held_image<D: SectorDisk, K: ReadKeys>(store: &PageStore<D, K>, page: u32) ->
 }
 
 /// Appends the record of three pages that were changed, of which the record has the images as they are held, with the
-/// counter and the number of pages in use as they are now.
+/// counter and the number of pages in use as they are now. The pages' bits are set.
 pub(crate) fn give_three<D: SectorDisk, K: ReadKeys>(
     log: &mut Glog,
     store: &PageStore<D, K>,
+    imaged: &mut Imaged,
     first: u32,
     second: u32,
     third: u32,
@@ -67,6 +70,8 @@ pub(crate) fn give_three<D: SectorDisk, K: ReadKeys>(
     requires rise { (first < second) × (second < third) }
     ensures last { IsLastAs K.Key.Shape K.is_proper K.said K.KeyClass
         (pages_given_at D.state (first ∷ second ∷ third ∷ []) store.now) log.old log.new }
+    ensures imaged { imaged.new ≡ imaged_with (pages_given_at D.state (first ∷ second ∷ third ∷ []) store.now)
+        imaged.old }
     ensures given { Each (IsGiven (D.state store.now.disk).seen store.now) (first ∷ second ∷ third ∷ []) }
 {
     let (counter, used) = (store.counter(), store.used());
@@ -81,4 +86,7 @@ pub(crate) fn give_three<D: SectorDisk, K: ReadKeys>(
             pages: PageImages::Three(low, middle, high),
         },
     );
+    imaged.note(first);
+    imaged.note(second);
+    imaged.note(third);
 }

@@ -3,8 +3,8 @@ ghost use Rattle.std.specs.Prelude.{◌≡◌, true};
 ghost use Rattle.gx_storage.specs.Changes.{has_room};
 
 use gx_disk::SectorDisk;
+use gx_durable::ReadKeys;
 use gx_glog::{Glog, PLACES};
-use gx_readings::ReadKeys;
 use gx_store::PageStore;
 
 /// Whether a log has room for a record of so many bytes, while no turn to the other extent is under way: a place is

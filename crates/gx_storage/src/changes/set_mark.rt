@@ -1,36 +1,27 @@
 //! The mark of a pair is set or cleared.
 ghost use Rattle.std.specs.Prelude.{◌≡◌, ◌≢◌, ◌+◌, ℕ, Err, IfOk, OnErr, IfErr};
 ghost use Rattle.gx_glog.specs.declared.stage.Turn.TheVariants.{Closed};
-ghost use Rattle.gx_record.specs.Seen.{is_marked};
-ghost use Rattle.gx_record.specs.Writing.{write_record};
-ghost use Rattle.gx_tree_laws.specs.Trees.{Used};
+ghost use Rattle.gx_node.specs.Trees.{Used};
 ghost use Rattle.gx_tree.specs.Seeking.{Seeks};
 ghost use Rattle.gx_tree.specs.Wants.{wants};
-ghost use Rattle.gx_tree.specs.Writing.{SetsMark};
 ghost use Rattle.gx_storage.specs.Changes.{begun, begun_at, has_room};
-ghost use Rattle.gx_storage.specs.Changing.{HasWanted};
+ghost use Rattle.gx_storage.specs.Imaged.{is_imaged};
 ghost use Rattle.gx_storage.specs.Numbers.{OwnWhereSet};
-ghost use Rattle.gx_storage.specs.Setting.{IsSinceAs, IsSteadyAs, IsWhyAs, LogsMarkAs, ShowsTheSame, UnloggedAs};
-ghost use Rattle.gx_storage.specs.Setting.{store_at, tree_at};
+ghost use Rattle.gx_storage.specs.Setting.{HasEntryAs, IsSinceAs, IsSteadyAs, IsWhyAs, LogsMarkAs, MarksEntryAs};
+ghost use Rattle.gx_storage.specs.Setting.{ShowsTheSame, UnloggedAs, tree_at};
+ghost use Rattle.gx_storage.specs.Small.{mark_room};
 
 use crate::Storage;
+use crate::changes::marked::{mark_size, write_mark};
 use crate::changes::room::{begin_event, begin_reading, has_room};
-use crate::changes::written::{write_record, write_size};
 use gx_class::Probing;
 use gx_disk::SectorDisk;
+use gx_durable::ReadKeys;
 use gx_glog::Glog;
 use gx_machine::Entry;
-use gx_readings::ReadKeys;
-use gx_record::Mark;
+use gx_node::laws::{leaves, small_marks};
 use gx_store::{PageStore, StoreFault};
 use gx_tree::{Sought, StepFault, Wanted, seek_step, set_mark_step};
-
-/// A mark as a record has it.
-pub(crate) fn mark_of(marked: bool) -> Mark
-    ensures { is_marked result ≡ marked }
-{
-    if marked { Mark::Marked } else { Mark::Live }
-}
 
 /// Looks for a pair in the leaf on a page, as the tree's `seek_step` does. No room in the log is asked for. The event
 /// then begins whose record has so many bytes.
@@ -49,8 +40,6 @@ fn read_leaf<D: SectorDisk, K: ReadKeys + Probing>(
     ensures damaged { result ≡ Err StepFault.Damaged → Used (tree_at K.KeyClass D.state store.new) page
         → ((tree_at K.KeyClass D.state store.new).node page).level ≢ 0 }
     ensures room { result ≢ Err (StepFault.Pages StoreFault.NoRoom) }
-    ensures memory { result ≢ Err StepFault.Memory }
-    ensures full { result ≢ Err StepFault.PagesFull }
 {
     begin_reading(log, store);
     let sought = seek_step(store, wanted, page);
@@ -59,9 +48,10 @@ fn read_leaf<D: SectorDisk, K: ReadKeys + Probing>(
 }
 
 impl<D: SectorDisk, K: ReadKeys + Probing> Storage<D, K> {
-    /// Sets or clears the mark of the wanted pair in the leaf on a page, and appends the transaction's write of the
-    /// entry, with the mark that was found. Where the pair isn't in this leaf the next one is told, as `seek_step`
-    /// does, and nothing is logged.
+    /// Sets or clears the mark of an entry's pair in the leaf on a page, and appends the transaction's record of it,
+    /// with the mark that was found: small where the log's extent has an image of the leaf, else its write with the
+    /// image of the leaf. Where the pair isn't in this leaf the next one is told, as `seek_step` does, and nothing is
+    /// logged.
     ///
     /// Refused with `Pages` where the pair is in this leaf and the log has no room for the record (`NoRoom`), or the
     /// page could not be brought; with `Damaged` only where it isn't a leaf that is taken. Nothing has changed then,
@@ -69,7 +59,6 @@ impl<D: SectorDisk, K: ReadKeys + Probing> Storage<D, K> {
     pub fn set_mark(
         &mut self,
         transaction: u64,
-        wanted: &Wanted<K>,
         page: u32,
         entry: &Entry<K::Key>,
         marked: bool,
@@ -78,44 +67,49 @@ impl<D: SectorDisk, K: ReadKeys + Probing> Storage<D, K> {
         ensures logged { IfOk result (LogsMarkAs K.Key.Shape K.is_proper K.said K.KeyClass D.state transaction entry.now
             page marked self.old self.new) }
         ensures unlogged { OnErr result (UnloggedAs K.Key.Shape K.is_proper K.said K.KeyClass D.state
-            (begun self.old (write_record K.KEY)) self.old self.new) }
-        ensures marked { IsSteadyAs D.state self.old.shelf
-            → IfOk result (SetsMark (wants K.passes wanted.now.keys wanted.now.row)
-            (store_at K.KeyClass D.state self.old.shelf) (store_at K.KeyClass D.state self.new.shelf) page marked) }
+            (begun self.old (mark_room (is_imaged self.old.imaged page) K.KEY)) self.old self.new) }
+        ensures marked { IfOk result (MarksEntryAs K.Key.Shape K.KeyClass D.state self.old self.new entry.now page
+            marked) }
         ensures own { IfOk result (λ did. OwnWhereSet (D.state self.new.shelf.disk).seen self.new.shelf page did) }
         ensures refused { IsSteadyAs D.state self.old.shelf
             → OnErr result (ShowsTheSame K.KeyClass D.state self.old.shelf self.new.shelf) }
-        ensures why { IfErr result (IsWhyAs K.KeyClass D.state (begun self.old (write_record K.KEY)) self.new.shelf) }
+        ensures why { IfErr result (IsWhyAs K.KeyClass D.state
+            (begun self.old (mark_room (is_imaged self.old.imaged page) K.KEY)) self.new.shelf) }
         ensures damaged { IsSteadyAs D.state self.old.shelf → result ≡ Err StepFault.Damaged
             → Used (tree_at K.KeyClass D.state self.old.shelf) page
             → ((tree_at K.KeyClass D.state self.old.shelf).node page).level ≢ 0 }
         ensures room { result ≡ Err (StepFault.Pages StoreFault.NoRoom)
-            → HasWanted (wants K.passes wanted.now.keys wanted.now.row)
-            ((tree_at K.KeyClass D.state self.new.shelf).node page) }
-        ensures memory { result ≢ Err StepFault.Memory }
-        ensures full { result ≢ Err StepFault.PagesFull }
+            → HasEntryAs K.Key.Shape K.KeyClass D.state self.new entry.now page }
     {
-        let size = write_size::<K>();
+        let wanted = Wanted::<K>::entry(entry);
+        let small = self.imaged.has(page);
+        let size = mark_size::<K>(small);
         if !has_room(&self.log, size) {
-            let sought = read_leaf(&self.log, &mut self.store, wanted, page, size)?;
+            let sought = read_leaf(&self.log, &mut self.store, &wanted, page, size)?;
             match sought {
                 Sought::Here(..) => return Err(StepFault::Pages(StoreFault::NoRoom)),
                 Sought::Right(next) => return Ok(Sought::Right(next)),
             }
         }
+        leaves::<K>();
+        small_marks::<K>(self.most);
+        K::known(&entry.key);
+        self.store.in_order();
         begin_event(&self.log, &mut self.store, size);
-        match set_mark_step(&mut self.store, wanted, page, marked)? {
+        match set_mark_step(&mut self.store, &wanted, page, marked)? {
             Sought::Here(slot, before) => {
                 self.store.in_order();
-                write_record(
+                write_mark(
                     &mut self.log,
                     &self.store,
                     &mut self.key,
+                    &mut self.imaged,
+                    small,
                     transaction,
                     entry.row,
                     entry.key,
-                    mark_of(before),
-                    mark_of(marked),
+                    before,
+                    marked,
                     page,
                 );
                 Ok(Sought::Here(slot, before))

@@ -3,26 +3,26 @@ ghost use Rattle.std.specs.Prelude.{◌≡◌, ◌≢◌, ◌<◌, ◌≤◌, �
 ghost use Rattle.gx_glog.specs.declared.stage.Turn.TheVariants.{Closed};
 ghost use Rattle.gx_node.specs.declared.items.TheConstants.{MAX_ENTRIES};
 ghost use Rattle.gx_store.specs.Since.{IsStamped};
-ghost use Rattle.gx_tree_laws.specs.Legal.{Legal};
-ghost use Rattle.gx_tree_laws.specs.Trees.{Used, size};
+ghost use Rattle.gx_node.specs.Legal.{Legal};
+ghost use Rattle.gx_node.specs.Trees.{Used, size};
 ghost use Rattle.gx_node.specs.Keyed.{rules_of};
 ghost use Rattle.gx_tree.specs.Splitting.{HasNoPlace, Splits, has_split};
 ghost use Rattle.gx_node.specs.Store.{node_at};
 ghost use Rattle.gx_record.specs.declared.sizes.TheConstants.{SPLIT_RECORD};
 ghost use Rattle.gx_storage.specs.Changes.{begun};
 ghost use Rattle.gx_storage.specs.Giving.{rising};
-ghost use Rattle.gx_tree_laws.specs.Lists.{Each};
-ghost use Rattle.gx_storage.specs.Setting.{IsSteadyAs, IsWhyAs, LogsIfAs, OwnNumberAs, ShowsTheSame, UnloggedAs};
+ghost use Rattle.gx_node.specs.Lists.{Each};
+ghost use Rattle.gx_storage.specs.Setting.{IsSteadyAs, IsWhyOfSplitAs, LogsIfAs, OwnNumberAs, ShowsTheSame, UnloggedAs};
 ghost use Rattle.gx_storage.specs.Setting.{pages_given_at, store_at, tree_at};
 
 use crate::Storage;
 use crate::changes::given_pages::{give_three, in_rising_order};
 use crate::changes::room::begin_event;
 use gx_disk::SectorDisk;
-use gx_readings::ReadKeys;
+use gx_durable::ReadKeys;
 use gx_record::SPLIT_RECORD;
 use gx_store::StoreFault;
-use gx_tree::{Split, StepFault, split_step};
+use gx_tree::{Split, SplitFault, StepFault, split_step};
 
 impl<D: SectorDisk, K: ReadKeys> Storage<D, K> {
     /// Splits the node on a page, which is full, below its parent, as the tree's `split_step` says, and appends the
@@ -39,7 +39,7 @@ impl<D: SectorDisk, K: ReadKeys> Storage<D, K> {
         page: u32,
         parent: u32,
         keys: &mut [K::Key],
-    ) -> Result<Option<Split<K::Key>>, StepFault<StoreFault>>
+    ) -> Result<Option<Split<K::Key>>, SplitFault<StoreFault>>
         requires still { self.old.log.turn ≡ Closed }
         requires most { 4 ≤ self.old.most }
         requires space { MAX_ENTRIES ≤ length keys.old }
@@ -66,20 +66,19 @@ impl<D: SectorDisk, K: ReadKeys> Storage<D, K> {
             (node_at (store_at K.KeyClass D.state self.old.shelf).nodes page))) }
         ensures refused { IsSteadyAs D.state self.old.shelf
             → OnErr result (ShowsTheSame K.KeyClass D.state self.old.shelf self.new.shelf) }
-        ensures why { IfErr result (IsWhyAs K.KeyClass D.state (begun self.old SPLIT_RECORD) self.new.shelf) }
-        ensures full { IsSteadyAs D.state self.old.shelf → result ≡ Err StepFault.PagesFull
+        ensures why { IfErr result (IsWhyOfSplitAs K.KeyClass D.state (begun self.old SPLIT_RECORD) self.new.shelf) }
+        ensures full { IsSteadyAs D.state self.old.shelf → result ≡ Err SplitFault.PagesFull
             → self.old.shelf.pages ≤ self.old.shelf.used }
-        ensures placed { IsSteadyAs D.state self.old.shelf → result ≡ Err StepFault.PagesFull
+        ensures placed { IsSteadyAs D.state self.old.shelf → result ≡ Err SplitFault.PagesFull
             → ¬ HasNoPlace (rules_of K.Key.Shape self.old.most) (tree_at K.KeyClass D.state self.old.shelf) page
             parent }
-        ensures damaged { IsSteadyAs D.state self.old.shelf → result ≡ Err StepFault.Damaged
+        ensures damaged { IsSteadyAs D.state self.old.shelf → result ≡ Err (SplitFault.Step StepFault.Damaged)
             → Legal (rules_of K.Key.Shape self.old.most) (tree_at K.KeyClass D.state self.old.shelf)
             → Used (tree_at K.KeyClass D.state self.old.shelf) page
             → Used (tree_at K.KeyClass D.state self.old.shelf) parent → page ≢ parent
             → 0 < (node_at (store_at K.KeyClass D.state self.old.shelf).nodes parent).level
             → self.old.most ≤ size (node_at (store_at K.KeyClass D.state self.old.shelf).nodes page)
             → self.old.shelf.counter + 1 < 2 ^ 64 → ⊥ }
-        ensures memory { result ≢ Err StepFault.Memory }
     {
         begin_event(&self.log, &mut self.store, SPLIT_RECORD);
         let Some(split) = split_step(&mut self.store, page, parent, self.most, keys)? else {
@@ -87,7 +86,14 @@ impl<D: SectorDisk, K: ReadKeys> Storage<D, K> {
         };
         self.store.in_order();
         let (first, second, third) = in_rising_order(page, parent, split.sibling);
-        give_three(&mut self.log, &self.store, first, second, third);
+        give_three(
+            &mut self.log,
+            &self.store,
+            &mut self.imaged,
+            first,
+            second,
+            third,
+        );
         Ok(Some(split))
     }
 }

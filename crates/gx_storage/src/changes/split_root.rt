@@ -1,27 +1,27 @@
 //! The split of the root.
-ghost use Rattle.std.specs.Prelude.{◌≡◌, ◌≢◌, ◌<◌, ◌≤◌, ◌+◌, ◌^◌, suc, [], ◌∷◌, length, Err, IfOk, IfErr, OnOk, OnErr};
+ghost use Rattle.std.specs.Prelude.{◌≡◌, ◌<◌, ◌≤◌, ◌+◌, ◌^◌, suc, [], ◌∷◌, length, Err, IfOk, IfErr, OnOk, OnErr};
 ghost use Rattle.gx_glog.specs.declared.stage.Turn.TheVariants.{Closed};
 ghost use Rattle.gx_node.specs.declared.items.TheConstants.{MAX_ENTRIES};
 ghost use Rattle.gx_store.specs.Since.{IsStamped};
-ghost use Rattle.gx_tree_laws.specs.Legal.{Legal};
-ghost use Rattle.gx_tree_laws.specs.Trees.{size};
+ghost use Rattle.gx_node.specs.Legal.{Legal};
+ghost use Rattle.gx_node.specs.Trees.{size};
 ghost use Rattle.gx_node.specs.Keyed.{rules_of};
 ghost use Rattle.gx_tree.specs.Splitting.{DidSplitRoot};
 ghost use Rattle.gx_node.specs.Store.{node_at};
 ghost use Rattle.gx_record.specs.declared.sizes.TheConstants.{SPLIT_RECORD};
 ghost use Rattle.gx_storage.specs.Changes.{begun};
-ghost use Rattle.gx_tree_laws.specs.Lists.{Each};
-ghost use Rattle.gx_storage.specs.Setting.{IsSteadyAs, IsWhyAs, LogsAs, OwnNumberAs, ShowsTheSame, UnloggedAs};
+ghost use Rattle.gx_node.specs.Lists.{Each};
+ghost use Rattle.gx_storage.specs.Setting.{IsSteadyAs, IsWhyOfSplitAs, LogsAs, OwnNumberAs, ShowsTheSame, UnloggedAs};
 ghost use Rattle.gx_storage.specs.Setting.{pages_given_at, store_at, tree_at};
 
 use crate::Storage;
 use crate::changes::given_pages::give_three;
 use crate::changes::room::begin_event;
 use gx_disk::SectorDisk;
-use gx_readings::ReadKeys;
+use gx_durable::ReadKeys;
 use gx_record::SPLIT_RECORD;
 use gx_store::StoreFault;
-use gx_tree::{Pages, RootSplit, StepFault, split_root_step};
+use gx_tree::{Pages, RootSplit, SplitFault, StepFault, split_root_step};
 
 impl<D: SectorDisk, K: ReadKeys> Storage<D, K> {
     /// Splits the root, which is full, as the tree's `split_root_step` says, and appends the record of the root and
@@ -34,7 +34,7 @@ impl<D: SectorDisk, K: ReadKeys> Storage<D, K> {
     pub fn split_root(
         &mut self,
         keys: &mut [K::Key],
-    ) -> Result<RootSplit<K::Key>, StepFault<StoreFault>>
+    ) -> Result<RootSplit<K::Key>, SplitFault<StoreFault>>
         requires still { self.old.log.turn ≡ Closed }
         requires most { 4 ≤ self.old.most }
         requires space { MAX_ENTRIES ≤ length keys.old }
@@ -57,22 +57,28 @@ impl<D: SectorDisk, K: ReadKeys> Storage<D, K> {
             → OnOk result (self.old.most ≤ size (node_at (store_at K.KeyClass D.state self.old.shelf).nodes 1)) }
         ensures refused { IsSteadyAs D.state self.old.shelf
             → OnErr result (ShowsTheSame K.KeyClass D.state self.old.shelf self.new.shelf) }
-        ensures why { IfErr result (IsWhyAs K.KeyClass D.state (begun self.old SPLIT_RECORD) self.new.shelf) }
-        ensures full { IsSteadyAs D.state self.old.shelf → result ≡ Err StepFault.PagesFull
+        ensures why { IfErr result (IsWhyOfSplitAs K.KeyClass D.state (begun self.old SPLIT_RECORD) self.new.shelf) }
+        ensures full { IsSteadyAs D.state self.old.shelf → result ≡ Err SplitFault.PagesFull
             → self.old.shelf.pages < self.old.shelf.used + 2 }
-        ensures damaged { IsSteadyAs D.state self.old.shelf → result ≡ Err StepFault.Damaged
+        ensures damaged { IsSteadyAs D.state self.old.shelf → result ≡ Err (SplitFault.Step StepFault.Damaged)
             → Legal (rules_of K.Key.Shape self.old.most) (tree_at K.KeyClass D.state self.old.shelf)
             → self.old.most ≤ size (node_at (store_at K.KeyClass D.state self.old.shelf).nodes 1)
             → (node_at (store_at K.KeyClass D.state self.old.shelf).nodes 1).level + 1 < 2 ^ 16 → ⊥ }
-        ensures memory { result ≢ Err StepFault.Memory }
     {
         begin_event(&self.log, &mut self.store, SPLIT_RECORD);
         if self.store.used() == 0 {
-            return Err(StepFault::Damaged);
+            return Err(SplitFault::Step(StepFault::Damaged));
         }
         let split = split_root_step(&mut self.store, self.most, keys)?;
         self.store.in_order();
-        give_three(&mut self.log, &self.store, 1, split.first, split.second);
+        give_three(
+            &mut self.log,
+            &self.store,
+            &mut self.imaged,
+            1,
+            split.first,
+            split.second,
+        );
         Ok(split)
     }
 }

@@ -1,65 +1,80 @@
 //! The sweep of a leaf.
-ghost use Rattle.std.specs.Prelude.{◌≡◌, ◌≢◌, ◌<◌, ℕ, Bool, true, length, Err, IfOk, OnErr, OnOk, IfErr};
+ghost use Rattle.std.specs.Prelude.{◌≡◌, ◌≢◌, ◌<◌, ◌≤◌, ℕ, Bool, true, length, Err, IfOk, OnErr, OnOk, IfErr};
 ghost use Rattle.gx_glog.specs.declared.stage.Turn.TheVariants.{Closed};
 ghost use Rattle.gx_machine.specs.declared.entry.Entry.{Entry};
 ghost use Rattle.gx_node.specs.declared.items.TheConstants.{MAX_ENTRIES};
 ghost use Rattle.gx_store.specs.Since.{IsStamped};
 ghost use Rattle.gx_store.specs.State.{IsHeld};
-ghost use Rattle.gx_tree_laws.specs.Trees.{Used};
+ghost use Rattle.gx_node.specs.Trees.{Used};
 ghost use Rattle.gx_tree.specs.Sweeping.{FitsLeaf, PlansSweep};
 ghost use Rattle.gx_tree.specs.Writing.{Swept};
-ghost use Rattle.gx_record.specs.declared.sizes.TheConstants.{PAGE_RECORD};
+ghost use Rattle.gx_record.specs.declared.sizes.TheConstants.{MOST_SLOTS};
 ghost use Rattle.gx_storage.specs.Bringing.{has_removable};
-ghost use Rattle.gx_storage.specs.Changes.{begun, begun_at};
-ghost use Rattle.gx_storage.specs.Setting.{IsSinceAs, IsSteadyAs, IsWhyAs, LogsIfAs, OwnNumberAs, ShowsTheSame};
-ghost use Rattle.gx_storage.specs.Setting.{UnloggedAs, page_given_at, store_at, tree_at};
+ghost use Rattle.gx_storage.specs.Changes.{begun_at};
+ghost use Rattle.gx_storage.specs.Setting.{IsSinceAs, IsSteadyAs, IsWhyAs, LogsSweepAs, OwnNumberAs, RefusesSweepAs};
+ghost use Rattle.gx_storage.specs.Setting.{ShowsTheSame, store_at, tree_at};
+ghost use Rattle.gx_storage.specs.Small.{sweep_room};
+ghost use Rattle.gx_storage.specs.Sweeping.{Answers, slots_planned};
 
 use crate::Storage;
-use crate::changes::given::give_page;
 use crate::changes::room::{begin_event, begin_reading};
+use crate::changes::swept::{sweep_size, write_sweep};
 use gx_disk::SectorDisk;
+use gx_durable::ReadKeys;
 use gx_glog::Glog;
 use gx_machine::Entry;
-use gx_readings::ReadKeys;
-use gx_record::PAGE_RECORD;
+use gx_node::laws::leaves;
+use gx_record::MOST_SLOTS;
 use gx_store::{PageStore, StoreFault};
 use gx_tree::{Pages, StepFault, Sweep, make_sweep, plan_sweep};
 
+/// How many slots a plan takes; none where no plan was made.
+fn slot_count(plan: &Result<Sweep, StepFault<StoreFault>>) -> usize
+    ensures count { result ≡ length (slots_planned plan.now) }
+    ensures few { result ≤ MOST_SLOTS }
+{
+    match plan {
+        Ok(sweep) => sweep.slots().len(),
+        Err(_) => 0,
+    }
+}
+
 /// Says which pairs of the leaf on a page a sweep takes, as the tree's `plan_sweep` does. No room in the log is asked
-/// for. The event then begins whose record gives the page.
+/// for. The event then begins whose record has these slots, or gives the page.
 fn plan<D: SectorDisk, K: ReadKeys, F: Fn(Entry<K::Key>) -> bool>(
     log: &Glog,
     store: &mut PageStore<D, K>,
+    small: bool,
     page: u32,
     claimed: F,
 ) -> Result<Sweep, StepFault<StoreFault>>
     requires claimed { F.IsAlwaysCallable claimed }
-    ensures since { (q : ℕ) → IsSinceAs K.KeyClass D.state (begun_at log.now PAGE_RECORD store.old) store.new q }
+    ensures since { (q : ℕ) → IsSinceAs K.KeyClass D.state
+        (begun_at log.now (sweep_room small (length (slots_planned result))) store.old) store.new q }
     ensures same { IsSteadyAs D.state store.old → ShowsTheSame K.KeyClass D.state store.old store.new }
-    ensures why { IfErr result (IsWhyAs K.KeyClass D.state (begun_at log.now PAGE_RECORD store.old) store.new) }
+    ensures why { IfErr result (IsWhyAs K.KeyClass D.state
+        (begun_at log.now (sweep_room small (length (slots_planned result))) store.old) store.new) }
+    ensures few { length (slots_planned result) ≤ MOST_SLOTS }
     ensures held { OnOk result (IsHeld store.new page × Used (tree_at K.KeyClass D.state store.new) page) }
     ensures page { IfOk result (λ sweep. sweep.page ≡ page) }
     ensures fits { IfOk result (λ sweep. FitsLeaf sweep ((tree_at K.KeyClass D.state store.new).node page)) }
-    ensures plans { (test : Entry K.Key → Bool)
-        → ((entry : Entry K.Key) (answer : Bool) → F.post claimed entry answer → answer ≡ test entry)
+    ensures plans { (test : Entry K.Key → Bool) → Answers F.post claimed test
         → IfOk result (PlansSweep test ((tree_at K.KeyClass D.state store.new).node page)) }
     ensures damaged { result ≡ Err StepFault.Damaged → Used (tree_at K.KeyClass D.state store.new) page
         → ((tree_at K.KeyClass D.state store.new).node page).level ≡ 0
         → MAX_ENTRIES < length ((tree_at K.KeyClass D.state store.new).node page).pairs }
     ensures room { result ≢ Err (StepFault.Pages StoreFault.NoRoom) }
-    ensures memory { result ≢ Err StepFault.Memory }
-    ensures full { result ≢ Err StepFault.PagesFull }
 {
     begin_reading(log, store);
     let plan = plan_sweep(store, page, claimed);
-    begin_event(log, store, PAGE_RECORD);
+    begin_event(log, store, sweep_size(small, slot_count(&plan)));
     plan
 }
 
 impl<D: SectorDisk, K: ReadKeys> Storage<D, K> {
-    /// Takes the marked pairs that nobody claims out of the leaf on a page, and appends the record of the page.
-    /// Whether there were any; where there were none nothing has changed and nothing is logged, and no room is asked
-    /// for.
+    /// Takes the marked pairs that nobody claims out of the leaf on a page, and appends the record of it: small where
+    /// the log's extent has an image of the leaf, else with the image of the leaf. Whether there were any; where there
+    /// were none nothing has changed and nothing is logged, and no room is asked for.
     ///
     /// Refused with `Pages` where the page could not be brought, or a pair goes and the log has no room for the
     /// record (`NoRoom`); with `Damaged` only where it isn't a leaf that is taken, or has more than `MAX_ENTRIES`
@@ -71,12 +86,11 @@ impl<D: SectorDisk, K: ReadKeys> Storage<D, K> {
     ) -> Result<bool, StepFault<StoreFault>>
         requires still { self.old.log.turn ≡ Closed }
         requires claimed { F.IsAlwaysCallable claimed }
-        ensures logged { IfOk result (λ any. LogsIfAs K.Key.Shape K.is_proper K.said K.KeyClass D.state PAGE_RECORD
-            self.old self.new (page_given_at D.state page self.new.shelf) any) }
-        ensures unlogged { OnErr result (UnloggedAs K.Key.Shape K.is_proper K.said K.KeyClass D.state
-            (begun self.old PAGE_RECORD) self.old self.new) }
-        ensures swept { IsSteadyAs D.state self.old.shelf → (test : Entry K.Key → Bool)
-            → ((entry : Entry K.Key) (answer : Bool) → F.post claimed entry answer → answer ≡ test entry)
+        ensures logged { IfOk result (LogsSweepAs K.Key.Shape K.is_proper K.said K.KeyClass D.state
+            (Answers F.post claimed) self.old self.new page) }
+        ensures unlogged { IfErr result (RefusesSweepAs K.Key.Shape K.is_proper K.said K.KeyClass D.state
+            (Answers F.post claimed) self.old self.new page) }
+        ensures swept { IsSteadyAs D.state self.old.shelf → (test : Entry K.Key → Bool) → Answers F.post claimed test
             → IfOk result (Swept test (store_at K.KeyClass D.state self.old.shelf)
             (store_at K.KeyClass D.state self.new.shelf) page) }
         ensures stamped { IsSteadyAs D.state self.old.shelf
@@ -85,26 +99,24 @@ impl<D: SectorDisk, K: ReadKeys> Storage<D, K> {
         ensures own { IfOk result (λ any. any ≡ true → OwnNumberAs D.state self.new.shelf page) }
         ensures refused { IsSteadyAs D.state self.old.shelf
             → OnErr result (ShowsTheSame K.KeyClass D.state self.old.shelf self.new.shelf) }
-        ensures why { IfErr result (IsWhyAs K.KeyClass D.state (begun self.old PAGE_RECORD) self.new.shelf) }
         ensures damaged { IsSteadyAs D.state self.old.shelf → result ≡ Err StepFault.Damaged
             → Used (tree_at K.KeyClass D.state self.old.shelf) page
             → ((tree_at K.KeyClass D.state self.old.shelf).node page).level ≡ 0
             → MAX_ENTRIES < length ((tree_at K.KeyClass D.state self.old.shelf).node page).pairs }
         ensures room { result ≡ Err (StepFault.Pages StoreFault.NoRoom) → (test : Entry K.Key → Bool)
-            → ((entry : Entry K.Key) (answer : Bool) → F.post claimed entry answer → answer ≡ test entry)
+            → Answers F.post claimed test
             → has_removable test ((tree_at K.KeyClass D.state self.new.shelf).node page) ≡ true }
-        ensures memory { result ≢ Err StepFault.Memory }
-        ensures full { result ≢ Err StepFault.PagesFull }
     {
-        let plan = plan(&self.log, &mut self.store, page, claimed)?;
+        leaves::<K>();
+        let small = self.imaged.has(page);
+        self.store.in_order();
+        let plan = plan(&self.log, &mut self.store, small, page, claimed)?;
         if plan.is_empty() {
             return Ok(false);
         }
         make_sweep(&mut self.store, &plan)?;
         self.store.in_order();
-        let counter = self.store.counter();
-        let used = self.store.used();
-        give_page(&mut self.log, &self.store, counter, used, page);
+        write_sweep(&mut self.log, &self.store, &mut self.imaged, small, &plan);
         Ok(true)
     }
 }

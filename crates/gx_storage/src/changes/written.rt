@@ -2,18 +2,22 @@
 ghost use Rattle.std.specs.Prelude.{◌≡◌, ◌≤◌, ◌<◌, ◌+◌, length};
 ghost use Rattle.gx_glog.specs.declared.stage.Turn.TheVariants.{Closed};
 ghost use Rattle.gx_glog.specs.declared.extent.TheConstants.{BODY_ROOM, PLACES};
+ghost use Rattle.gx_page.specs.Bytes.{AreBytes};
 ghost use Rattle.gx_page.specs.Format.{IsWellFormed};
 ghost use Rattle.gx_record.specs.Seen.{is_marked};
 ghost use Rattle.gx_record.specs.Writing.{write_record};
 ghost use Rattle.gx_store.specs.Standing.{standing};
 ghost use Rattle.gx_store.specs.State.{IsHeld};
 ghost use Rattle.gx_storage.specs.Changes.{write_of};
+ghost use Rattle.gx_storage.specs.Imaged.{with_imaged};
 ghost use Rattle.gx_storage.specs.Setting.{IsLastAs, OwnNumberAs};
+ghost use Rattle.gx_storage.specs.Small.{IsSpelled};
 
+use crate::imaged::Imaged;
 use gx_disk::SectorDisk;
 use gx_durable::calls::append;
+use gx_durable::{OfClass, ReadKeys};
 use gx_glog::Glog;
-use gx_readings::{OfClass, ReadKeys};
 use gx_record::{Mark, Record, WRITE_BESIDE_KEY};
 use gx_store::PageStore;
 
@@ -24,12 +28,22 @@ pub(crate) fn write_size<K: ReadKeys>() -> usize
     K::KEY + WRITE_BESIDE_KEY
 }
 
+/// Writes a key over `spelled`, in bytes.
+pub(crate) fn spell<K: ReadKeys>(key: K::Key, spelled: &mut [u8])
+    requires { length spelled.old ≡ K.KEY }
+    ensures spelled { spelled.new ≡ K.spelling key }
+    ensures bytes { AreBytes spelled.new }
+{
+    K::encode(key, spelled);
+}
+
 /// Appends the record of a write: the transaction changed the entry's mark, or added it, on a leaf, of which the
-/// record has the image as it is held. The key's bytes are written over `spelled`.
+/// record has the image as it is held, and whose bit is set. The key's bytes are written over `spelled`.
 pub(crate) fn write_record<D: SectorDisk, K: ReadKeys>(
     log: &mut Glog,
     store: &PageStore<D, K>,
     spelled: &mut [u8],
+    imaged: &mut Imaged,
     transaction: u64,
     row: u64,
     key: K::Key,
@@ -46,12 +60,14 @@ pub(crate) fn write_record<D: SectorDisk, K: ReadKeys>(
         (write_of K.spelling transaction row key (is_marked before) (is_marked after) leaf (D.state store.now.disk).seen
         store.now) log.old log.new }
     ensures formed { IsWellFormed (standing store.now.frames (D.state store.now.disk).seen leaf) }
+    ensures imaged { imaged.new ≡ with_imaged leaf imaged.old }
     ensures spelled { length spelled.new ≡ K.KEY }
     ensures own { OwnNumberAs D.state store.now leaf }
+    ensures entry { IsSpelled K.spelling row key }
 {
     K::known(&key);
     store.in_order();
-    K::encode(key, spelled);
+    spell::<K>(key, spelled);
     let page = store.held_page(leaf);
     append::<OfClass<K>>(
         log,
@@ -65,4 +81,5 @@ pub(crate) fn write_record<D: SectorDisk, K: ReadKeys>(
             image: page.image(),
         },
     );
+    imaged.note(leaf);
 }

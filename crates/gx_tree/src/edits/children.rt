@@ -16,7 +16,7 @@ pub struct SetBound<B> {
 impl<K: KeyClass> Edit<K> for SetBound<K::Key> {
     ghost use Rattle.std.specs.Prelude.{◌≡◌, ◌<◌, length, Some, slice_get, slice_set};
     ghost use Rattle.gx_node.specs.Edits.{with_children, bounded_by};
-    ghost use Rattle.gx_tree_laws.specs.Trees.{Child};
+    ghost use Rattle.gx_node.specs.Trees.{Child};
 
     ghost fits = { λ e room node. (0 < node.level) × (e.slot < length node.children) };
 

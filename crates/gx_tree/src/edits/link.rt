@@ -15,7 +15,7 @@ pub struct Link {
 
 impl<K: KeyClass> Edit<K> for Link {
     ghost use Rattle.std.specs.Prelude.{◌≡◌};
-    ghost use Rattle.gx_tree_laws.specs.Steps.{node_with};
+    ghost use Rattle.gx_node.specs.Steps.{node_with};
 
     ghost fits = { λ link room node. Unit };
 

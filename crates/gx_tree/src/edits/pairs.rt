@@ -39,7 +39,7 @@ pub struct SetMark {
 impl<K: KeyClass> Edit<K> for SetMark {
     ghost use Rattle.std.specs.Prelude.{◌≡◌, ◌<◌, length, Some, slice_get, slice_set};
     ghost use Rattle.gx_node.specs.Edits.{with_pairs, marked_as};
-    ghost use Rattle.gx_tree_laws.specs.Trees.{Pair};
+    ghost use Rattle.gx_node.specs.Trees.{Pair};
 
     ghost fits = { λ e room node. (node.level ≡ 0) × (e.slot < length node.pairs) };
 

@@ -13,9 +13,9 @@ pub struct KeepSide<'a> {
 
 impl<'a, K: KeyClass> Edit<K> for KeepSide<'a> {
     ghost use Rattle.std.specs.Prelude.{◌≡◌, length};
-    ghost use Rattle.gx_tree_laws.specs.Lists.{staying};
-    ghost use Rattle.gx_tree_laws.specs.Trees.{size};
-    ghost use Rattle.gx_tree_laws.specs.Steps.{node_with};
+    ghost use Rattle.gx_node.specs.Lists.{staying};
+    ghost use Rattle.gx_node.specs.Trees.{size};
+    ghost use Rattle.gx_node.specs.Steps.{node_with};
 
     ghost fits = { λ e room node. length e.sides.now ≡ size node };
 

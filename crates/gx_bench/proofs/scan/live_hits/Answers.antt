@@ -4,7 +4,7 @@ use Rattle.std.specs.List.{count_by}
 use Rattle.std.proofs.lemmas.List.{length-map, take_all}
 use Rattle.gx_geom.specs.Rectangles.{Rectangle}
 use Rattle.gx_class.specs.Probes.{corners, are_between}
-use Rattle.gx_tree_laws.specs.Trees.{Pair, Node}
+use Rattle.gx_node.specs.Trees.{Pair, Node}
 use Rattle.gx_node.specs.Reading.{pair_of}
 use Rattle.gx_bench.specs.Scans.{boxes, is_live_hit}
 use Rattle.gx_bench.proofs.Counting.{one_more_block}

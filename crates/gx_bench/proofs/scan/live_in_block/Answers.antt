@@ -4,7 +4,7 @@ use Rattle.std.specs.List.{count_by, filter_map}
 use Rattle.std.proofs.lemmas.List.{take_all}
 use Rattle.gx_geom.specs.Rectangles.{Rectangle}
 use Rattle.gx_class.specs.Probes.{corners, are_between}
-use Rattle.gx_tree_laws.specs.Trees.{Pair}
+use Rattle.gx_node.specs.Trees.{Pair}
 use Rattle.gx_node.proofs.Blocks.{block_within}
 use Rattle.gx_node.proofs.Gathering.{hits_few}
 use Rattle.gx_node.proofs.Slots.{some_at}

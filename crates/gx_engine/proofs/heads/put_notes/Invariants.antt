@@ -1,7 +1,7 @@
 use Rattle.std.proofs.Common.{◌≡◌, ◌*◌, map, take}
 use Rattle.gx_glog.specs.declared.stage.Stage.TheVariants.{Idle}
 use Rattle.gx_node.specs.Reading.{format_of}
-use Rattle.gx_readings.specs.Classes.{reading_of}
+use Rattle.gx_durable.specs.Classes.{reading_of}
 use Rattle.gx_recovery.specs.Renewal.{notes_of}
 use Rattle.gx_engine.specs.Heads.{OnlyHead, Puts, note_record}
 use Rattle.gx_engine.specs.Noted.{touch_by}

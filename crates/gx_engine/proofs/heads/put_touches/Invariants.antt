@@ -2,7 +2,7 @@ use Rattle.std.proofs.Common.{◌≡◌, ◌*◌, ◌-◌, ◌^◌, ◌≤◌, L
 use Rattle.gx_glog.specs.declared.stage.Stage.TheVariants.{Idle}
 use Rattle.gx_machine.specs.declared.entry.Entry.{Entry}
 use Rattle.gx_node.specs.Reading.{format_of}
-use Rattle.gx_readings.specs.Classes.{reading_of}
+use Rattle.gx_durable.specs.Classes.{reading_of}
 use Rattle.gx_recovery.specs.Records.{Touch}
 use Rattle.gx_recovery.specs.Renewal.{notes_of}
 use Rattle.gx_engine.specs.Noted.{AreNoted, touched_before}

@@ -1,4 +1,4 @@
-use Rattle.gx_readings.specs.Classes.{reading_of}
+use Rattle.gx_durable.specs.Classes.{reading_of}
 use Rattle.gx_engine.proofs.Running.{ran}
 use Rattle.gx_engine.proofs.laws.any_events_lead_on.Goals as goal
 

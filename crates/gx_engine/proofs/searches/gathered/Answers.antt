@@ -2,7 +2,7 @@ use Rattle.std.proofs.Common.{◌≡◌, List, [], ◌∷◌, map, refl, ap, ◌
 use Rattle.gx_machine.specs.declared.entry.Entry.{Entry}
 use Rattle.gx_machine.specs.Keys.{Keys, keys}
 use Rattle.gx_index_laws.specs.Classes.{entry_of}
-use Rattle.gx_engine_laws.specs.Engines.{gathered}
+use Rattle.gx_events.specs.Engines.{gathered}
 use Rattle.gx_tree.specs.declared.found.Found.{Found}
 use Rattle.gx_tree.specs.Found.{pairs_found}
 use Rattle.gx_engine.proofs.searches.gathered.Goals as goal

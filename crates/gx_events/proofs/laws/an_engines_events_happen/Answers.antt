@@ -1,4 +1,4 @@
-use Rattle.gx_events.proofs.Engines.{happens}
+use Rattle.gx_events.proofs.Steps.{happens}
 use Rattle.gx_events.proofs.laws.an_engines_events_happen.Goals as goal
 
 pub returns : goal.returns

@@ -1,7 +1,7 @@
 use Rattle.std.proofs.Common.{◌∙◌, ℕ, List, subst}
 use Rattle.std.specs.Prelude.{Ok}
 use Rattle.gx_found_log.specs.Found.{PlaceRead}
-use Rattle.gx_analysis.specs.declared.rule.LogRule.TheVariants.{FirstGate}
+use Rattle.gx_recovery.specs.declared.rule.LogRule.TheVariants.{FirstGate}
 use Rattle.gx_found_log.specs.Faults.{refusal_of, refusing}
 use Rattle.gx_found_log.proofs.Extents.{extent_ended, extent_refused}
 use Rattle.gx_found_log.proofs.Shown.{refused_ok, refused_err, gate_shown, place_shows}

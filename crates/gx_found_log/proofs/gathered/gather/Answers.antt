@@ -1,7 +1,7 @@
 use Rattle.std.proofs.Common.{subst, sym}
 use Rattle.std.specs.Prelude.{Ok}
 use Rattle.gx_record.specs.Seen.{rec_of}
-use Rattle.gx_analysis.specs.Kept.{Kept}
+use Rattle.gx_recovery.specs.Kept.{Kept}
 use Rattle.gx_found_log.specs.Told.{RecordTold}
 use Rattle.gx_found_log.proofs.Broken.{page_breaks}
 use Rattle.gx_found_log.proofs.Gathering.{record_gathered}

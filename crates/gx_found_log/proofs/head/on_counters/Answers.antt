@@ -1,7 +1,7 @@
 use Rattle.std.proofs.Common.{ap, refl}
 use Rattle.gx_record.specs.Seen.{rec_of}
 use Rattle.gx_record.specs.Rec as rec
-use Rattle.gx_analysis.specs.Broken.{refused, breaks_counters}
+use Rattle.gx_recovery.specs.Broken.{refused, breaks_counters}
 use Rattle.gx_found_log.specs.declared.part.Part.TheVariants.{Start}
 use Rattle.gx_found_log.proofs.Told.{counters_come}
 use Rattle.gx_found_log.proofs.Broken.{next_broken}

@@ -1,7 +1,7 @@
 use Rattle.std.proofs.Common.{ap}
 use Rattle.gx_record.specs.Rec as rec
 use Rattle.gx_record.specs.Seen.{is_marked, rec_of}
-use Rattle.gx_analysis.specs.Broken.{refused}
+use Rattle.gx_recovery.specs.Broken.{refused}
 use Rattle.gx_found_log.specs.declared.part.Part.TheVariants.{Head}
 use Rattle.gx_found_log.proofs.Told.{note_comes, no_entry_noted}
 use Rattle.gx_found_log.proofs.Broken.{keyless, note_broken}

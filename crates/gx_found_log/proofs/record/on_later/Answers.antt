@@ -1,8 +1,8 @@
 use Rattle.std.proofs.Common.{◌+◌, ◌≤◌, length, ap, arith, refl, subst}
 use Rattle.gx_record.specs.Rec as rec
 use Rattle.gx_record.specs.Seen.{is_marked, rec_of, images}
-use Rattle.gx_analysis.specs.declared.closed.TheConstants.{CLOSINGS}
-use Rattle.gx_analysis.specs.Broken.{refused, breaks_pages, breaks_commit, breaks_end}
+use Rattle.gx_recovery.specs.declared.closed.TheConstants.{CLOSINGS}
+use Rattle.gx_recovery.specs.Broken.{refused, breaks_pages, breaks_commit, breaks_end}
 use Rattle.gx_found_log.specs.declared.part.Part.TheVariants.{Later}
 use Rattle.gx_found_log.specs.Told.{page_numbers, closings}
 use Rattle.gx_found_log.proofs.Broken.{next_broken, write_broken, bit_broken, add_broken}

@@ -1,5 +1,5 @@
 use Rattle.std.proofs.Common.{◌≡◌, ◌-◌, length}
-use Rattle.gx_tree_laws.specs.Trees.{Tree}
+use Rattle.gx_node.specs.Trees.{Tree}
 use Rattle.gx_legality.specs.Marks.{AreLinks}
 use Rattle.gx_legality.proofs.Walks.{Walks}
 use Rattle.gx_legality.proofs.chain.walk_chain.Given as goal

@@ -3,7 +3,7 @@ use Rattle.std.specs.Prelude.{slice_get}
 use Rattle.std.proofs.lemmas.Option.{slice_get_past}
 use Rattle.gx_node.specs.Reading.{format_of}
 use Rattle.gx_node.specs.Seen.{pair_seen}
-use Rattle.gx_tree_laws.specs.Trees.{Node}
+use Rattle.gx_node.specs.Trees.{Node}
 use Rattle.gx_node.specs.Store.{node_of}
 use Rattle.gx_node.proofs.Listed.{leaf_node}
 use Rattle.gx_legality.proofs.leaves.entry_at.Goals as goal

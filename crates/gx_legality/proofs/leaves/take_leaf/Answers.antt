@@ -2,7 +2,7 @@ use Rattle.std.proofs.Common.{◌≡◌, ◌∙◌, ◌++◌, map, ap, refl, rul
 use Rattle.gx_machine.specs.Keys.{entry_cmp}
 use Rattle.gx_node.specs.Edits.{entry_of}
 use Rattle.gx_node.specs.Reading.{format_of}
-use Rattle.gx_tree_laws.specs.Trees.{Node}
+use Rattle.gx_node.specs.Trees.{Node}
 use Rattle.gx_node.specs.Store.{Store, node_of, node_at}
 use Rattle.gx_legality.specs.Gathered.{Gathers}
 use Rattle.gx_legality.specs.Placing.{is_noted, met, stage_at}

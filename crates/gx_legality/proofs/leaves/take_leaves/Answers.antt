@@ -2,8 +2,8 @@ use Rattle.std.proofs.Common.{◌≡◌, ◌≢◌, ◌∙◌, ◌-◌, ◌+◌,
 use Rattle.std.proofs.lemmas.Result.{err_from_is_err_and}
 use Rattle.gx_machine.specs.Keys.{entry_cmp}
 use Rattle.gx_node.specs.Edits.{entry_of}
-use Rattle.gx_tree_laws.specs.Legal.{Linked}
-use Rattle.gx_tree_laws.specs.Trees.{Used, walk}
+use Rattle.gx_node.specs.Legal.{Linked}
+use Rattle.gx_node.specs.Trees.{Used, walk}
 use Rattle.gx_node.specs.Store.{Store, node_at, tree_of}
 use Rattle.gx_legality.specs.Entries.{entries_on}
 use Rattle.gx_legality.specs.Gathered.{Gathers}

@@ -2,8 +2,8 @@ use Rattle.std.proofs.Common.{◌≡◌, ℕ, List, ◌-◌, Some, length}
 use Rattle.std.specs.Prelude.{slice_get}
 use Rattle.gx_machine.specs.Keys.{entry_cmp}
 use Rattle.gx_machine.specs.declared.entry.Entry.{Entry}
-use Rattle.gx_tree_laws.specs.Legal.{Linked}
-use Rattle.gx_tree_laws.specs.Trees.{leaves, walk}
+use Rattle.gx_node.specs.Legal.{Linked}
+use Rattle.gx_node.specs.Trees.{leaves, walk}
 use Rattle.gx_node.specs.Owner.{IsWhyLater}
 use Rattle.gx_node.specs.Store.{tree_of}
 use Rattle.gx_legality.specs.Entries.{entries_on}

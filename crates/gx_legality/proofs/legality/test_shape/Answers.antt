@@ -1,5 +1,5 @@
 use Rattle.std.proofs.Common.{◌≡◌, ◌<◌, ℕ, length, arith, rules}
-use Rattle.gx_tree_laws.specs.Trees.{parents}
+use Rattle.gx_node.specs.Trees.{parents}
 use Rattle.gx_legality.specs.Marks.{marked}
 use Rattle.std.proofs.lemmas.Result.{err_from_is_err_and}
 use Rattle.gx_node.specs.Store.{tree_of}

@@ -2,7 +2,7 @@ use Rattle.std.proofs.Common.{◌≡◌, Some, rules}
 use Rattle.std.specs.Prelude.{slice_get}
 use Rattle.std.proofs.lemmas.Result.{err_from_is_err_and}
 use Rattle.gx_node.specs.Reading.{format_of}
-use Rattle.gx_tree_laws.specs.Trees.{Child, child_pages}
+use Rattle.gx_node.specs.Trees.{Child, child_pages}
 use Rattle.gx_node.specs.Store.{node_of}
 use Rattle.gx_legality.proofs.Naming.{page_at, is_named, marks_go, marks_twice}
 use Rattle.gx_legality.proofs.named.mark_children.Goals as goal

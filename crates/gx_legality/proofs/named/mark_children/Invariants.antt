@@ -1,6 +1,6 @@
 use Rattle.std.proofs.Common.{◌≡◌, ℕ, ◌+◌, ◌<◌, length, take}
 use Rattle.gx_node.specs.Reading.{format_of}
-use Rattle.gx_tree_laws.specs.Trees.{times, child_pages}
+use Rattle.gx_node.specs.Trees.{times, child_pages}
 use Rattle.gx_node.specs.Store.{node_of}
 use Rattle.gx_legality.specs.Marks.{marked}
 use Rattle.gx_legality.proofs.named.mark_children.Given as goal

@@ -1,7 +1,7 @@
 use Rattle.std.proofs.Common.{◌≡◌, ◌≤◌, Some, length, arith, rules}
 use Rattle.std.specs.Prelude.{slice_get}
 use Rattle.gx_node.specs.Reading.{format_of}
-use Rattle.gx_tree_laws.specs.Trees.{Child}
+use Rattle.gx_node.specs.Trees.{Child}
 use Rattle.gx_node.specs.Store.{node_of, node_at}
 use Rattle.gx_legality.proofs.Children.{node_level, child_of_node, child_fits, child_fails, reads_same}
 use Rattle.gx_legality.proofs.node.test_child.Goals as goal

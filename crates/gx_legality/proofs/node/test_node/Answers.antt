@@ -1,6 +1,6 @@
 use Rattle.std.proofs.Common.{◌≡◌, ◌≤◌, arith, rules}
 use Rattle.std.proofs.lemmas.Result.{err_from_is_err_and}
-use Rattle.gx_tree_laws.specs.Trees.{size}
+use Rattle.gx_node.specs.Trees.{size}
 use Rattle.gx_node.specs.Store.{node_at, tree_of}
 use Rattle.gx_legality.proofs.Children.{reads_same, reads_more, found_before, fits_more, node_fits}
 use Rattle.gx_legality.proofs.node.test_node.Goals as goal

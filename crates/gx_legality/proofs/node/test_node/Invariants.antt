@@ -1,8 +1,8 @@
 use Rattle.std.proofs.Common.{◌≡◌, ◌<◌, ℕ, Some}
 use Rattle.std.specs.Prelude.{slice_get}
 use Rattle.std.specs.Ordering.{is_eq}
-use Rattle.gx_tree_laws.specs.Legal.{ChildFits}
-use Rattle.gx_tree_laws.specs.Trees.{Child}
+use Rattle.gx_node.specs.Legal.{ChildFits}
+use Rattle.gx_node.specs.Trees.{Child}
 use Rattle.gx_node.specs.Owner.{IsWhyLater}
 use Rattle.gx_node.specs.Store.{node_at, tree_of}
 use Rattle.gx_legality.specs.Owner.{OnlyReads}

@@ -1,6 +1,6 @@
 use Rattle.std.proofs.Common.{◌≡◌, ◌<◌, ◌≤◌, ℕ, None, get_or, length}
 use Rattle.std.specs.Ordering.{is_eq}
-use Rattle.gx_tree_laws.specs.Legal.{NodeFits}
+use Rattle.gx_node.specs.Legal.{NodeFits}
 use Rattle.gx_node.specs.Owner.{IsWhyLater}
 use Rattle.gx_node.specs.Store.{node_at, tree_of}
 use Rattle.gx_legality.specs.Marks.{marked, named_by, link_of}

@@ -1,6 +1,6 @@
 use Rattle.std.proofs.Common.{◌≡◌, ◌∙◌, ◌<◌, ◌≤◌, ◌+◌, ◌⊎◌, inr, length, ap, subst}
 use Rattle.gx_node.specs.Reading.{format_of}
-use Rattle.gx_tree_laws.specs.Trees.{Node, times, child_pages}
+use Rattle.gx_node.specs.Trees.{Node, times, child_pages}
 use Rattle.gx_node.specs.Store.{Store, node_of, node_at, tree_of}
 use Rattle.gx_legality.specs.Marks.{marked}
 use Rattle.gx_legality.proofs.Children.{reads_same}

@@ -4,7 +4,7 @@ use Rattle.std.proofs.lemmas.Cmp.{then_total, on_total, nat_cmp_total}
 use Rattle.std.proofs.lemmas.Result.{err_from_is_err_and}
 use Rattle.gx_machine.specs.Keys.{entry_cmp}
 use Rattle.gx_machine.specs.declared.entry.Entry.{Entry}
-use Rattle.gx_tree_laws.specs.Trees.{leaves}
+use Rattle.gx_node.specs.Trees.{leaves}
 use Rattle.gx_node.specs.Store.{tree_of}
 use Rattle.gx_legality.specs.Entries.{entries_on}
 use Rattle.gx_legality.specs.Gathered.{Tested, gathered_above}

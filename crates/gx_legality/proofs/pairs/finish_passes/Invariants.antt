@@ -1,7 +1,7 @@
 use Rattle.std.proofs.Common.{[]}
 use Rattle.gx_machine.specs.Keys.{entry_cmp}
-use Rattle.gx_tree_laws.specs.Legal.{Linked}
-use Rattle.gx_tree_laws.specs.Trees.{leaves}
+use Rattle.gx_node.specs.Legal.{Linked}
+use Rattle.gx_node.specs.Trees.{leaves}
 use Rattle.gx_node.specs.Owner.{IsWhyLater}
 use Rattle.gx_node.specs.Store.{tree_of}
 use Rattle.gx_legality.specs.Entries.{entries_on}

@@ -4,7 +4,7 @@ use Rattle.std.proofs.lemmas.Cmp.{then_total, on_total, nat_cmp_total}
 use Rattle.std.proofs.lemmas.Result.{err_from_is_err_and}
 use Rattle.gx_machine.specs.Keys.{Members, entry_cmp}
 use Rattle.gx_machine.specs.declared.entry.Entry.{Entry}
-use Rattle.gx_tree_laws.specs.Trees.{Rules, leaves, standing, is_entry}
+use Rattle.gx_node.specs.Trees.{Rules, leaves, standing, is_entry}
 use Rattle.gx_node.specs.Keyed.{rules_of}
 use Rattle.gx_node.specs.Store.{tree_of}
 use Rattle.gx_legality.specs.Breaks.{Breaks}

@@ -3,8 +3,8 @@ use Rattle.std.proofs.Common.{◌≡◌, subst, sym, arith}
 use Rattle.std.proofs.lemmas.Result.{err_from_is_err_and}
 use Rattle.std.specs.Ordering.{is_eq}
 use Rattle.std.specs.Prelude.{IfNone, IfSome, Option}
-use Rattle.gx_tree_laws.specs.Legal.{Legal}
-use Rattle.gx_tree_laws.specs.Trees.{Rules, IsLawful, is_entry, standing}
+use Rattle.gx_node.specs.Legal.{Legal}
+use Rattle.gx_node.specs.Trees.{Rules, IsLawful, is_entry, standing}
 use Rattle.gx_memory_tree.specs.declared.inserts.DescentPlace.{DescentPlace}
 use Rattle.gx_memory_tree.specs.Inserting.{GoesOn, HasAdded, IsInsert, MakesWay}
 use Rattle.gx_node.specs.Store.{Store, tree_of}

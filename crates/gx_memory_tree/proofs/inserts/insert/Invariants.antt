@@ -1,5 +1,5 @@
 use Rattle.std.specs.Ordering.{is_eq}
-use Rattle.gx_tree_laws.specs.Trees.{Rules}
+use Rattle.gx_node.specs.Trees.{Rules}
 use Rattle.gx_memory_tree.specs.Inserting.{IsInsert, MakesWay, insert_left}
 use Rattle.gx_node.specs.Store.{tree_of}
 use Rattle.gx_memory_tree.proofs.inserts.insert.Given as goal

@@ -1,8 +1,9 @@
 use Rattle.std.proofs.lemmas.Grind.{common_steps}
 use Rattle.std.proofs.Common.{◌≡◌, ◌∙◌, subst, sym, ap, arith, rules, Err}
 use Rattle.std.specs.Ordering.{is_eq}
-use Rattle.gx_tree_laws.specs.Trees.{Rules, IsLawful}
+use Rattle.gx_node.specs.Trees.{Rules, IsLawful}
 use Rattle.gx_tree.specs.declared.descent.Descended.{Descended}
+use Rattle.gx_node.specs.declared.fault.SplitFault.TheVariants.{Step}
 use Rattle.gx_node.specs.declared.fault.StepFault.TheVariants.{Damaged}
 use Rattle.gx_tree.specs.Descending.{StepsDown}
 use Rattle.gx_memory_tree.specs.Inserting.{GoesOn, IsFullAt, MakesRoom, SplitsOrNot, from_top}
@@ -127,7 +128,7 @@ returns-in_err-make_room-in-FullLeaf-clause-damaged g c = λ steady ins e.
     let full = step.0.2 in
     let at = full_at r g.K.KeyClass.is_key (tree_of old) entry place ins (omega (arith, full)) in
     let out : c.from_residual-in_err-make_room-in-FullLeaf.result ≡ Err c.in_err-make_room-in-FullLeaf.field-0.0 = search rules in
-    let failed = same_err c.from_residual-in_err-make_room-in-FullLeaf.result c.make_room.result c.in_err-make_room-in-FullLeaf.field-0.0 Damaged out c.in_err-make_room-in-FullLeaf.was e in
+    let failed = same_err c.from_residual-in_err-make_room-in-FullLeaf.result c.make_room.result c.in_err-make_room-in-FullLeaf.field-0.0 (Step Damaged) out c.in_err-make_room-in-FullLeaf.was e in
     c.make_room.ensures.damaged (c.in_ok-descend_step.ensures.steady steady)
     (subst (λ (s : Store g.row.K-Key.Denot). IsFullAt r (tree_of s) place) (sym step.1) at)
     (ap (λ (s : Store g.row.K-Key.Denot). (node_at s.nodes place.item.page).level) step.1 ∙ step.0.1) failed
@@ -144,7 +145,7 @@ returns-in_err-split_place-in-FullInner-clause-damaged g c = λ steady ins e.
     let full = step.0.2 in
     let at = full_at r g.K.KeyClass.is_key (tree_of old) entry place ins (omega (arith, full)) in
     let out : c.from_residual-in_err-split_place-in-FullInner.result ≡ Err c.in_err-split_place-in-FullInner.field-0.0 = search rules in
-    let failed = same_err c.from_residual-in_err-split_place-in-FullInner.result c.split_place.result c.in_err-split_place-in-FullInner.field-0.0 Damaged out c.in_err-split_place-in-FullInner.was e in
+    let failed = same_err c.from_residual-in_err-split_place-in-FullInner.result c.split_place.result c.in_err-split_place-in-FullInner.field-0.0 (Step Damaged) out c.in_err-split_place-in-FullInner.was e in
     c.split_place.ensures.damaged (c.in_ok-descend_step.ensures.steady steady)
     (subst (λ (s : Store g.row.K-Key.Denot). IsFullAt r (tree_of s) place) (sym step.1) at) failed
 

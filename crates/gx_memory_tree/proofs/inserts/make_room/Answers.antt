@@ -2,7 +2,8 @@ use Rattle.std.proofs.lemmas.Grind.{common_steps}
 use Rattle.std.proofs.Common.{◌≡◌, ◌∙◌, inl, inr, refl, subst, sym, true, false, rules, Err, arith}
 use Rattle.std.proofs.lemmas.Result.{err_from_is_err_and}
 use Rattle.std.specs.Ordering.{is_eq}
-use Rattle.gx_tree_laws.specs.Trees.{Rules}
+use Rattle.gx_node.specs.Trees.{Rules}
+use Rattle.gx_node.specs.declared.fault.SplitFault.TheVariants.{Step}
 use Rattle.gx_node.specs.declared.fault.StepFault.TheVariants.{Damaged}
 use Rattle.gx_memory_tree.specs.Inserting.{IsFullAt, SplitsOrNot}
 use Rattle.gx_node.specs.Store.{Store, tree_of}
@@ -32,7 +33,7 @@ returns-in_err-split_place-clause-damaged g c = λ steady at leaf e.
     let swept = c.in_ok-sweep_step.ensures.swept steady (λ x. false) (λ entry answer p. search rules) in
     let none : c.in_ok-sweep_step.field-0 ≡ false = search rules in
     let out : c.from_residual-in_err-split_place.result ≡ Err c.in_err-split_place.field-0.0 = search rules in
-    let failed = same_err c.from_residual-in_err-split_place.result c.split_place.result c.in_err-split_place.field-0.0 Damaged out c.in_err-split_place.was e in
+    let failed = same_err c.from_residual-in_err-split_place.result c.split_place.result c.in_err-split_place.field-0.0 (Step Damaged) out c.in_err-split_place.was e in
     c.split_place.ensures.damaged (c.sweep_step.ensures.steady steady)
     (subst (λ (s : Store g.row.K-Key.Denot). IsFullAt r (tree_of s) c.args.place) (sym (swept.none none).0) at) failed
 

@@ -2,11 +2,12 @@ use Rattle.std.proofs.lemmas.Grind.{common_steps}
 use Rattle.std.proofs.Common.{◌≡◌, ◌==◌, ◌∙◌, ◌∷◌, [], ◌<◌, ◌&&◌, not, length, sym, ap, subst, refl, rules, Err, arith}
 use Rattle.std.specs.Ordering.{is_eq}
 use Rattle.gx_machine.specs.Keys.{keys, key_matches}
-use Rattle.gx_tree_laws.specs.Lists.{how_many, one_if}
-use Rattle.gx_tree_laws.specs.Trees.{Rules, IsLawful, Used}
-use Rattle.gx_tree_laws.specs.Reach.{TraversalItem}
-use Rattle.gx_tree_laws.specs.Looks.{IsLook, LeadsTo, from_root}
-use Rattle.gx_tree_laws.proofs.OwnLook.{look_begins}
+use Rattle.gx_node.specs.Lists.{how_many, one_if}
+use Rattle.gx_node.specs.Trees.{Rules, IsLawful, Used}
+use Rattle.gx_node.specs.Reach.{TraversalItem}
+use Rattle.gx_node.specs.Looks.{IsLook, LeadsTo, from_root}
+use Rattle.gx_node.proofs.OwnLook.{look_begins}
+use Rattle.gx_node.specs.declared.fault.LookFault.TheVariants.{Step}
 use Rattle.gx_node.specs.declared.fault.StepFault.TheVariants.{Damaged}
 use Rattle.gx_tree.specs.Found.{pairs_found}
 use Rattle.gx_tree.specs.Looking.{LookStep}
@@ -24,15 +25,15 @@ pages-init g c =
     let r : Rules g.row.K-Key.Denot = record { covers = λ a b. g.K.Key.Shape.inside b a; same = λ a b. is_eq (g.K.Key.Ord.cmp a b); most = c.requires.most.0 } in
     let w = wants g.K.Probing.passes c.matching-wanted.result.keys c.matching-wanted.result.row in
     let root : c.new-root.result ≡ from_root t = c.new-root.ensures ∙ ap (λ s. record { page = 1; seen = s }) c.counter.ensures in
-    let stack = c.in-Ok.ensures.0 ∙ ap (λ (i : TraversalItem). i ∷ []) root in
-    let look = subst (λ is. IsLook t w is (pairs_found c.in-Ok.look.found.items)) (sym stack)
-    (subst (λ fs. IsLook t w (from_root t ∷ []) (pairs_found fs)) (sym c.in-Ok.ensures.1) (look_begins r t c.requires.most.2 w)) in
+    let stack = c.in_ok-look.ensures.0 ∙ ap (λ (i : TraversalItem). i ∷ []) root in
+    let look = subst (λ is. IsLook t w is (pairs_found c.in_ok-look.look.found.items)) (sym stack)
+    (subst (λ fs. IsLook t w (from_root t ∷ []) (pairs_found fs)) (sym c.in_ok-look.ensures.1) (look_begins r t c.requires.most.2 w)) in
     record {
       same = refl;
       steady = c.requires.steady;
       goes_on = λ was q h. h;
       later = λ later fault h. h;
-      reads = reads_begin g.P.Pages.asked t w c.args.pages.now c.in-Ok.look.stack.items (pairs_found c.in-Ok.look.found.items) look;
+      reads = reads_begin g.P.Pages.asked t w c.args.pages.now c.in_ok-look.look.stack.items (pairs_found c.in_ok-look.look.found.items) look;
       look = look;
     }
 
@@ -85,8 +86,8 @@ returns-in_err-look_step-clause-damaged g c = λ e.
     let inv = c.pages.invariant in
     let some : 0 < length c.pages.look.stack.items = search rules in
     let same = same_store (g.P.Pages.steady c.pages.pages) (g.P.Pages.store c.pages.pages) (g.P.Pages.store c.look_step.new.pages) c.look_step.ensures.stays inv.steady ∙ inv.same in
-    let out : c.from_residual.result ≡ Err c.in_err-look_step.field-0.0 = search rules in
-    let failed = same_err c.from_residual.result c.look_step.result c.in_err-look_step.field-0.0 Damaged out c.in_err-look_step.was e in
+    let out : c.from_residual-in_err-look_step.result ≡ Err c.in_err-look_step.field-0.0 = search rules in
+    let failed = same_err c.from_residual-in_err-look_step.result c.look_step.result c.in_err-look_step.field-0.0 (Step Damaged) out c.in_err-look_step.was e in
     next_is_used t w c.pages.look.stack.items (pairs_found c.pages.look.found.items) inv.look some
     (λ rest item h u. c.look_step.ensures.damaged failed rest item h (subst (λ s. Used (tree_of s) item.page) (sym same) u))
 

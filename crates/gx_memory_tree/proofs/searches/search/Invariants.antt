@@ -1,6 +1,6 @@
 use Rattle.std.proofs.Common.{◌≡◌}
-use Rattle.gx_tree_laws.specs.Looks.{IsLook}
-use Rattle.gx_tree_laws.specs.Reach.{pages_ahead}
+use Rattle.gx_node.specs.Looks.{IsLook}
+use Rattle.gx_node.specs.Reach.{pages_ahead}
 use Rattle.gx_tree.specs.Found.{pairs_found}
 use Rattle.gx_node.specs.Owner.{KeepsSince, IsWhyLater}
 use Rattle.gx_node.specs.Store.{tree_of}

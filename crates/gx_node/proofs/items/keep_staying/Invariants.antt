@@ -1,6 +1,6 @@
 use Rattle.std.proofs.Common.{◌≡◌, ◌++◌, take, drop}
 use Rattle.gx_page.specs.Edits.{with_items}
-use Rattle.gx_tree_laws.specs.Lists.{staying}
+use Rattle.gx_node.specs.Lists.{staying}
 use Rattle.gx_node.proofs.items.keep_staying.Given as goal
 
 abbrev pub invariant-loop-slot : goal.invariant-loop-slot

@@ -1,7 +1,7 @@
 use Rattle.std.proofs.Common.{◌≡◌, false, length, ap, ◌∙◌}
 use Rattle.std.proofs.lemmas.List.{take_at, take-replicate}
 use Rattle.gx_page.specs.Edits.{with_items}
-use Rattle.gx_tree_laws.specs.Lists.{staying}
+use Rattle.gx_node.specs.Lists.{staying}
 use Rattle.gx_node.specs.Small.{slots_in, sides_with, sides_of}
 use Rattle.gx_node.specs.declared.small.TheConstants.{MAX_ITEMS}
 use Rattle.gx_node.proofs.SmallItems.{length-sides_of}

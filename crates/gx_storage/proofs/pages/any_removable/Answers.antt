@@ -3,7 +3,7 @@ use Rattle.std.specs.Prelude.{nat_lt}
 use Rattle.std.proofs.lemmas.Bool.{lt-ltb}
 use Rattle.gx_node.specs.Edits.{entry_of}
 use Rattle.gx_node.proofs.Slots.{some_at}
-use Rattle.gx_tree_laws.specs.Writes.{is_sweepable}
+use Rattle.gx_node.specs.Writes.{is_sweepable}
 use Rattle.gx_storage.proofs.Removing.{none_passes, one_passes}
 use Rattle.gx_storage.proofs.pages.any_removable.Goals as goal
 

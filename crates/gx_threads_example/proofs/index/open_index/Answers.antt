@@ -1,5 +1,5 @@
 use Rattle.std.proofs.Common.{refl}
-use Rattle.gx_engine_laws.specs.Engines.{opened_machine}
+use Rattle.gx_events.specs.Engines.{opened_machine}
 use Rattle.gx_threads_example.proofs.index.open_index.Goals as goal
 
 pub returns-in-Ok : goal.returns-in-Ok

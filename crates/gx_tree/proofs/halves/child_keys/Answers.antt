@@ -1,6 +1,6 @@
 use Rattle.std.proofs.Common.{arith}
 use Rattle.gx_node.specs.Seen.{child_seen}
-use Rattle.gx_tree_laws.specs.Trees.{Child}
+use Rattle.gx_node.specs.Trees.{Child}
 use Rattle.gx_tree.proofs.Parted.{filled}
 use Rattle.gx_tree.proofs.halves.child_keys.Goals as goal
 

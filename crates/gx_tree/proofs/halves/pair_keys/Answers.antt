@@ -1,6 +1,6 @@
 use Rattle.std.proofs.Common.{arith}
 use Rattle.gx_node.specs.Seen.{pair_seen}
-use Rattle.gx_tree_laws.specs.Trees.{Pair}
+use Rattle.gx_node.specs.Trees.{Pair}
 use Rattle.gx_tree.proofs.Parted.{filled}
 use Rattle.gx_tree.proofs.halves.pair_keys.Goals as goal
 

@@ -1,5 +1,5 @@
 use Rattle.std.specs.Ordering.{is_eq}
-use Rattle.gx_tree_laws.specs.Trees.{Rules, IsLawful}
+use Rattle.gx_node.specs.Trees.{Rules, IsLawful}
 use Rattle.gx_tree.proofs.Lawful.{lawful}
 use Rattle.gx_tree.proofs.Widens.{went_down, went_widening, went_widened}
 use Rattle.gx_tree.proofs.laws.descent_goes_on.Goals as goal

@@ -1,5 +1,5 @@
 use Rattle.std.specs.Ordering.{is_eq}
-use Rattle.gx_tree_laws.specs.Trees.{Rules, IsLawful}
+use Rattle.gx_node.specs.Trees.{Rules, IsLawful}
 use Rattle.gx_tree.proofs.Lawful.{lawful}
 use Rattle.gx_tree.proofs.Widens.{step_keys, step_legal, step_pairs, step_goes_on}
 use Rattle.gx_tree.proofs.laws.descent_keeps_the_tree.Goals as goal

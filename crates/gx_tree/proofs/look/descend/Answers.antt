@@ -1,6 +1,6 @@
 use Rattle.std.proofs.Common.{◌∙◌, ◌≡◌, ◌≤◌, ◌*◌, ◌+◌, ◌++◌, append-nil, append_assoc, ap, sym, filter, map, take, length, arith}
 use Rattle.std.proofs.lemmas.List.{map-append, take_all}
-use Rattle.gx_tree_laws.specs.Trees.{Child}
+use Rattle.gx_node.specs.Trees.{Child}
 use Rattle.gx_node.specs.Hits.{passing_of}
 use Rattle.gx_tree.specs.Looking.{below, item_of}
 use Rattle.gx_node.proofs.Blocks.{block_more}

@@ -2,7 +2,7 @@ use Rattle.std.proofs.Common.{◌∙◌, ◌++◌, ◌∷◌, [], ◌<◌, appen
 use Rattle.std.specs.Prelude.{slice_get}
 use Rattle.std.specs.List.{filter_map}
 use Rattle.std.proofs.lemmas.List.{map-append, take_all}
-use Rattle.gx_tree_laws.specs.Trees.{Child}
+use Rattle.gx_node.specs.Trees.{Child}
 use Rattle.gx_node.proofs.Slots.{some_at}
 use Rattle.gx_tree.specs.Looking.{item_of}
 use Rattle.gx_node.proofs.Blocks.{block_within, slot_more}

@@ -1,7 +1,7 @@
 use Rattle.std.proofs.Common.{◌∙◌, ◌≡◌, ◌≤◌, ◌*◌, ◌+◌, ◌++◌, append-nil, append_assoc, ap, sym, filter, map, take, length, arith}
 use Rattle.std.proofs.lemmas.List.{map-append, take_all}
 use Rattle.std.proofs.lemmas.List.Elements.{filter-append}
-use Rattle.gx_tree_laws.specs.Trees.{Pair}
+use Rattle.gx_node.specs.Trees.{Pair}
 use Rattle.gx_tree.specs.Found.{found_at}
 use Rattle.gx_node.specs.Hits.{passing_of}
 use Rattle.gx_tree.specs.Wants.{has_row, wants}

@@ -3,7 +3,7 @@ use Rattle.std.specs.Prelude.{slice_get}
 use Rattle.std.specs.List.{filter_map}
 use Rattle.std.proofs.lemmas.List.{map-append, take_all}
 use Rattle.std.proofs.lemmas.List.Elements.{filter-append}
-use Rattle.gx_tree_laws.specs.Trees.{Pair}
+use Rattle.gx_node.specs.Trees.{Pair}
 use Rattle.gx_node.proofs.Slots.{some_at}
 use Rattle.gx_tree.specs.Found.{found_at}
 use Rattle.gx_tree.specs.Wants.{has_row}

@@ -1,5 +1,5 @@
-use Rattle.gx_tree_laws.specs.Steps.{node_with}
-use Rattle.gx_tree_laws.specs.Trees.{Node}
+use Rattle.gx_node.specs.Steps.{node_with}
+use Rattle.gx_node.specs.Trees.{Node}
 use Rattle.gx_tree.specs.Splitting.{left_of}
 use Rattle.gx_node.specs.Store.{node_at}
 use Rattle.gx_tree.proofs.Splits.{two_changes}

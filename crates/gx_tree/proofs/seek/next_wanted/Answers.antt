@@ -1,6 +1,6 @@
 use Rattle.std.proofs.lemmas.Grind.{common_steps}
 use Rattle.std.proofs.Common.{◌≡◌, ◌∙◌, sym, subst, map, refl, rules, None, arith}
-use Rattle.gx_tree_laws.specs.Trees.{Pair}
+use Rattle.gx_node.specs.Trees.{Pair}
 use Rattle.gx_node.specs.Hits.{IsNextHit}
 use Rattle.gx_node.specs.Seen.{pair_seen}
 use Rattle.gx_node.proofs.Live.{past_goes_on, past_finds, past_ends}

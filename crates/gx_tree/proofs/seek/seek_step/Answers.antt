@@ -1,8 +1,8 @@
 use Rattle.std.proofs.lemmas.Grind.{common_steps}
 use Rattle.std.proofs.Common.{◌≡◌, ◌∙◌, sym, ap, subst, refl, rules, Some, arith}
 use Rattle.std.specs.Prelude.{true, slice_get}
-use Rattle.gx_tree_laws.specs.Lists.{how_many}
-use Rattle.gx_tree_laws.specs.Trees.{Pair, Node}
+use Rattle.gx_node.specs.Lists.{how_many}
+use Rattle.gx_node.specs.Trees.{Pair, Node}
 use Rattle.gx_node.specs.Reading.{format_of}
 use Rattle.gx_node.specs.Seen.{pair_seen}
 use Rattle.gx_node.specs.Store.{node_at}

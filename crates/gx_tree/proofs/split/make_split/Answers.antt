@@ -1,7 +1,7 @@
 use Rattle.std.proofs.lemmas.Grind.{common_steps}
 use Rattle.std.proofs.Common.{◌≡◌, ◌+◌, ◌∙◌, suc, sym, ap, subst, length, arith, List, Bool}
 use Rattle.std.specs.Ordering.{is_eq}
-use Rattle.gx_tree_laws.specs.Trees.{Node, Rules}
+use Rattle.gx_node.specs.Trees.{Node, Rules}
 use Rattle.gx_tree.specs.Splitting.{NamesOnce, DidSplit, split_store}
 use Rattle.gx_node.specs.Store.{Store}
 use Rattle.gx_tree.specs.declared.split.Split.{Split}

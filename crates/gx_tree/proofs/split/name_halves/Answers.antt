@@ -1,6 +1,6 @@
 use Rattle.std.proofs.Common.{◌≡◌, ◌++◌, ◌∷◌, [], ◌∙◌, ap, set, length, arith}
 use Rattle.std.proofs.lemmas.List.{length-set}
-use Rattle.gx_tree_laws.specs.Trees.{Node}
+use Rattle.gx_node.specs.Trees.{Node}
 use Rattle.gx_node.specs.Edits.{with_children, bounded_by}
 use Rattle.gx_node.proofs.OneChanged.{bound_once}
 use Rattle.gx_node.specs.Store.{Store, node_at, with_node}

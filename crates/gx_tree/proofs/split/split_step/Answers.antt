@@ -1,11 +1,12 @@
 use Rattle.std.proofs.lemmas.Grind.{common_steps}
 use Rattle.std.proofs.Common.{◌∙◌, ◌∷◌, [], inr, subst, arith}
 use Rattle.std.specs.Ordering.{is_eq}
-use Rattle.gx_tree_laws.specs.Trees.{Rules}
+use Rattle.gx_node.specs.Trees.{Rules}
 use Rattle.gx_node.specs.Owner.{Brings}
 use Rattle.gx_tree.specs.Splitting.{DidSplit}
 use Rattle.gx_node.specs.Store.{Store}
 use Rattle.gx_node.proofs.Listed.{same_store}
+use Rattle.gx_tree.proofs.Owner.{where_refused}
 use Rattle.gx_tree.proofs.split.split_step.Goals as goal
 
 pub returns-clause-split : goal.returns-clause-split
@@ -17,9 +18,10 @@ returns-clause-split g c = λ steady.
     (c.prepare.ensures.same ∙ same_store (g.P.Pages.steady c.args.pages.now) old brought c.bring_both.ensures.stays steady)
     c.make_split.ensures.split
 
-pub returns-in-Err-clause-tried : goal.returns-in-Err-clause-tried
-returns-in-Err-clause-tried g c =
-    inr (λ was past h. c.prepare.ensures.asked was (Brings (c.args.page ∷ c.args.parent ∷ []) ∷ past) (c.in_ok-bring_both.ensures.asked was past h))
+pub returns-in_err-prepare-clause-tried : goal.returns-in_err-prepare-clause-tried
+returns-in_err-prepare-clause-tried g c =
+    where_refused c.from_residual-in_err-prepare.result
+    (inr (λ was past h. c.prepare.ensures.asked was (Brings (c.args.page ∷ c.args.parent ∷ []) ∷ past) (c.in_ok-bring_both.ensures.asked was past h)))
 
 pub prepare-requires-clause-room : goal.prepare-requires-clause-room
 prepare-requires-clause-room g c = grind (arith, common_steps)

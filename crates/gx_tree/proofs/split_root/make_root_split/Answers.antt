@@ -1,7 +1,7 @@
 use Rattle.std.proofs.Common.{◌≡◌, ◌∙◌, ℕ, suc, sym, ap, subst, length, length-append, List, [], ◌∷◌, Bool, arith}
 use Rattle.std.proofs.lemmas.List.{length-map}
 use Rattle.std.specs.Ordering.{is_eq}
-use Rattle.gx_tree_laws.specs.Trees.{Node, Rules, size}
+use Rattle.gx_node.specs.Trees.{Node, Rules, size}
 use Rattle.gx_tree.specs.Splitting.{DidSplitRoot}
 use Rattle.gx_node.specs.Store.{Store, node_at, with_page}
 use Rattle.gx_tree.specs.declared.split_root.RootSplit.{RootSplit}

@@ -1,7 +1,8 @@
 use Rattle.std.proofs.lemmas.Grind.{common_steps}
 use Rattle.std.proofs.Common.{◌≡◌, ◌∙◌, subst, rules, Err, arith}
 use Rattle.std.specs.Ordering.{is_eq}
-use Rattle.gx_tree_laws.specs.Trees.{Rules}
+use Rattle.gx_node.specs.Trees.{Rules}
+use Rattle.gx_node.specs.declared.fault.SplitFault.TheVariants.{Step}
 use Rattle.gx_node.specs.declared.fault.StepFault.TheVariants.{Damaged}
 use Rattle.gx_tree.specs.Splitting.{DidSplitRoot}
 use Rattle.gx_node.specs.Store.{Store}
@@ -25,9 +26,9 @@ returns-in_err-halves-clause-damaged g c = λ steady is legal full level.
     let old = g.P.Pages.store c.args.pages.now in
     let brought = g.P.Pages.store c.bring_page.new.pages in
     let out : c.from_residual-in_err-halves.result ≡ Err c.in_err-halves.field-0.0 = search rules in
-    let failed = same_err c.from_residual-in_err-halves.result c.plan_root.result c.in_err-halves.field-0.0 Damaged out c.in_err-halves.was is in
+    let failed = same_err c.from_residual-in_err-halves.result c.plan_root.result c.in_err-halves.field-0.0 (Step Damaged) out c.in_err-halves.was is in
     root_is_whole r old brought (same_store (g.P.Pages.steady c.args.pages.now) old brought c.bring_page.ensures.stays steady)
     c.requires.most.1 legal full level (c.plan_root.ensures.damaged failed)
 
-pub returns-in-Err-clause-tried : goal.returns-in-Err-clause-tried
-returns-in-Err-clause-tried g c = grind (arith, common_steps)
+pub returns-in_err-prepare-clause-tried : goal.returns-in_err-prepare-clause-tried
+returns-in_err-prepare-clause-tried g c = grind (arith, common_steps)

@@ -1,6 +1,6 @@
 use Rattle.std.proofs.Common.{◌≤◌, length, arith, rules}
 use Rattle.gx_node.specs.Edits.{entry_of}
-use Rattle.gx_tree_laws.specs.Writes.{is_sweepable}
+use Rattle.gx_node.specs.Writes.{is_sweepable}
 use Rattle.gx_tree.proofs.Sides.{all_chosen}
 use Rattle.gx_tree.proofs.sweep.choose_sides.Goals as goal
 

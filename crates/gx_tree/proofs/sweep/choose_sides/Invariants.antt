@@ -1,7 +1,7 @@
 use Rattle.std.proofs.Common.{◌≡◌, Bool, length}
 use Rattle.gx_machine.specs.declared.entry.Entry.{Entry}
 use Rattle.gx_node.specs.Edits.{entry_of}
-use Rattle.gx_tree_laws.specs.Writes.{is_sweepable}
+use Rattle.gx_node.specs.Writes.{is_sweepable}
 use Rattle.gx_tree.proofs.Sides.{Chosen}
 use Rattle.gx_tree.proofs.sweep.choose_sides.Given as goal
 

@@ -1,4 +1,3 @@
-use Rattle.gx_engine.proofs.Joining.{ask_is, log_is, page_is, seal_is, acknowledge_is}
 use Rattle.std.proofs.Common.{◌∙◌, ap}
 use Rattle.gx_engine.specs.States.{Parts}
 use Rattle.gx_engine.proofs.CommitMoves.{acknowledge_leads}

@@ -1,20 +1,24 @@
-use Rattle.std.proofs.Common.{◌≡◌, ◌∙◌, ap, refl, subst, arith, rules}
+use Rattle.std.proofs.Common.{◌≡◌, ◌∙◌, ℕ, ap, refl, subst, rules}
 use Rattle.gx_machine.specs.declared.call.Call.TheVariants.{Insert}
 use Rattle.gx_machine.specs.Keys.{Members, keys}
-use Rattle.gx_glog.specs.State.{Log}
-use Rattle.gx_readings.specs.Classes.{class_of, reading_of}
+use Rattle.gx_durable.specs.Classes.{class_of, reading_of}
+use Rattle.gx_node.specs.Keyed.{rules_of}
 use Rattle.gx_node.specs.Reading.{format_of, is_node}
+use Rattle.gx_node.specs.SmallLaws.{PairsMean}
 use Rattle.gx_node.specs.declared.fault.StepFault.TheVariants.{Damaged}
 use Rattle.gx_phases.specs.Moves.{failed_state}
 use Rattle.gx_phases.specs.States.{IsKept}
 use Rattle.gx_store.specs.declared.fault.StoreFault.{StoreFault}
-use Rattle.gx_record.specs.Writing.{write_record}
+use Rattle.gx_store.specs.State.{IsInOrder}
+use Rattle.gx_storage.specs.Imaged.{is_imaged}
+use Rattle.gx_storage.specs.Small.{add_room}
+use Rattle.gx_storage.proofs.Recording.{nodes_of}
 use Rattle.gx_engine.specs.Moves.{Moves}
 use Rattle.gx_engine.specs.Refusals.{IsRefused}
 use Rattle.gx_engine.specs.States.{Parts}
 use Rattle.gx_engine.specs.Writes.{write_events}
 use Rattle.gx_engine.proofs.Serving.{flies_on}
-use Rattle.gx_engine.proofs.Inserted.{added_comes, added_is, added_moves, never_added}
+use Rattle.gx_engine.proofs.Inserted.{add_is_short, added_comes, added_is, added_moves, never_added}
 use Rattle.gx_engine.proofs.Stopping.{lost_comes, stopped_comes, stopped_moves}
 use Rattle.gx_engine.proofs.UndoMoves.{why_pages}
 use Rattle.gx_engine.proofs.Calling.{then_read}
@@ -35,6 +39,11 @@ returns-in-Ok-clause-moves g c leaf =
     let shape : Members g.row.K-Key.Denot =
     record { partial_cmp = g.K.Key.PartialOrd.partial_cmp; eq = g.K.Key.PartialEq.eq; cmp = g.K.Key.Ord.cmp; overlap = g.K.Key.Shape.overlap; inside = g.K.Key.Shape.inside } in
     let key = c.args.entry.key in
+    let f = format_of g.K.KeyClass in
+    let nodes = nodes_of f _ _ (subst (λ (x : Parts g.row.K-Key.Denot g.row.D.Denot). IsInOrder (is_node f x.volume.shelf.pages) (state x.volume.shelf.disk).sectors x.volume.shelf.frames x.volume.shelf.used x.volume.shelf.pages)
+    c.self.view_is c.in_order.ensures) in
+    let most = c.most.ensures.most ∙ ap (λ (x : Parts g.row.K-Key.Denot g.row.D.Denot). x.volume.most) c.self.view_is in
+    let means = subst (λ (n : ℕ). PairsMean f (rules_of shape n)) most c.small_pairs.ensures in
     λ l. added_is c.args.session c.args.entry k c.args.item.page old c.add_pair.new.self c.note_added.new.self c.add_pair.ensures.only c.note_added.ensures.noted c.note_added.result
     c.note_added.ensures.outcome
     (λ x y. Moves (class_of shape g.K.ReadKeys.is_proper l) (reading_of g.K.ReadKeys.said (format_of g.K.KeyClass)) (format_of g.K.KeyClass) (is_node (format_of g.K.KeyClass))
@@ -42,14 +51,15 @@ returns-in-Ok-clause-moves g c leaf =
     (added_moves _ (c.a_class_is_lawful.ensures l) _ _ _ (state old.volume.shelf.disk) (state c.add_pair.new.self.volume.shelf.disk) old kept c.requires.works c.args.session c.requires.session
     c.requires.early c.args.entry c.args.parent c.args.item c.requires.descends c.add_pair.new.self.volume did.logged.most (flies_on _ _ did.logged.logs)
     (λ steady. (leaf steady).0) did.adds _ refl g.K.KeyClass.spelling (g.met.K.ReadKeys.said_back key c.known.ensures) (g.met.K.ReadKeys.key_is_proper key c.known.ensures)
-    (did.logged.keeps l) did.own)
+    nodes (rules_of shape) refl means did.spelled (g.met.K.KeyClass.reading_back key c.known.ensures) (did.logged.keeps l) did.own)
 
 pub returns-in-Err-Pages-clause-comes : goal.returns-in-Err-Pages-clause-comes
 returns-in-Err-Pages-clause-comes g c =
     let did = c.in-Err-Pages.ensures.adds in
     let short = g.met.K.KeyClass.key_is_short in
-    stopped_comes _ _ (keys g.K.Key.Ord.cmp g.K.Key.Shape.overlap g.K.Key.Shape.inside) (is_node (format_of g.K.KeyClass)) g.D.SectorDisk.state c.args.self.now c.args.session c.args.entry c.add_pair.new.self.volume did.stops.unlogged.most did.stops.unlogged.log
-    c.requires.early (λ page. (did.stops.unlogged.since page).same.stamp) (write_record g.K.KeyClass.KEY) refl (omega (arith, short)) c.in-Err-Pages.fault (why_pages _ c.in-Err-Pages.field-0 c.in-Err-Pages.fault c.in-Err-Pages.field-0-is did.stops.why)
+    stopped_comes _ _ (keys g.K.Key.Ord.cmp g.K.Key.Shape.overlap g.K.Key.Shape.inside) (is_node (format_of g.K.KeyClass)) g.D.SectorDisk.state c.args.self.now c.args.session c.args.entry c.add_pair.new.self.volume did.stops.unlogged.most did.stops.unlogged.log did.stops.unlogged.imaged
+    c.requires.early (λ page. (did.stops.unlogged.since page).same.stamp) (add_room (is_imaged c.args.self.now.volume.imaged c.args.item.page) g.K.KeyClass.KEY) refl
+    (add_is_short (is_imaged c.args.self.now.volume.imaged c.args.item.page) g.K.KeyClass.KEY short) c.in-Err-Pages.fault (why_pages _ c.in-Err-Pages.field-0 c.in-Err-Pages.fault c.in-Err-Pages.field-0-is did.stops.why)
     c.refuse.new.self c.refuse.result
     (subst (λ (x : Parts g.row.K-Key.Denot g.row.D.Denot). IsRefused c.in-Err-Pages.fault x c.refuse.new.self c.refuse.result) c.add_pair.ensures.only
     (subst (λ (n : StoreFault). IsRefused n c.add_pair.new.self c.refuse.new.self c.refuse.result) c.in-Err-Pages.fault-is c.refuse.ensures.refused))
@@ -63,23 +73,23 @@ returns-in-Err-Pages-clause-moves g c leaf =
     let un = did.stops.unlogged in
     λ l. stopped_moves _ (c.a_class_is_lawful.ensures l) _ _ _ g.D.SectorDisk.state old kept c.requires.works c.args.session c.requires.session c.args.entry _ c.requires.descends
     c.add_pair.new.self.volume un.most un.log (un.since 0).goes_on.device (un.keeps l)
-    (write_record g.K.KeyClass.KEY) c.in-Err-Pages.fault (why_pages _ c.in-Err-Pages.field-0 c.in-Err-Pages.fault c.in-Err-Pages.field-0-is did.stops.why)
+    (add_room (is_imaged old.volume.imaged c.args.item.page) g.K.KeyClass.KEY) c.in-Err-Pages.fault (why_pages _ c.in-Err-Pages.field-0 c.in-Err-Pages.fault c.in-Err-Pages.field-0-is did.stops.why)
     c.refuse.new.self c.refuse.result
     (subst (λ (x : Parts g.row.K-Key.Denot g.row.D.Denot). IsRefused c.in-Err-Pages.fault x c.refuse.new.self c.refuse.result) c.add_pair.ensures.only
     (subst (λ (n : StoreFault). IsRefused n c.add_pair.new.self c.refuse.new.self c.refuse.result) c.in-Err-Pages.fault-is c.refuse.ensures.refused))
 
-pub returns-in-Err-Memory : goal.returns-in-Err-Memory
-returns-in-Err-Memory g c =
+pub returns-in-Err-Damaged : goal.returns-in-Err-Damaged
+returns-in-Err-Damaged g c =
     let old : Parts g.row.K-Key.Denot g.row.D.Denot = c.args.self.now in
     let k = keys g.K.Key.Ord.cmp g.K.Key.Shape.overlap g.K.Key.Shape.inside in
     let kept = subst (λ (x : Parts g.row.K-Key.Denot g.row.D.Denot). IsKept k x.sessions) c.self.view_is c.stands.ensures in
     let state = g.D.SectorDisk.state in
-    let did = c.in-Err-Memory.ensures.adds in
+    let did = c.in-Err-Damaged.ensures.adds in
     let un = did.stops.unlogged in
-    let damaged : c.in-Err-Memory.field-0 ≡ Damaged = search rules in
+    let damaged : c.in-Err-Damaged.field-0 ≡ Damaged = search rules in
     record {
       comes =
-          lost_comes _ _ k (is_node (format_of g.K.KeyClass)) state old c.args.session c.args.entry c.add_pair.new.self.volume un.most un.log c.break_off.new.self c.break_off.result c.break_off.ensures.outcome
+          lost_comes _ _ k (is_node (format_of g.K.KeyClass)) state old c.args.session c.args.entry c.add_pair.new.self.volume un.most un.log un.imaged c.break_off.new.self c.break_off.result c.break_off.ensures.outcome
           (c.break_off.ensures.failed ∙ ap (λ (x : Parts g.row.K-Key.Denot g.row.D.Denot). record x { sessions = failed_state x.sessions }) c.add_pair.ensures.only);
       device = then_read g.D.SectorDisk.state c.args.self.now c.add_pair.new.self c.break_off.new.self c.add_pair.ensures.device c.break_off.ensures.device;
       moves = λ leaf l.

@@ -1,4 +1,3 @@
-use Rattle.std.proofs.Common.{◌≡◌, ◌-◌}
 use Rattle.gx_engine.proofs.WriteMoves.{delete_writes, so_moves}
 use Rattle.gx_engine.proofs.engine.Engine.delete.Goals as goal
 

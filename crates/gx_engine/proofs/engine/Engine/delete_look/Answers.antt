@@ -2,7 +2,7 @@ use Rattle.std.proofs.Common.{◌∙◌, ap, refl, ◌-◌}
 use Rattle.gx_geom.specs.declared.refusal.Refusal.TheVariants.{Absent}
 use Rattle.gx_machine.specs.declared.call.Call.TheVariants.{Delete}
 use Rattle.gx_machine.specs.declared.reply.Reply.TheVariants.{Refused}
-use Rattle.gx_engine_laws.specs.Events.{FindsAbsent}
+use Rattle.gx_events.specs.Events.{FindsAbsent}
 use Rattle.gx_phases.specs.declared.phase.Phase.{Phase}
 use Rattle.gx_phases.specs.Moves.{is_open}
 use Rattle.gx_phases.specs.States.{phase_at}

@@ -1,33 +1,35 @@
-use Rattle.std.proofs.Common.{◌≡◌, ◌⊎◌, ◌≤◌, length, ◌-◌, ◌∙◌, ap, refl, subst, arith, rules}
+use Rattle.std.proofs.Common.{◌≡◌, ◌≤◌, length, ◌-◌, ◌∙◌, ap, refl, subst, rules}
 use Rattle.gx_machine.specs.declared.call.Call.TheVariants.{Insert}
 use Rattle.gx_machine.specs.Keys.{Members, keys}
-use Rattle.gx_glog.specs.State.{Log}
 use Rattle.gx_node.specs.Reading.{format_of, is_node}
-use Rattle.gx_readings.specs.Classes.{class_of, known_at, reading_of}
+use Rattle.gx_durable.specs.Classes.{class_of, known_at, reading_of}
 use Rattle.gx_node.specs.declared.fault.StepFault.TheVariants.{Damaged}
 use Rattle.gx_phases.specs.Moves.{failed_state}
 use Rattle.gx_phases.specs.States.{IsKept, phase_at}
 use Rattle.gx_store.specs.declared.fault.StoreFault.{StoreFault}
-use Rattle.gx_record.specs.declared.sizes.TheConstants.{PAGE_RECORD, SPLIT_RECORD}
-use Rattle.gx_record.specs.Writing.{write_record}
+use Rattle.gx_record.specs.declared.sizes.TheConstants.{SPLIT_RECORD}
 use Rattle.gx_engine.specs.declared.work.Work.TheVariants.{Descends}
 use Rattle.gx_engine.specs.Moves.{Moves}
 use Rattle.gx_engine.specs.Refusals.{IsRefused}
 use Rattle.gx_engine.specs.States.{Parts}
-use Rattle.gx_engine.specs.Writes.{AsksRoom, IsFull, LacksPages, LeftFew, write_events}
+use Rattle.gx_engine.specs.Writes.{AsksHere, AsksRoom, IsFull, LacksPages, LeftFew, write_events}
 use Rattle.gx_tree.specs.declared.descent.Descended.TheVariants.{Again, Down, FullInner, FullLeaf, Leaf, Widened}
 use Rattle.gx_tree.specs.declared.descent.Way.TheVariants.{Add}
 use Rattle.gx_tree.specs.declared.descent.Descended.{Descended}
 use Rattle.gx_tree.specs.Descending.{WayAt, next_of}
 use Rattle.gx_node.specs.Store.{tree_of}
-use Rattle.gx_tree_laws.specs.Trees.{size}
+use Rattle.gx_node.specs.Trees.{size}
 use Rattle.gx_store.specs.State.{IsInOrder}
+use Rattle.gx_storage.specs.Imaged.{is_imaged}
+use Rattle.gx_storage.specs.Small.{add_room, widen_room}
 use Rattle.gx_storage.proofs.Descending.{IsJoin}
+use Rattle.gx_storage.proofs.Recording.{nodes_of}
 use Rattle.gx_engine.specs.Sweeping.{is_held, node_shown}
 use Rattle.gx_engine.proofs.Serving.{flies_on}
 use Rattle.gx_engine.proofs.DescentMoves.{full_inner, full_leaf, inner_removable, never_stepped, removable_again, said_again, stepped_as}
 use Rattle.gx_engine.proofs.Descents.{again_moves, down_moves, widened_moves}
-use Rattle.gx_engine.proofs.MakingRoom.{asks_page, asks_split, asks_sweep, asks_write, comes_more, lacks_pages, on_comes, on_is}
+use Rattle.gx_engine.proofs.SweepRoom.{asks_again}
+use Rattle.gx_engine.proofs.MakingRoom.{asks_add, asks_split, asks_sweep, asks_widen, comes_more, lacks_pages, on_comes, on_is, widen_is_short}
 use Rattle.gx_engine.proofs.ReadFirst.{comes_then, few_then, moves_then}
 use Rattle.gx_engine.proofs.Stopping.{lost_comes, stopped_comes, stopped_moves}
 use Rattle.gx_engine.proofs.UndoMoves.{why_pages}
@@ -42,7 +44,7 @@ returns-in-Widened-clause-comes g c =
     let shape : Members g.row.K-Key.Denot =
     record { partial_cmp = g.K.Key.PartialOrd.partial_cmp; eq = g.K.Key.PartialEq.eq; cmp = g.K.Key.Ord.cmp; overlap = g.K.Key.Shape.overlap; inside = g.K.Key.Shape.inside } in
     let f = format_of g.K.KeyClass in
-    let has = stepped_as (known_at shape g.K.ReadKeys.is_proper) (reading_of g.K.ReadKeys.said f) f (is_node f) (state old.volume.shelf.disk) (state c.step_down.new.self.volume.shelf.disk) old.volume c.step_down.new.self.volume g.K.KeyClass.cost g.K.KeyClass.joined c.args.item c.args.entry.key c.in-Ok.did (Widened c.in-Widened.field-0 c.in-Widened.field-1 c.in-Widened.field-2) c.in-Widened.is c.in-Ok.ensures.step in
+    let has = stepped_as (known_at shape g.K.ReadKeys.is_proper) (reading_of g.K.ReadKeys.said f) f (is_node f) (state old.volume.shelf.disk) (state c.step_down.new.self.volume.shelf.disk) old.volume c.step_down.new.self.volume g.K.KeyClass.cost g.K.KeyClass.joined g.K.KeyClass.spelling g.K.KeyClass.KEY c.args.item c.args.entry.key c.in-Ok.did (Widened c.in-Widened.field-0 c.in-Widened.field-1 c.in-Widened.field-2) c.in-Widened.is c.in-Ok.ensures.step in
     let there = c.go_down.ensures.there c.in-Widened.field-0 (ap (λ (x : Descended g.row.K-Key.Denot). next_of x) c.in-Widened.is) (Insert c.args.entry) (Descends c.args.parent c.args.item) (ap (λ (x : Parts g.row.K-Key.Denot g.row.D.Denot). phase_at (c.args.session - 1) x.sessions.phases) c.step_down.ensures.only ∙ c.requires.descends) in
     on_comes c.args.session (Insert c.args.entry) c.args.item.page c.in-Widened.field-0 old c.step_down.new.self c.go_down.new.self c.step_down.ensures.only there c.go_down.result c.go_down.ensures.outcome _ _ k (is_node f) state has.logged.most
 
@@ -55,7 +57,7 @@ returns-in-Widened-clause-moves g c l =
     record { partial_cmp = g.K.Key.PartialOrd.partial_cmp; eq = g.K.Key.PartialEq.eq; cmp = g.K.Key.Ord.cmp; overlap = g.K.Key.Shape.overlap; inside = g.K.Key.Shape.inside } in
     let f = format_of g.K.KeyClass in
     let kept = subst (λ (x : Parts g.row.K-Key.Denot g.row.D.Denot). IsKept k x.sessions) c.self.view_is c.stands.ensures in
-    let has = stepped_as (known_at shape g.K.ReadKeys.is_proper) (reading_of g.K.ReadKeys.said f) f (is_node f) (state old.volume.shelf.disk) (state c.step_down.new.self.volume.shelf.disk) old.volume c.step_down.new.self.volume g.K.KeyClass.cost g.K.KeyClass.joined c.args.item c.args.entry.key c.in-Ok.did (Widened c.in-Widened.field-0 c.in-Widened.field-1 c.in-Widened.field-2) c.in-Widened.is c.in-Ok.ensures.step in
+    let has = stepped_as (known_at shape g.K.ReadKeys.is_proper) (reading_of g.K.ReadKeys.said f) f (is_node f) (state old.volume.shelf.disk) (state c.step_down.new.self.volume.shelf.disk) old.volume c.step_down.new.self.volume g.K.KeyClass.cost g.K.KeyClass.joined g.K.KeyClass.spelling g.K.KeyClass.KEY c.args.item c.args.entry.key c.in-Ok.did (Widened c.in-Widened.field-0 c.in-Widened.field-1 c.in-Widened.field-2) c.in-Widened.is c.in-Ok.ensures.step in
     let there = c.go_down.ensures.there c.in-Widened.field-0 (ap (λ (x : Descended g.row.K-Key.Denot). next_of x) c.in-Widened.is) (Insert c.args.entry) (Descends c.args.parent c.args.item) (ap (λ (x : Parts g.row.K-Key.Denot g.row.D.Denot). phase_at (c.args.session - 1) x.sessions.phases) c.step_down.ensures.only ∙ c.requires.descends) in
     let order = subst (λ (x : Parts g.row.K-Key.Denot g.row.D.Denot). IsInOrder (is_node f x.volume.shelf.pages) (state x.volume.shelf.disk).sectors x.volume.shelf.frames x.volume.shelf.used x.volume.shelf.pages)
     c.self.view_is c.in_order.ensures in
@@ -70,7 +72,8 @@ returns-in-Widened-clause-moves g c l =
     (state old.volume.shelf.disk) (state x.volume.shelf.disk) c.args.session old x y (write_events c.args.session (Insert c.args.entry) y))
     (widened_moves _ (c.a_class_is_lawful.ensures l) g.K.ReadKeys.said f (is_node f) (state old.volume.shelf.disk) (state c.step_down.new.self.volume.shelf.disk)
     old kept c.args.session c.requires.session c.requires.early c.args.entry c.args.parent c.args.item c.requires.descends c.step_down.new.self.volume has.logged.most (flies_on _ _ has.logged.logs)
-    g.K.KeyClass.is_key g.K.KeyClass.cost g.K.KeyClass.joined join c.known.ensures (c.a_volume_shows_keys.ensures l old.volume) order c.in-Widened.field-0 c.in-Widened.field-1 c.in-Widened.field-2 has.steps (has.own refl) (has.logged.keeps l))
+    g.K.KeyClass.is_key g.K.KeyClass.cost g.K.KeyClass.joined join c.known.ensures (c.a_volume_shows_keys.ensures l old.volume) order
+    (nodes_of f _ _ order) g.K.KeyClass.spelling g.met.K.KeyClass.reading_back c.in-Widened.field-0 c.in-Widened.field-1 c.in-Widened.field-2 has.steps (has.own refl) (has.logged.keeps l))
 
 pub returns-in-Down-clause-comes : goal.returns-in-Down-clause-comes
 returns-in-Down-clause-comes g c =
@@ -80,7 +83,7 @@ returns-in-Down-clause-comes g c =
     let shape : Members g.row.K-Key.Denot =
     record { partial_cmp = g.K.Key.PartialOrd.partial_cmp; eq = g.K.Key.PartialEq.eq; cmp = g.K.Key.Ord.cmp; overlap = g.K.Key.Shape.overlap; inside = g.K.Key.Shape.inside } in
     let f = format_of g.K.KeyClass in
-    let has = stepped_as (known_at shape g.K.ReadKeys.is_proper) (reading_of g.K.ReadKeys.said f) f (is_node f) (state old.volume.shelf.disk) (state c.step_down.new.self.volume.shelf.disk) old.volume c.step_down.new.self.volume g.K.KeyClass.cost g.K.KeyClass.joined c.args.item c.args.entry.key c.in-Ok.did (Down c.in-Down.field-0) c.in-Down.is c.in-Ok.ensures.step in
+    let has = stepped_as (known_at shape g.K.ReadKeys.is_proper) (reading_of g.K.ReadKeys.said f) f (is_node f) (state old.volume.shelf.disk) (state c.step_down.new.self.volume.shelf.disk) old.volume c.step_down.new.self.volume g.K.KeyClass.cost g.K.KeyClass.joined g.K.KeyClass.spelling g.K.KeyClass.KEY c.args.item c.args.entry.key c.in-Ok.did (Down c.in-Down.field-0) c.in-Down.is c.in-Ok.ensures.step in
     let there = c.go_down-in-Down.ensures.there c.in-Down.field-0 (ap (λ (x : Descended g.row.K-Key.Denot). next_of x) c.in-Down.is) (Insert c.args.entry) (Descends c.args.parent c.args.item) (ap (λ (x : Parts g.row.K-Key.Denot g.row.D.Denot). phase_at (c.args.session - 1) x.sessions.phases) c.step_down.ensures.only ∙ c.requires.descends) in
     on_comes c.args.session (Insert c.args.entry) c.args.item.page c.in-Down.field-0 old c.step_down.new.self c.go_down-in-Down.new.self c.step_down.ensures.only there c.go_down-in-Down.result c.go_down-in-Down.ensures.outcome _ _ k (is_node f) state has.logged.most
 
@@ -93,7 +96,7 @@ returns-in-Down-clause-moves g c l =
     record { partial_cmp = g.K.Key.PartialOrd.partial_cmp; eq = g.K.Key.PartialEq.eq; cmp = g.K.Key.Ord.cmp; overlap = g.K.Key.Shape.overlap; inside = g.K.Key.Shape.inside } in
     let f = format_of g.K.KeyClass in
     let kept = subst (λ (x : Parts g.row.K-Key.Denot g.row.D.Denot). IsKept k x.sessions) c.self.view_is c.stands.ensures in
-    let has = stepped_as (known_at shape g.K.ReadKeys.is_proper) (reading_of g.K.ReadKeys.said f) f (is_node f) (state old.volume.shelf.disk) (state c.step_down.new.self.volume.shelf.disk) old.volume c.step_down.new.self.volume g.K.KeyClass.cost g.K.KeyClass.joined c.args.item c.args.entry.key c.in-Ok.did (Down c.in-Down.field-0) c.in-Down.is c.in-Ok.ensures.step in
+    let has = stepped_as (known_at shape g.K.ReadKeys.is_proper) (reading_of g.K.ReadKeys.said f) f (is_node f) (state old.volume.shelf.disk) (state c.step_down.new.self.volume.shelf.disk) old.volume c.step_down.new.self.volume g.K.KeyClass.cost g.K.KeyClass.joined g.K.KeyClass.spelling g.K.KeyClass.KEY c.args.item c.args.entry.key c.in-Ok.did (Down c.in-Down.field-0) c.in-Down.is c.in-Ok.ensures.step in
     let there = c.go_down-in-Down.ensures.there c.in-Down.field-0 (ap (λ (x : Descended g.row.K-Key.Denot). next_of x) c.in-Down.is) (Insert c.args.entry) (Descends c.args.parent c.args.item) (ap (λ (x : Parts g.row.K-Key.Denot g.row.D.Denot). phase_at (c.args.session - 1) x.sessions.phases) c.step_down.ensures.only ∙ c.requires.descends) in
     let order = subst (λ (x : Parts g.row.K-Key.Denot g.row.D.Denot). IsInOrder (is_node f x.volume.shelf.pages) (state x.volume.shelf.disk).sectors x.volume.shelf.frames x.volume.shelf.used x.volume.shelf.pages)
     c.self.view_is c.in_order.ensures in
@@ -118,7 +121,7 @@ returns-in-Again-clause-comes g c =
     let shape : Members g.row.K-Key.Denot =
     record { partial_cmp = g.K.Key.PartialOrd.partial_cmp; eq = g.K.Key.PartialEq.eq; cmp = g.K.Key.Ord.cmp; overlap = g.K.Key.Shape.overlap; inside = g.K.Key.Shape.inside } in
     let f = format_of g.K.KeyClass in
-    let has = stepped_as (known_at shape g.K.ReadKeys.is_proper) (reading_of g.K.ReadKeys.said f) f (is_node f) (state old.volume.shelf.disk) (state c.step_down.new.self.volume.shelf.disk) old.volume c.step_down.new.self.volume g.K.KeyClass.cost g.K.KeyClass.joined c.args.item c.args.entry.key c.in-Ok.did Again c.in-Again.is c.in-Ok.ensures.step in
+    let has = stepped_as (known_at shape g.K.ReadKeys.is_proper) (reading_of g.K.ReadKeys.said f) f (is_node f) (state old.volume.shelf.disk) (state c.step_down.new.self.volume.shelf.disk) old.volume c.step_down.new.self.volume g.K.KeyClass.cost g.K.KeyClass.joined g.K.KeyClass.spelling g.K.KeyClass.KEY c.args.item c.args.entry.key c.in-Ok.did Again c.in-Again.is c.in-Ok.ensures.step in
     let there = c.begin_again.ensures.there (Insert c.args.entry) (Descends c.args.parent c.args.item) (ap (λ (x : Parts g.row.K-Key.Denot g.row.D.Denot). phase_at (c.args.session - 1) x.sessions.phases) c.step_down.ensures.only ∙ c.requires.descends) in
     on_comes c.args.session (Insert c.args.entry) 0 (record { page = 1; seen = c.step_down.new.self.volume.shelf.counter }) old c.step_down.new.self c.begin_again.new.self c.step_down.ensures.only there c.begin_again.result c.begin_again.ensures.outcome _ _ k (is_node f) state has.logged.most
 
@@ -131,7 +134,7 @@ returns-in-Again-clause-moves g c l =
     record { partial_cmp = g.K.Key.PartialOrd.partial_cmp; eq = g.K.Key.PartialEq.eq; cmp = g.K.Key.Ord.cmp; overlap = g.K.Key.Shape.overlap; inside = g.K.Key.Shape.inside } in
     let f = format_of g.K.KeyClass in
     let kept = subst (λ (x : Parts g.row.K-Key.Denot g.row.D.Denot). IsKept k x.sessions) c.self.view_is c.stands.ensures in
-    let has = stepped_as (known_at shape g.K.ReadKeys.is_proper) (reading_of g.K.ReadKeys.said f) f (is_node f) (state old.volume.shelf.disk) (state c.step_down.new.self.volume.shelf.disk) old.volume c.step_down.new.self.volume g.K.KeyClass.cost g.K.KeyClass.joined c.args.item c.args.entry.key c.in-Ok.did Again c.in-Again.is c.in-Ok.ensures.step in
+    let has = stepped_as (known_at shape g.K.ReadKeys.is_proper) (reading_of g.K.ReadKeys.said f) f (is_node f) (state old.volume.shelf.disk) (state c.step_down.new.self.volume.shelf.disk) old.volume c.step_down.new.self.volume g.K.KeyClass.cost g.K.KeyClass.joined g.K.KeyClass.spelling g.K.KeyClass.KEY c.args.item c.args.entry.key c.in-Ok.did Again c.in-Again.is c.in-Ok.ensures.step in
     let there = c.begin_again.ensures.there (Insert c.args.entry) (Descends c.args.parent c.args.item) (ap (λ (x : Parts g.row.K-Key.Denot g.row.D.Denot). phase_at (c.args.session - 1) x.sessions.phases) c.step_down.ensures.only ∙ c.requires.descends) in
     on_is c.args.session (Insert c.args.entry) 0 (record { page = 1; seen = c.step_down.new.self.volume.shelf.counter }) old c.step_down.new.self c.begin_again.new.self c.step_down.ensures.only there c.begin_again.result c.begin_again.ensures.outcome
     (λ x y. Moves (class_of shape g.K.ReadKeys.is_proper l) (reading_of g.K.ReadKeys.said f) f (is_node f)
@@ -148,7 +151,7 @@ returns-in-Leaf-clause-comes g c =
     let shape : Members g.row.K-Key.Denot =
     record { partial_cmp = g.K.Key.PartialOrd.partial_cmp; eq = g.K.Key.PartialEq.eq; cmp = g.K.Key.Ord.cmp; overlap = g.K.Key.Shape.overlap; inside = g.K.Key.Shape.inside } in
     let f = format_of g.K.KeyClass in
-    let has = stepped_as (known_at shape g.K.ReadKeys.is_proper) (reading_of g.K.ReadKeys.said f) f (is_node f) (state old.volume.shelf.disk) (state c.step_down.new.self.volume.shelf.disk) old.volume c.step_down.new.self.volume g.K.KeyClass.cost g.K.KeyClass.joined c.args.item c.args.entry.key c.in-Ok.did Leaf c.in-Leaf.is c.in-Ok.ensures.step in
+    let has = stepped_as (known_at shape g.K.ReadKeys.is_proper) (reading_of g.K.ReadKeys.said f) f (is_node f) (state old.volume.shelf.disk) (state c.step_down.new.self.volume.shelf.disk) old.volume c.step_down.new.self.volume g.K.KeyClass.cost g.K.KeyClass.joined g.K.KeyClass.spelling g.K.KeyClass.KEY c.args.item c.args.entry.key c.in-Ok.did Leaf c.in-Leaf.is c.in-Ok.ensures.step in
     let known = known_at shape g.K.ReadKeys.is_proper in
     let r = reading_of g.K.ReadKeys.said f in
     let d = state old.volume.shelf.disk in
@@ -157,10 +160,11 @@ returns-in-Leaf-clause-comes g c =
     let page = c.args.item.page in
     let key = g.K.KeyClass.KEY in
     let e = state c.add_here.new.self.volume.shelf.disk in
-    comes_more k (is_node f) d e c.args.session (Insert c.args.entry) old c.add_here.new.self (λ size. size ≡ write_record key) (AsksRoom f key d c.args.session (Insert c.args.entry) old)
-    (asks_write f key d c.args.session c.args.entry c.args.parent c.args.item old c.requires.descends (λ steady. ((has.steps steady).0.1, (has.steps steady).0.2)))
+    comes_more k (is_node f) d e c.args.session (Insert c.args.entry) old c.add_here.new.self (λ size. size ≡ add_room (is_imaged mid.volume.imaged page) key) (AsksRoom k f key d c.args.session (Insert c.args.entry) old)
+    (asks_add k f key d c.args.session c.args.entry c.args.parent c.args.item old c.requires.descends (λ steady. ((has.steps steady).0.1, (has.steps steady).0.2))
+    mid.volume.imaged has.logged.imaged)
     ⊥ (LacksPages f d c.args.session (Insert c.args.entry) old) (λ none. absurd none) c.add_here.result
-    (comes_then k known r f (is_node f) PAGE_RECORD d m e c.args.session c.args.entry old mid c.step_down.ensures.only has.logged (λ size. size ≡ write_record key) ⊥ ⊥ (λ none. none)
+    (comes_then k known r f (is_node f) (widen_room (is_imaged old.volume.imaged c.args.item.page) g.K.KeyClass.KEY) d m e c.args.session c.args.entry old mid c.step_down.ensures.only has.logged (λ size. size ≡ add_room (is_imaged mid.volume.imaged page) key) ⊥ ⊥ (λ none. none)
     c.add_here.new.self c.add_here.result c.add_here.ensures.comes)
 
 pub returns-in-Leaf-clause-moves : goal.returns-in-Leaf-clause-moves
@@ -171,7 +175,7 @@ returns-in-Leaf-clause-moves g c l bodies i h =
     let shape : Members g.row.K-Key.Denot =
     record { partial_cmp = g.K.Key.PartialOrd.partial_cmp; eq = g.K.Key.PartialEq.eq; cmp = g.K.Key.Ord.cmp; overlap = g.K.Key.Shape.overlap; inside = g.K.Key.Shape.inside } in
     let f = format_of g.K.KeyClass in
-    let has = stepped_as (known_at shape g.K.ReadKeys.is_proper) (reading_of g.K.ReadKeys.said f) f (is_node f) (state old.volume.shelf.disk) (state c.step_down.new.self.volume.shelf.disk) old.volume c.step_down.new.self.volume g.K.KeyClass.cost g.K.KeyClass.joined c.args.item c.args.entry.key c.in-Ok.did Leaf c.in-Leaf.is c.in-Ok.ensures.step in
+    let has = stepped_as (known_at shape g.K.ReadKeys.is_proper) (reading_of g.K.ReadKeys.said f) f (is_node f) (state old.volume.shelf.disk) (state c.step_down.new.self.volume.shelf.disk) old.volume c.step_down.new.self.volume g.K.KeyClass.cost g.K.KeyClass.joined g.K.KeyClass.spelling g.K.KeyClass.KEY c.args.item c.args.entry.key c.in-Ok.did Leaf c.in-Leaf.is c.in-Ok.ensures.step in
     let un = has.logged in
     let step = has.steps h.keeps.steady in
     moves_then (class_of shape g.K.ReadKeys.is_proper l) (c.a_class_is_lawful.ensures l) (reading_of g.K.ReadKeys.said f) f (is_node f) (state old.volume.shelf.disk) (state c.step_down.new.self.volume.shelf.disk) (state c.add_here.new.self.volume.shelf.disk) c.args.session old
@@ -187,7 +191,7 @@ returns-in-FullLeaf-clause-comes g c =
     let shape : Members g.row.K-Key.Denot =
     record { partial_cmp = g.K.Key.PartialOrd.partial_cmp; eq = g.K.Key.PartialEq.eq; cmp = g.K.Key.Ord.cmp; overlap = g.K.Key.Shape.overlap; inside = g.K.Key.Shape.inside } in
     let f = format_of g.K.KeyClass in
-    let has = stepped_as (known_at shape g.K.ReadKeys.is_proper) (reading_of g.K.ReadKeys.said f) f (is_node f) (state old.volume.shelf.disk) (state c.step_down.new.self.volume.shelf.disk) old.volume c.step_down.new.self.volume g.K.KeyClass.cost g.K.KeyClass.joined c.args.item c.args.entry.key c.in-Ok.did FullLeaf c.in-FullLeaf.is c.in-Ok.ensures.step in
+    let has = stepped_as (known_at shape g.K.ReadKeys.is_proper) (reading_of g.K.ReadKeys.said f) f (is_node f) (state old.volume.shelf.disk) (state c.step_down.new.self.volume.shelf.disk) old.volume c.step_down.new.self.volume g.K.KeyClass.cost g.K.KeyClass.joined g.K.KeyClass.spelling g.K.KeyClass.KEY c.args.item c.args.entry.key c.in-Ok.did FullLeaf c.in-FullLeaf.is c.in-Ok.ensures.step in
     let known = known_at shape g.K.ReadKeys.is_proper in
     let r = reading_of g.K.ReadKeys.said f in
     let d = state old.volume.shelf.disk in
@@ -197,13 +201,16 @@ returns-in-FullLeaf-clause-comes g c =
     let key = g.K.KeyClass.KEY in
     let e = state c.make_room.new.self.volume.shelf.disk in
     let full : IsFull f d old page = λ steady. full_leaf (node_shown f d page old) old.volume.most (has.steps steady).0.2 in
-    comes_more k (is_node f) d e c.args.session (Insert c.args.entry) old c.make_room.new.self (λ size. (size ≡ PAGE_RECORD) ⊎ (size ≡ SPLIT_RECORD)) (AsksRoom f key d c.args.session (Insert c.args.entry) old)
-    (asks_sweep f key d c.args.session c.args.entry c.args.parent c.args.item old c.requires.descends full)
+    comes_more k (is_node f) d e c.args.session (Insert c.args.entry) old c.make_room.new.self (AsksHere k f d old page) (AsksRoom k f key d c.args.session (Insert c.args.entry) old)
+    (asks_sweep k f key d c.args.session c.args.entry c.args.parent c.args.item old c.requires.descends full)
     (LeftFew d old page) (LacksPages f d c.args.session (Insert c.args.entry) old)
-    (lacks_pages f key d c.args.session c.args.entry c.args.parent c.args.item old c.requires.descends full) c.make_room.result
-    (comes_then k known r f (is_node f) PAGE_RECORD d m e c.args.session c.args.entry old mid c.step_down.ensures.only has.logged (λ size. (size ≡ PAGE_RECORD) ⊎ (size ≡ SPLIT_RECORD)) (LeftFew m mid page) (LeftFew d old page)
-    (few_then k known r f (is_node f) PAGE_RECORD d m e c.args.session c.args.entry old mid c.step_down.ensures.only has.logged (λ steady. (has.steps steady).1) page)
-    c.make_room.new.self c.make_room.result (c.make_room.ensures.comes c.args.entry (ap (λ (x : Parts g.row.K-Key.Denot g.row.D.Denot). phase_at (c.args.session - 1) x.sessions.phases) c.step_down.ensures.only ∙ c.requires.descends)))
+    (lacks_pages k f key d c.args.session c.args.entry c.args.parent c.args.item old c.requires.descends full) c.make_room.result
+    (comes_then k known r f (is_node f) (widen_room (is_imaged old.volume.imaged c.args.item.page) g.K.KeyClass.KEY) d m e c.args.session c.args.entry old mid c.step_down.ensures.only has.logged (AsksHere k f d old page) (LeftFew m mid page) (LeftFew d old page)
+    (few_then k known r f (is_node f) (widen_room (is_imaged old.volume.imaged c.args.item.page) g.K.KeyClass.KEY) d m e c.args.session c.args.entry old mid c.step_down.ensures.only has.logged (λ steady. (has.steps steady).1) page)
+    c.make_room.new.self c.make_room.result
+    (comes_more k (is_node f) m e c.args.session (Insert c.args.entry) mid c.make_room.new.self (AsksHere k f m mid page) (AsksHere k f d old page)
+    (asks_again k f d m old mid c.step_down.ensures.only has.logged.imaged (has.logged.since 0).goes_on.steady (λ steady. (has.steps steady).1) page) (LeftFew m mid page) (LeftFew m mid page) (λ few. few)
+    c.make_room.result (c.make_room.ensures.comes c.args.entry (ap (λ (x : Parts g.row.K-Key.Denot g.row.D.Denot). phase_at (c.args.session - 1) x.sessions.phases) c.step_down.ensures.only ∙ c.requires.descends))))
 
 pub returns-in-FullLeaf-clause-moves : goal.returns-in-FullLeaf-clause-moves
 returns-in-FullLeaf-clause-moves g c l bodies i h =
@@ -213,7 +220,7 @@ returns-in-FullLeaf-clause-moves g c l bodies i h =
     let shape : Members g.row.K-Key.Denot =
     record { partial_cmp = g.K.Key.PartialOrd.partial_cmp; eq = g.K.Key.PartialEq.eq; cmp = g.K.Key.Ord.cmp; overlap = g.K.Key.Shape.overlap; inside = g.K.Key.Shape.inside } in
     let f = format_of g.K.KeyClass in
-    let has = stepped_as (known_at shape g.K.ReadKeys.is_proper) (reading_of g.K.ReadKeys.said f) f (is_node f) (state old.volume.shelf.disk) (state c.step_down.new.self.volume.shelf.disk) old.volume c.step_down.new.self.volume g.K.KeyClass.cost g.K.KeyClass.joined c.args.item c.args.entry.key c.in-Ok.did FullLeaf c.in-FullLeaf.is c.in-Ok.ensures.step in
+    let has = stepped_as (known_at shape g.K.ReadKeys.is_proper) (reading_of g.K.ReadKeys.said f) f (is_node f) (state old.volume.shelf.disk) (state c.step_down.new.self.volume.shelf.disk) old.volume c.step_down.new.self.volume g.K.KeyClass.cost g.K.KeyClass.joined g.K.KeyClass.spelling g.K.KeyClass.KEY c.args.item c.args.entry.key c.in-Ok.did FullLeaf c.in-FullLeaf.is c.in-Ok.ensures.step in
     let un = has.logged in
     let step = has.steps h.keeps.steady in
     moves_then (class_of shape g.K.ReadKeys.is_proper l) (c.a_class_is_lawful.ensures l) (reading_of g.K.ReadKeys.said f) f (is_node f) (state old.volume.shelf.disk) (state c.step_down.new.self.volume.shelf.disk) (state c.make_room.new.self.volume.shelf.disk) c.args.session old
@@ -230,7 +237,7 @@ returns-in-FullInner-clause-comes g c =
     let shape : Members g.row.K-Key.Denot =
     record { partial_cmp = g.K.Key.PartialOrd.partial_cmp; eq = g.K.Key.PartialEq.eq; cmp = g.K.Key.Ord.cmp; overlap = g.K.Key.Shape.overlap; inside = g.K.Key.Shape.inside } in
     let f = format_of g.K.KeyClass in
-    let has = stepped_as (known_at shape g.K.ReadKeys.is_proper) (reading_of g.K.ReadKeys.said f) f (is_node f) (state old.volume.shelf.disk) (state c.step_down.new.self.volume.shelf.disk) old.volume c.step_down.new.self.volume g.K.KeyClass.cost g.K.KeyClass.joined c.args.item c.args.entry.key c.in-Ok.did FullInner c.in-FullInner.is c.in-Ok.ensures.step in
+    let has = stepped_as (known_at shape g.K.ReadKeys.is_proper) (reading_of g.K.ReadKeys.said f) f (is_node f) (state old.volume.shelf.disk) (state c.step_down.new.self.volume.shelf.disk) old.volume c.step_down.new.self.volume g.K.KeyClass.cost g.K.KeyClass.joined g.K.KeyClass.spelling g.K.KeyClass.KEY c.args.item c.args.entry.key c.in-Ok.did FullInner c.in-FullInner.is c.in-Ok.ensures.step in
     let known = known_at shape g.K.ReadKeys.is_proper in
     let r = reading_of g.K.ReadKeys.said f in
     let d = state old.volume.shelf.disk in
@@ -240,12 +247,12 @@ returns-in-FullInner-clause-comes g c =
     let key = g.K.KeyClass.KEY in
     let e = state c.split_here.new.self.volume.shelf.disk in
     let full : IsFull f d old page = λ steady. full_inner (node_shown f d page old) old.volume.most (has.steps steady).0.2 in
-    comes_more k (is_node f) d e c.args.session (Insert c.args.entry) old c.split_here.new.self (λ size. size ≡ SPLIT_RECORD) (AsksRoom f key d c.args.session (Insert c.args.entry) old)
-    (asks_split f key d c.args.session c.args.entry c.args.parent c.args.item old c.requires.descends full)
+    comes_more k (is_node f) d e c.args.session (Insert c.args.entry) old c.split_here.new.self (λ size. size ≡ SPLIT_RECORD) (AsksRoom k f key d c.args.session (Insert c.args.entry) old)
+    (asks_split k f key d c.args.session c.args.entry c.args.parent c.args.item old c.requires.descends full)
     (LeftFew d old page) (LacksPages f d c.args.session (Insert c.args.entry) old)
-    (lacks_pages f key d c.args.session c.args.entry c.args.parent c.args.item old c.requires.descends full) c.split_here.result
-    (comes_then k known r f (is_node f) PAGE_RECORD d m e c.args.session c.args.entry old mid c.step_down.ensures.only has.logged (λ size. size ≡ SPLIT_RECORD) (LeftFew m mid page) (LeftFew d old page)
-    (few_then k known r f (is_node f) PAGE_RECORD d m e c.args.session c.args.entry old mid c.step_down.ensures.only has.logged (λ steady. (has.steps steady).1) page)
+    (lacks_pages k f key d c.args.session c.args.entry c.args.parent c.args.item old c.requires.descends full) c.split_here.result
+    (comes_then k known r f (is_node f) (widen_room (is_imaged old.volume.imaged c.args.item.page) g.K.KeyClass.KEY) d m e c.args.session c.args.entry old mid c.step_down.ensures.only has.logged (λ size. size ≡ SPLIT_RECORD) (LeftFew m mid page) (LeftFew d old page)
+    (few_then k known r f (is_node f) (widen_room (is_imaged old.volume.imaged c.args.item.page) g.K.KeyClass.KEY) d m e c.args.session c.args.entry old mid c.step_down.ensures.only has.logged (λ steady. (has.steps steady).1) page)
     c.split_here.new.self c.split_here.result (c.split_here.ensures.comes c.args.entry (ap (λ (x : Parts g.row.K-Key.Denot g.row.D.Denot). phase_at (c.args.session - 1) x.sessions.phases) c.step_down.ensures.only ∙ c.requires.descends)))
 
 pub returns-in-FullInner-clause-moves : goal.returns-in-FullInner-clause-moves
@@ -256,7 +263,7 @@ returns-in-FullInner-clause-moves g c l bodies i h =
     let shape : Members g.row.K-Key.Denot =
     record { partial_cmp = g.K.Key.PartialOrd.partial_cmp; eq = g.K.Key.PartialEq.eq; cmp = g.K.Key.Ord.cmp; overlap = g.K.Key.Shape.overlap; inside = g.K.Key.Shape.inside } in
     let f = format_of g.K.KeyClass in
-    let has = stepped_as (known_at shape g.K.ReadKeys.is_proper) (reading_of g.K.ReadKeys.said f) f (is_node f) (state old.volume.shelf.disk) (state c.step_down.new.self.volume.shelf.disk) old.volume c.step_down.new.self.volume g.K.KeyClass.cost g.K.KeyClass.joined c.args.item c.args.entry.key c.in-Ok.did FullInner c.in-FullInner.is c.in-Ok.ensures.step in
+    let has = stepped_as (known_at shape g.K.ReadKeys.is_proper) (reading_of g.K.ReadKeys.said f) f (is_node f) (state old.volume.shelf.disk) (state c.step_down.new.self.volume.shelf.disk) old.volume c.step_down.new.self.volume g.K.KeyClass.cost g.K.KeyClass.joined g.K.KeyClass.spelling g.K.KeyClass.KEY c.args.item c.args.entry.key c.in-Ok.did FullInner c.in-FullInner.is c.in-Ok.ensures.step in
     let un = has.logged in
     let step = has.steps h.keeps.steady in
     moves_then (class_of shape g.K.ReadKeys.is_proper l) (c.a_class_is_lawful.ensures l) (reading_of g.K.ReadKeys.said f) f (is_node f) (state old.volume.shelf.disk) (state c.step_down.new.self.volume.shelf.disk) (state c.split_here.new.self.volume.shelf.disk) c.args.session old
@@ -272,8 +279,10 @@ returns-in-Err-Pages-clause-comes g c =
     let k = keys g.K.Key.Ord.cmp g.K.Key.Shape.overlap g.K.Key.Shape.inside in
     let state = g.D.SectorDisk.state in
     let did = c.in-Err-Pages.ensures.step in
-    stopped_comes _ _ k (is_node (format_of g.K.KeyClass)) state old c.args.session c.args.entry c.step_down.new.self.volume did.stops.unlogged.most did.stops.unlogged.log
-    c.requires.early (λ page. (did.stops.unlogged.since page).same.stamp) PAGE_RECORD (asks_page (format_of g.K.KeyClass) g.K.KeyClass.KEY (state old.volume.shelf.disk) c.args.session c.args.entry c.args.parent c.args.item old c.requires.descends PAGE_RECORD refl) (omega arith) c.in-Err-Pages.fault (why_pages _ c.in-Err-Pages.field-0 c.in-Err-Pages.fault c.in-Err-Pages.field-0-is did.stops.why)
+    stopped_comes _ _ k (is_node (format_of g.K.KeyClass)) state old c.args.session c.args.entry c.step_down.new.self.volume did.stops.unlogged.most did.stops.unlogged.log did.stops.unlogged.imaged
+    c.requires.early (λ page. (did.stops.unlogged.since page).same.stamp) (widen_room (is_imaged old.volume.imaged c.args.item.page) g.K.KeyClass.KEY)
+    (asks_widen k (format_of g.K.KeyClass) g.K.KeyClass.KEY (state old.volume.shelf.disk) c.args.session c.args.entry c.args.parent c.args.item old c.requires.descends _ refl)
+    (widen_is_short (is_imaged old.volume.imaged c.args.item.page) g.K.KeyClass.KEY g.met.K.KeyClass.key_is_short) c.in-Err-Pages.fault (why_pages _ c.in-Err-Pages.field-0 c.in-Err-Pages.fault c.in-Err-Pages.field-0-is did.stops.why)
     c.refuse.new.self c.refuse.result
     (subst (λ (x : Parts g.row.K-Key.Denot g.row.D.Denot). IsRefused c.in-Err-Pages.fault x c.refuse.new.self c.refuse.result) c.step_down.ensures.only
     (subst (λ (n : StoreFault). IsRefused n c.step_down.new.self c.refuse.new.self c.refuse.result) c.in-Err-Pages.fault-is c.refuse.ensures.refused))
@@ -288,24 +297,24 @@ returns-in-Err-Pages-clause-moves g c =
     let un = did.stops.unlogged in
     λ l. stopped_moves _ (c.a_class_is_lawful.ensures l) _ _ _ state old kept c.requires.works c.args.session c.requires.session c.args.entry _ c.requires.descends
     c.step_down.new.self.volume un.most un.log (un.since 0).goes_on.device (un.keeps l)
-    PAGE_RECORD c.in-Err-Pages.fault (why_pages _ c.in-Err-Pages.field-0 c.in-Err-Pages.fault c.in-Err-Pages.field-0-is did.stops.why)
+    (widen_room (is_imaged old.volume.imaged c.args.item.page) g.K.KeyClass.KEY) c.in-Err-Pages.fault (why_pages _ c.in-Err-Pages.field-0 c.in-Err-Pages.fault c.in-Err-Pages.field-0-is did.stops.why)
     c.refuse.new.self c.refuse.result
     (subst (λ (x : Parts g.row.K-Key.Denot g.row.D.Denot). IsRefused c.in-Err-Pages.fault x c.refuse.new.self c.refuse.result) c.step_down.ensures.only
     (subst (λ (n : StoreFault). IsRefused n c.step_down.new.self c.refuse.new.self c.refuse.result) c.in-Err-Pages.fault-is c.refuse.ensures.refused))
 
-pub returns-in-Err-Memory : goal.returns-in-Err-Memory
-returns-in-Err-Memory g c =
+pub returns-in-Err-Damaged : goal.returns-in-Err-Damaged
+returns-in-Err-Damaged g c =
     let old : Parts g.row.K-Key.Denot g.row.D.Denot = c.args.self.now in
     let k = keys g.K.Key.Ord.cmp g.K.Key.Shape.overlap g.K.Key.Shape.inside in
     let state = g.D.SectorDisk.state in
     let kept = subst (λ (x : Parts g.row.K-Key.Denot g.row.D.Denot). IsKept k x.sessions) c.self.view_is c.stands.ensures in
-    let did = c.in-Err-Memory.ensures.step in
+    let did = c.in-Err-Damaged.ensures.step in
     let un = did.stops.unlogged in
     let f = format_of g.K.KeyClass in
-    let damaged : c.in-Err-Memory.field-0 ≡ Damaged = search rules in
+    let damaged : c.in-Err-Damaged.field-0 ≡ Damaged = search rules in
     record {
       comes =
-          lost_comes _ _ k (is_node f) state old c.args.session c.args.entry c.step_down.new.self.volume un.most un.log c.break_off.new.self c.break_off.result c.break_off.ensures.outcome
+          lost_comes _ _ k (is_node f) state old c.args.session c.args.entry c.step_down.new.self.volume un.most un.log un.imaged c.break_off.new.self c.break_off.result c.break_off.ensures.outcome
           (c.break_off.ensures.failed ∙ ap (λ (x : Parts g.row.K-Key.Denot g.row.D.Denot). record x { sessions = failed_state x.sessions }) c.step_down.ensures.only);
       device = then_read g.D.SectorDisk.state c.args.self.now c.step_down.new.self c.break_off.new.self c.step_down.ensures.device c.break_off.ensures.device;
       moves = λ l.

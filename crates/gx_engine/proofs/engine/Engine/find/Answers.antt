@@ -2,7 +2,7 @@ use Rattle.std.proofs.Common.{◌∙◌, ap, ◌-◌, List, map}
 use Rattle.gx_tree.specs.declared.found.Found.{Found}
 use Rattle.gx_tree.specs.Found.{pairs_found}
 use Rattle.gx_index_laws.specs.Classes.{entry_of}
-use Rattle.gx_engine_laws.specs.Engines.{gathered}
+use Rattle.gx_events.specs.Engines.{gathered}
 use Rattle.gx_machine.specs.Keys.{keys}
 use Rattle.gx_phases.specs.States.{phase_at}
 use Rattle.gx_engine.specs.declared.work.Work.TheVariants.{Rests}

@@ -2,7 +2,7 @@ use Rattle.std.proofs.Common.{◌∙◌, ap, refl, [], ◌∷◌, ◌-◌}
 use Rattle.gx_machine.specs.declared.call.Call.TheVariants.{Insert}
 use Rattle.gx_machine.specs.Keys.{keys}
 use Rattle.gx_node.specs.Reading.{format_of, is_node}
-use Rattle.gx_engine_laws.specs.Events.{Works}
+use Rattle.gx_events.specs.Events.{Works}
 use Rattle.gx_phases.specs.States.{phase_at}
 use Rattle.gx_engine.specs.declared.work.Work.TheVariants.{Looks}
 use Rattle.gx_engine.specs.Looks.{LooksFor}
@@ -31,7 +31,7 @@ returns-in-Ok-clause-comes g c =
     let rest = c.in-Ok.ensures.rest (Insert c.args.entry) c.requires.looks.0 looks in
     let descends = c.begin_descent.ensures.descends c.args.entry rest.0 in
     rw (c.begin_descent.ensures.outcome)
-    (descends_comes (AsksRoom (format_of g.K.KeyClass) g.K.KeyClass.KEY d c.args.session (Insert c.args.entry) c.args.self.now) (LacksPages (format_of g.K.KeyClass) d c.args.session (Insert c.args.entry) c.args.self.now) k (is_node (format_of g.K.KeyClass)) d d c.args.session (Insert c.args.entry) descends.0 c.args.self.now c.write_look.new.self c.begin_descent.new.self rest.1 descends.1).0
+    (descends_comes (AsksRoom k (format_of g.K.KeyClass) g.K.KeyClass.KEY d c.args.session (Insert c.args.entry) c.args.self.now) (LacksPages (format_of g.K.KeyClass) d c.args.session (Insert c.args.entry) c.args.self.now) k (is_node (format_of g.K.KeyClass)) d d c.args.session (Insert c.args.entry) descends.0 c.args.self.now c.write_look.new.self c.begin_descent.new.self rest.1 descends.1).0
 
 pub returns-in-Ok-clause-reads : goal.returns-in-Ok-clause-reads
 returns-in-Ok-clause-reads g c =
@@ -40,7 +40,7 @@ returns-in-Ok-clause-reads g c =
     let looks : LooksFor c.args.entry (Insert c.args.entry) c.requires.looks.0 (phase_at (c.args.session - 1) c.args.self.now.sessions.phases) = record { writes = refl; at = c.requires.looks.1; looking = c.requires.looks.2 } in
     let rest = c.in-Ok.ensures.rest (Insert c.args.entry) c.requires.looks.0 looks in
     let descends = c.begin_descent.ensures.descends c.args.entry rest.0 in
-    (descends_comes (AsksRoom (format_of g.K.KeyClass) g.K.KeyClass.KEY d c.args.session (Insert c.args.entry) c.args.self.now) (LacksPages (format_of g.K.KeyClass) d c.args.session (Insert c.args.entry) c.args.self.now) k (is_node (format_of g.K.KeyClass)) d d c.args.session (Insert c.args.entry) descends.0 c.args.self.now c.write_look.new.self c.begin_descent.new.self rest.1 descends.1).1
+    (descends_comes (AsksRoom k (format_of g.K.KeyClass) g.K.KeyClass.KEY d c.args.session (Insert c.args.entry) c.args.self.now) (LacksPages (format_of g.K.KeyClass) d c.args.session (Insert c.args.entry) c.args.self.now) k (is_node (format_of g.K.KeyClass)) d d c.args.session (Insert c.args.entry) descends.0 c.args.self.now c.write_look.new.self c.begin_descent.new.self rest.1 descends.1).1
 
 pub returns-in-Ok-clause-moves : goal.returns-in-Ok-clause-moves
 returns-in-Ok-clause-moves g c l =

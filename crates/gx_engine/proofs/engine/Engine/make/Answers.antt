@@ -1,4 +1,3 @@
-use Rattle.std.proofs.Common.{◌≡◌, ◌-◌}
 use Rattle.gx_machine.specs.Keys.{keys}
 use Rattle.gx_engine.proofs.Steps.{ask_steps, checkpoint_steps, log_steps, page_steps, sweep_steps}
 use Rattle.gx_engine.proofs.Calling.{ask_read, checkpoint_calls, log_calls, page_calls}

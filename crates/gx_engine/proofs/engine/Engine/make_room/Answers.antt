@@ -1,29 +1,30 @@
-use Rattle.std.proofs.Common.{◌≡◌, ◌⊎◌, inl, inr, refl, ◌≤◌, ◌-◌, ◌∙◌, ap, sym, subst, arith, rules}
+use Rattle.std.proofs.Common.{◌≡◌, inr, ◌≤◌, ◌-◌, ◌∙◌, ap, sym, subst, rules}
 use Rattle.gx_machine.specs.declared.call.Call.TheVariants.{Insert}
 use Rattle.gx_machine.specs.Keys.{Members, keys}
-use Rattle.gx_glog.specs.State.{Log}
 use Rattle.gx_node.specs.Reading.{format_of, is_node}
-use Rattle.gx_readings.specs.Classes.{class_of, known_at, reading_of}
-use Rattle.gx_node.specs.declared.fault.StepFault.TheVariants.{Damaged}
+use Rattle.gx_durable.specs.Classes.{class_of, known_at, reading_of}
+use Rattle.gx_node.specs.declared.fault.StepFault.TheVariants.{Damaged, Pages}
 use Rattle.gx_phases.specs.Moves.{failed_state}
 use Rattle.gx_phases.specs.States.{IsKept, phase_at}
 use Rattle.gx_store.specs.declared.fault.StoreFault.{StoreFault}
-use Rattle.gx_record.specs.declared.sizes.TheConstants.{PAGE_RECORD, SPLIT_RECORD}
+use Rattle.gx_record.specs.declared.sizes.TheConstants.{SPLIT_RECORD}
+use Rattle.gx_storage.proofs.Recording.{AreNodes, nodes_of}
 use Rattle.gx_engine.specs.declared.work.Work.TheVariants.{Descends}
 use Rattle.gx_events.specs.declared.outcome.Outcome.TheVariants.{More}
 use Rattle.gx_node.specs.declared.items.TheConstants.{MAX_ENTRIES}
 use Rattle.gx_engine.specs.Moves.{Moves}
 use Rattle.gx_engine.specs.Refusals.{IsRefused}
 use Rattle.gx_engine.specs.States.{Parts}
-use Rattle.gx_engine.specs.Writes.{LeftFew, write_events}
+use Rattle.gx_engine.specs.Writes.{AsksHere, LeftFew, write_events}
 use Rattle.gx_node.specs.Store.{tree_of}
-use Rattle.gx_tree_laws.specs.Trees.{size}
-use Rattle.gx_engine.specs.Sweeping.{is_held, node_shown}
+use Rattle.gx_node.specs.Trees.{size}
+use Rattle.gx_engine.specs.Sweeping.{is_held, node_shown, slots_room}
 use Rattle.gx_engine.proofs.Serving.{flies_on}
 use Rattle.gx_engine.proofs.DescentMoves.{full_leaf, none_removable, removable_again, said_again, swept_false, swept_true}
 use Rattle.gx_engine.proofs.MakingRoom.{comes_more, never_swept, swept_moves, yet_comes}
 use Rattle.gx_engine.proofs.ReadFirst.{comes_then, few_then, moves_then}
 use Rattle.gx_engine.proofs.Stopping.{lost_comes, stopped_comes, stopped_moves}
+use Rattle.gx_engine.proofs.SweepRoom.{sweep_asks}
 use Rattle.gx_engine.proofs.UndoMoves.{why_pages}
 use Rattle.gx_engine.proofs.Calling.{then_read}
 use Rattle.gx_engine.proofs.engine.Engine.make_room.Goals as goal
@@ -36,7 +37,7 @@ returns-in-Ok-true-clause-comes g c entry at =
     let shape : Members g.row.K-Key.Denot =
     record { partial_cmp = g.K.Key.PartialOrd.partial_cmp; eq = g.K.Key.PartialEq.eq; cmp = g.K.Key.Ord.cmp; overlap = g.K.Key.Shape.overlap; inside = g.K.Key.Shape.inside } in
     let has = swept_true (known_at shape g.K.ReadKeys.is_proper) (reading_of g.K.ReadKeys.said (format_of g.K.KeyClass)) (format_of g.K.KeyClass) (is_node (format_of g.K.KeyClass)) (state old.volume.shelf.disk) (state c.sweep_leaf.new.self.volume.shelf.disk) old.volume c.sweep_leaf.new.self.volume (is_held k old) c.args.item.page c.in-Ok-true.field-0 c.in-Ok-true.field-0-test c.in-Ok-true.ensures.sweeps in
-    yet_comes (λ size. (size ≡ PAGE_RECORD) ⊎ (size ≡ SPLIT_RECORD)) (LeftFew (state old.volume.shelf.disk) old c.args.item.page) k (is_node (format_of g.K.KeyClass)) (state old.volume.shelf.disk) (state c.sweep_leaf.new.self.volume.shelf.disk) c.args.session (Insert entry) (Descends c.args.parent c.args.item) old c.sweep_leaf.new.self c.sweep_leaf.ensures.only has.logged.most at
+    yet_comes (AsksHere k (format_of g.K.KeyClass) (state old.volume.shelf.disk) old c.args.item.page) (LeftFew (state old.volume.shelf.disk) old c.args.item.page) k (is_node (format_of g.K.KeyClass)) (state old.volume.shelf.disk) (state c.sweep_leaf.new.self.volume.shelf.disk) c.args.session (Insert entry) (Descends c.args.parent c.args.item) old c.sweep_leaf.new.self c.sweep_leaf.ensures.only has.logged.most at
 
 pub returns-in-Ok-true-clause-moves : goal.returns-in-Ok-true-clause-moves
 returns-in-Ok-true-clause-moves g c entry at leaf l =
@@ -47,10 +48,12 @@ returns-in-Ok-true-clause-moves g c entry at leaf l =
     let shape : Members g.row.K-Key.Denot =
     record { partial_cmp = g.K.Key.PartialOrd.partial_cmp; eq = g.K.Key.PartialEq.eq; cmp = g.K.Key.Ord.cmp; overlap = g.K.Key.Shape.overlap; inside = g.K.Key.Shape.inside } in
     let has = swept_true (known_at shape g.K.ReadKeys.is_proper) (reading_of g.K.ReadKeys.said (format_of g.K.KeyClass)) (format_of g.K.KeyClass) (is_node (format_of g.K.KeyClass)) (state old.volume.shelf.disk) (state c.sweep_leaf.new.self.volume.shelf.disk) old.volume c.sweep_leaf.new.self.volume (is_held k old) c.args.item.page c.in-Ok-true.field-0 c.in-Ok-true.field-0-test c.in-Ok-true.ensures.sweeps in
+    let nodes = subst (λ (x : Parts g.row.K-Key.Denot g.row.D.Denot). AreNodes (format_of g.K.KeyClass) (is_node (format_of g.K.KeyClass)) x.volume.shelf) c.self.view_is
+    (nodes_of (format_of g.K.KeyClass) _ _ c.in_order.ensures) in
     subst (λ (x : Parts g.row.K-Key.Denot g.row.D.Denot). Moves (class_of shape g.K.ReadKeys.is_proper l) (reading_of g.K.ReadKeys.said (format_of g.K.KeyClass)) (format_of g.K.KeyClass) (is_node (format_of g.K.KeyClass))
     (state old.volume.shelf.disk) (state c.sweep_leaf.new.self.volume.shelf.disk) c.args.session old x More (write_events c.args.session (Insert entry) More)) (sym c.sweep_leaf.ensures.only)
     (swept_moves _ (c.a_class_is_lawful.ensures l) g.K.ReadKeys.said (format_of g.K.KeyClass) (is_node (format_of g.K.KeyClass)) (state old.volume.shelf.disk) (state c.sweep_leaf.new.self.volume.shelf.disk) old kept c.requires.works c.args.session c.requires.session c.requires.early entry c.args.parent c.args.item at
-    c.sweep_leaf.new.self.volume has.logged.most (flies_on _ _ has.logged.logs) has.swept has.own (has.logged.keeps l))
+    c.sweep_leaf.new.self.volume has.logged.most nodes c.small_removals.ensures.removed has.slots has.taken (flies_on _ _ has.logged.logs) has.swept has.own (has.logged.keeps l))
 
 pub returns-in-Ok-false-clause-comes : goal.returns-in-Ok-false-clause-comes
 returns-in-Ok-false-clause-comes g c entry at =
@@ -67,11 +70,11 @@ returns-in-Ok-false-clause-comes g c entry at =
     let m = state c.sweep_leaf.new.self.volume.shelf.disk in
     let e = state c.split_here.new.self.volume.shelf.disk in
     let page = c.args.item.page in
-    comes_then k known r f (is_node f) PAGE_RECORD d m e c.args.session entry old c.sweep_leaf.new.self c.sweep_leaf.ensures.only has.unlogged
-    (λ size. (size ≡ PAGE_RECORD) ⊎ (size ≡ SPLIT_RECORD)) (LeftFew m c.sweep_leaf.new.self page) (LeftFew d old page)
-    (few_then k known r f (is_node f) PAGE_RECORD d m e c.args.session entry old c.sweep_leaf.new.self c.sweep_leaf.ensures.only has.unlogged has.same page)
+    comes_then k known r f (is_node f) (slots_room old.volume page has.slots) d m e c.args.session entry old c.sweep_leaf.new.self c.sweep_leaf.ensures.only has.unlogged
+    (AsksHere k f d old page) (LeftFew m c.sweep_leaf.new.self page) (LeftFew d old page)
+    (few_then k known r f (is_node f) (slots_room old.volume page has.slots) d m e c.args.session entry old c.sweep_leaf.new.self c.sweep_leaf.ensures.only has.unlogged has.same page)
     c.split_here.new.self c.split_here.result
-    (comes_more k (is_node f) m e c.args.session (Insert entry) c.sweep_leaf.new.self c.split_here.new.self (λ size. size ≡ SPLIT_RECORD) (λ size. (size ≡ PAGE_RECORD) ⊎ (size ≡ SPLIT_RECORD))
+    (comes_more k (is_node f) m e c.args.session (Insert entry) c.sweep_leaf.new.self c.split_here.new.self (λ size. size ≡ SPLIT_RECORD) (AsksHere k f d old page)
     (λ size is. inr is) (LeftFew m c.sweep_leaf.new.self page) (LeftFew m c.sweep_leaf.new.self page) (λ few. few) c.split_here.result
     (c.split_here.ensures.comes entry (ap (λ (x : Parts g.row.K-Key.Denot g.row.D.Denot). phase_at (c.args.session - 1) x.sessions.phases) c.sweep_leaf.ensures.only ∙ at)))
 
@@ -101,8 +104,14 @@ returns-in-Err-Pages-clause-comes g c entry at =
     let k = keys g.K.Key.Ord.cmp g.K.Key.Shape.overlap g.K.Key.Shape.inside in
     let state = g.D.SectorDisk.state in
     let did = c.in-Err-Pages.ensures.sweeps in
-    stopped_comes _ _ k (is_node (format_of g.K.KeyClass)) state old c.args.session entry c.sweep_leaf.new.self.volume did.stops.unlogged.most did.stops.unlogged.log
-    c.requires.early (λ page. (did.stops.unlogged.since page).same.stamp) PAGE_RECORD (inl refl) (omega arith) c.in-Err-Pages.fault (why_pages _ c.in-Err-Pages.field-0 c.in-Err-Pages.fault c.in-Err-Pages.field-0-is did.stops.why)
+    let f = format_of g.K.KeyClass in
+    let d = state old.volume.shelf.disk in
+    let e = state c.sweep_leaf.new.self.volume.shelf.disk in
+    let asks = sweep_asks (is_node f) d e f k old c.args.item.page c.sweep_leaf.new.self.volume.shelf c.in-Err-Pages.fault did.slots
+    (λ no_room. did.taken (c.in-Err-Pages.field-0-is ∙ ap (λ (x : StoreFault). Pages x) no_room)) did.few
+    (why_pages _ c.in-Err-Pages.field-0 c.in-Err-Pages.fault c.in-Err-Pages.field-0-is did.stops.why) in
+    stopped_comes _ _ k (is_node f) state old c.args.session entry c.sweep_leaf.new.self.volume did.stops.unlogged.most did.stops.unlogged.log did.stops.unlogged.imaged
+    c.requires.early (λ page. (did.stops.unlogged.since page).same.stamp) asks.0 asks.1 asks.2 c.in-Err-Pages.fault asks.3
     c.refuse.new.self c.refuse.result
     (subst (λ (x : Parts g.row.K-Key.Denot g.row.D.Denot). IsRefused c.in-Err-Pages.fault x c.refuse.new.self c.refuse.result) c.sweep_leaf.ensures.only
     (subst (λ (n : StoreFault). IsRefused n c.sweep_leaf.new.self c.refuse.new.self c.refuse.result) c.in-Err-Pages.fault-is c.refuse.ensures.refused))
@@ -117,29 +126,29 @@ returns-in-Err-Pages-clause-moves g c entry at leaf =
     let un = did.stops.unlogged in
     λ l. stopped_moves _ (c.a_class_is_lawful.ensures l) _ _ _ state old kept c.requires.works c.args.session c.requires.session entry _ at
     c.sweep_leaf.new.self.volume un.most un.log (un.since 0).goes_on.device (un.keeps l)
-    PAGE_RECORD c.in-Err-Pages.fault (why_pages _ c.in-Err-Pages.field-0 c.in-Err-Pages.fault c.in-Err-Pages.field-0-is did.stops.why)
+    (slots_room old.volume c.args.item.page did.slots) c.in-Err-Pages.fault (why_pages _ c.in-Err-Pages.field-0 c.in-Err-Pages.fault c.in-Err-Pages.field-0-is did.stops.why)
     c.refuse.new.self c.refuse.result
     (subst (λ (x : Parts g.row.K-Key.Denot g.row.D.Denot). IsRefused c.in-Err-Pages.fault x c.refuse.new.self c.refuse.result) c.sweep_leaf.ensures.only
     (subst (λ (n : StoreFault). IsRefused n c.sweep_leaf.new.self c.refuse.new.self c.refuse.result) c.in-Err-Pages.fault-is c.refuse.ensures.refused))
 
-pub returns-in-Err-Memory-clause-comes : goal.returns-in-Err-Memory-clause-comes
-returns-in-Err-Memory-clause-comes g c entry at =
+pub returns-in-Err-Damaged-clause-comes : goal.returns-in-Err-Damaged-clause-comes
+returns-in-Err-Damaged-clause-comes g c entry at =
     let old : Parts g.row.K-Key.Denot g.row.D.Denot = c.args.self.now in
     let k = keys g.K.Key.Ord.cmp g.K.Key.Shape.overlap g.K.Key.Shape.inside in
     let state = g.D.SectorDisk.state in
-    let un = c.in-Err-Memory.ensures.sweeps.stops.unlogged in
-    lost_comes _ _ k (is_node (format_of g.K.KeyClass)) state old c.args.session entry c.sweep_leaf.new.self.volume un.most un.log c.break_off.new.self c.break_off.result c.break_off.ensures.outcome
+    let un = c.in-Err-Damaged.ensures.sweeps.stops.unlogged in
+    lost_comes _ _ k (is_node (format_of g.K.KeyClass)) state old c.args.session entry c.sweep_leaf.new.self.volume un.most un.log un.imaged c.break_off.new.self c.break_off.result c.break_off.ensures.outcome
     (c.break_off.ensures.failed ∙ ap (λ (x : Parts g.row.K-Key.Denot g.row.D.Denot). record x { sessions = failed_state x.sessions }) c.sweep_leaf.ensures.only)
 
-pub returns-in-Err-Memory-clause-moves : goal.returns-in-Err-Memory-clause-moves
-returns-in-Err-Memory-clause-moves g c entry at leaf l =
+pub returns-in-Err-Damaged-clause-moves : goal.returns-in-Err-Damaged-clause-moves
+returns-in-Err-Damaged-clause-moves g c entry at leaf l =
     let old : Parts g.row.K-Key.Denot g.row.D.Denot = c.args.self.now in
     let k = keys g.K.Key.Ord.cmp g.K.Key.Shape.overlap g.K.Key.Shape.inside in
     let state = g.D.SectorDisk.state in
     let kept = subst (λ (x : Parts g.row.K-Key.Denot g.row.D.Denot). IsKept k x.sessions) c.self.view_is c.stands.ensures in
-    let did = c.in-Err-Memory.ensures.sweeps in
+    let did = c.in-Err-Damaged.ensures.sweeps in
     let un = did.stops.unlogged in
-    let damaged : c.in-Err-Memory.field-0 ≡ Damaged = search rules in
+    let damaged : c.in-Err-Damaged.field-0 ≡ Damaged = search rules in
     let fits = subst (λ (x : Parts g.row.K-Key.Denot g.row.D.Denot). x.volume.most ≤ MAX_ENTRIES) c.self.view_is c.most.ensures.few in
     never_swept _ (c.a_class_is_lawful.ensures l) g.K.ReadKeys.said (format_of g.K.KeyClass) (is_node (format_of g.K.KeyClass)) (state old.volume.shelf.disk) _
     old kept c.requires.works c.args.session c.requires.session c.requires.early entry c.args.parent c.args.item at c.sweep_leaf.new.self.volume un.most

@@ -1,12 +1,10 @@
-use Rattle.std.proofs.Common.{◌≡◌, ◌∙◌, sym, ap, subst, refl, ◌-◌, ◌≤◌, true, false}
-use Rattle.gx_machine.specs.declared.call.Call.TheVariants.{Begin, Abort}
+use Rattle.std.proofs.Common.{◌∙◌, ap, subst, ◌≤◌}
 use Rattle.gx_machine.specs.Keys.{keys}
-use Rattle.gx_node.specs.Reading.{format_of, is_node}
 use Rattle.gx_phases.specs.declared.phase.Phase.TheVariants as phase
-use Rattle.gx_phases.specs.States.{IsKept, phase_at}
+use Rattle.gx_phases.specs.States.{IsKept}
 use Rattle.gx_disk.specs.declared.layout.TheConstants.{MAX_PAGES}
 use Rattle.gx_engine.specs.States.{Parts}
-use Rattle.gx_engine.proofs.Steps.{delete_steps, insert_steps, never_steps, seal_steps, search_steps}
+use Rattle.gx_engine.proofs.Steps.{delete_steps, insert_steps, seal_steps, search_steps}
 use Rattle.gx_engine.proofs.Calling.{seal_read}
 use Rattle.gx_engine.proofs.engine.Engine.move_call.Goals as goal
 

@@ -1,10 +1,14 @@
 use Rattle.std.proofs.Common.{◌≡◌, ◌∙◌, ap, subst, rules}
+use Rattle.std.specs.Cmp.{Equal-is}
 use Rattle.gx_machine.specs.Keys.{Members, keys}
 use Rattle.gx_phases.specs.States.{IsKept}
 use Rattle.gx_store.specs.State.{IsInOrder}
 use Rattle.gx_node.specs.declared.fault.StepFault.TheVariants.{Damaged}
 use Rattle.gx_phases.specs.Moves.{failed_state}
-use Rattle.gx_record.specs.Writing.{write_record}
+use Rattle.gx_storage.specs.Imaged.{is_imaged}
+use Rattle.gx_storage.specs.Small.{mark_room}
+use Rattle.gx_storage.proofs.Recording.{nodes_of}
+use Rattle.gx_storage.proofs.SmallMarks.{ReadsMarks}
 use Rattle.gx_engine.specs.Refusals.{IsRefused}
 use Rattle.gx_node.specs.Reading.{format_of, is_node}
 use Rattle.gx_engine.specs.States.{Parts}
@@ -28,12 +32,15 @@ returns-in-Ok-clause-moves g c =
     let shape : Members g.row.K-Key.Denot =
     record { partial_cmp = g.K.Key.PartialOrd.partial_cmp; eq = g.K.Key.PartialEq.eq; cmp = g.K.Key.Ord.cmp; overlap = g.K.Key.Shape.overlap; inside = g.K.Key.Shape.inside } in
     let key = c.args.note.entry.key in
+    let marks : ReadsMarks g.K.KeyClass.is_key g.K.KeyClass.spelling (format_of g.K.KeyClass) shape c.most.result =
+    record { hold = c.leaves.ensures.hold; long = g.met.K.KeyClass.spelling_length; back = g.met.K.KeyClass.reading_back; exact = λ a b e. g.met.K.Key.Shape.same a b ((Equal-is (g.K.Key.Ord.cmp a b)).0 e); means = c.small_marks.ensures } in
     λ l. noted_moves c.args.session old c.set_noted.new.self c.note_sought.new.self c.set_noted.ensures.only c.args.note c.requires.next c.args.leaf c.in-Ok.sought
     c.note_sought.ensures.noted c.note_sought.result c.note_sought.ensures.outcome _ _ _ _ state (state old.volume.shelf.disk)
     (sought_moves shape g.K.ReadKeys.is_proper l (c.a_class_is_lawful.ensures l) _ _ _ g.K.KeyClass.is_key g.K.KeyClass.spelling g.K.KeyClass.KEY (state old.volume.shelf.disk) (state c.set_noted.new.self.volume.shelf.disk)
     old kept c.requires.works c.args.session c.requires.session c.requires.early c.args.note c.requires.next c.args.leaf c.requires.leaf c.set_noted.new.self.volume
     (c.a_volume_shows_the_logs_tree.ensures l old.volume) (c.a_volume_shows_keys.ensures l old.volume) order
-    (g.met.K.ReadKeys.said_back key c.known.ensures) (g.met.K.ReadKeys.key_is_proper key c.known.ensures) c.in-Ok.sought c.in-Ok.ensures.sought)
+    (nodes_of (format_of g.K.KeyClass) _ _ order) c.most.result marks
+    c.known.ensures (g.met.K.ReadKeys.said_back key c.known.ensures) (g.met.K.ReadKeys.key_is_proper key c.known.ensures) c.in-Ok.sought c.in-Ok.ensures.sought)
 
 pub returns-in-Err-Pages-clause-moves : goal.returns-in-Err-Pages-clause-moves
 returns-in-Err-Pages-clause-moves g c =
@@ -43,24 +50,24 @@ returns-in-Err-Pages-clause-moves g c =
     let did = c.in-Err-Pages.ensures.sought in
     λ l. refused_moves _ (c.a_class_is_lawful.ensures l) _ _ _ state (state old.volume.shelf.disk) old kept c.requires.works c.args.session c.requires.session c.requires.early
     c.set_noted.new.self.volume did.unlogged.most c.args.note c.requires.next c.args.leaf c.requires.leaf did.unlogged.log (did.unlogged.since 0).goes_on.device (did.unlogged.keeps l)
-    (write_record g.K.KeyClass.KEY) c.in-Err-Pages.fault (why_pages _ c.in-Err-Pages.field-0 c.in-Err-Pages.fault c.in-Err-Pages.field-0-is did.why) c.refuse.new.self c.refuse.result
+    (mark_room (is_imaged old.volume.imaged c.args.leaf) g.K.KeyClass.KEY) c.in-Err-Pages.fault (why_pages _ c.in-Err-Pages.field-0 c.in-Err-Pages.fault c.in-Err-Pages.field-0-is did.why) c.refuse.new.self c.refuse.result
     (subst (λ (x : Parts g.row.K-Key.Denot g.row.D.Denot). IsRefused c.in-Err-Pages.fault x c.refuse.new.self c.refuse.result) c.set_noted.ensures.only c.refuse.ensures.refused)
 
-pub returns-in-Err-Memory-clause-comes : goal.returns-in-Err-Memory-clause-comes
-returns-in-Err-Memory-clause-comes g c =
-    let damaged : c.in-Err-Memory.field-0 ≡ Damaged = search rules in
-    let did = c.in-Err-Memory.ensures.sought in
+pub returns-in-Err-Damaged-clause-comes : goal.returns-in-Err-Damaged-clause-comes
+returns-in-Err-Damaged-clause-comes g c =
+    let damaged : c.in-Err-Damaged.field-0 ≡ Damaged = search rules in
+    let did = c.in-Err-Damaged.ensures.sought in
     λ restored place. never_comes _ _ _ _ _ _ _ _ g.D.SectorDisk.state _ c.args.session restored c.args.note c.args.leaf c.args.self.now c.set_noted.new.self.volume did.unlogged
     (λ steady. did.damaged steady damaged) c.break_off.new.self c.break_off.result c.break_off.ensures.outcome
     (c.break_off.ensures.failed ∙ ap (λ (x : Parts g.row.K-Key.Denot g.row.D.Denot). record x { sessions = failed_state x.sessions }) c.set_noted.ensures.only)
 
-pub returns-in-Err-Memory-clause-moves : goal.returns-in-Err-Memory-clause-moves
-returns-in-Err-Memory-clause-moves g c =
+pub returns-in-Err-Damaged-clause-moves : goal.returns-in-Err-Damaged-clause-moves
+returns-in-Err-Damaged-clause-moves g c =
     let old : Parts g.row.K-Key.Denot g.row.D.Denot = c.args.self.now in
     let state = g.D.SectorDisk.state in
     let kept = subst (λ (x : Parts g.row.K-Key.Denot g.row.D.Denot). IsKept (keys g.K.Key.Ord.cmp g.K.Key.Shape.overlap g.K.Key.Shape.inside) x.sessions) c.self.view_is c.stands.ensures in
-    let damaged : c.in-Err-Memory.field-0 ≡ Damaged = search rules in
-    let did = c.in-Err-Memory.ensures.sought in
+    let damaged : c.in-Err-Damaged.field-0 ≡ Damaged = search rules in
+    let did = c.in-Err-Damaged.ensures.sought in
     λ l. never_moves _ (c.a_class_is_lawful.ensures l) _ _ _ (state old.volume.shelf.disk) (state c.set_noted.new.self.volume.shelf.disk) old kept c.requires.works c.args.session c.requires.session
     c.requires.early c.set_noted.new.self.volume did.unlogged.most c.args.note c.requires.next c.args.leaf c.requires.leaf (c.a_volume_shows_the_logs_tree.ensures l old.volume)
     (λ steady. did.damaged steady damaged) _ c.break_off.new.self c.break_off.result

@@ -8,4 +8,4 @@ returns-clause-sought g c =
 pub returns-clause-refused : goal.returns-clause-refused
 returns-clause-refused g c =
     let did = c.seek_step.ensures in
-    rw (← c.self.view_is) (unfound _ g.K.KeyClass.is_key _ _ _ c.args.leaf _ _ _ c.seek_step.result did.why did.damaged did.memory did.full)
+    rw (← c.self.view_is) (unfound _ g.K.KeyClass.is_key _ _ _ c.args.leaf _ _ _ c.seek_step.result did.why did.damaged)

@@ -2,8 +2,9 @@ use Rattle.std.proofs.Common.{◌≡◌, ◌-◌, ◌∙◌, ap, refl, subst, ar
 use Rattle.gx_machine.specs.declared.call.Call.TheVariants.{Insert}
 use Rattle.gx_machine.specs.Keys.{Members, keys}
 use Rattle.gx_node.specs.Reading.{format_of, is_node}
-use Rattle.gx_readings.specs.Classes.{class_of, reading_of}
-use Rattle.gx_node.specs.declared.fault.StepFault.TheVariants.{Damaged, PagesFull}
+use Rattle.gx_durable.specs.Classes.{class_of, reading_of}
+use Rattle.gx_node.specs.declared.fault.SplitFault.TheVariants.{PagesFull, Step}
+use Rattle.gx_node.specs.declared.fault.StepFault.TheVariants.{Damaged}
 use Rattle.gx_node.specs.Keyed.{rules_of}
 use Rattle.gx_phases.specs.Moves.{failed_state}
 use Rattle.gx_phases.specs.States.{IsKept, phase_at}
@@ -16,7 +17,7 @@ use Rattle.gx_engine.specs.States.{Parts}
 use Rattle.gx_engine.specs.Writes.{write_events}
 use Rattle.gx_engine.proofs.MakingRoom.{few_below, full_comes, full_is, full_moves, never_split, on_comes, on_is, split_any, split_most}
 use Rattle.gx_engine.proofs.Stopping.{lost_comes, stopped_comes, stopped_moves}
-use Rattle.gx_engine.proofs.UndoMoves.{why_pages}
+use Rattle.gx_engine.proofs.UndoMoves.{why_split_pages}
 use Rattle.gx_engine.proofs.Calling.{then_read}
 use Rattle.gx_engine.proofs.engine.Engine.split_below.Goals as goal
 
@@ -50,32 +51,32 @@ returns-in-Ok-clause-moves g c entry at full l =
     (state old.volume.shelf.disk) (state c.split_node.new.self.volume.shelf.disk) old c.split_node.new.self.volume c.args.parent c.args.item l (c.a_class_is_lawful.ensures l) kept c.requires.works
     c.args.session c.requires.session c.requires.early entry at c.split_node.ensures.fits.0 c.requires.below c.in-Ok.field-0 c.in-Ok.ensures.splits)
 
-pub returns-in-Err-Pages-clause-comes : goal.returns-in-Err-Pages-clause-comes
-returns-in-Err-Pages-clause-comes g c entry at =
+pub returns-in-Err-Step-Pages-clause-comes : goal.returns-in-Err-Step-Pages-clause-comes
+returns-in-Err-Step-Pages-clause-comes g c entry at =
     let old : Parts g.row.K-Key.Denot g.row.D.Denot = c.args.self.now in
     let k = keys g.K.Key.Ord.cmp g.K.Key.Shape.overlap g.K.Key.Shape.inside in
     let state = g.D.SectorDisk.state in
-    let did = c.in-Err-Pages.ensures.splits in
-    stopped_comes _ _ k (is_node (format_of g.K.KeyClass)) state old c.args.session entry c.split_node.new.self.volume did.stops.unlogged.most did.stops.unlogged.log
-    c.requires.early (λ page. (did.stops.unlogged.since page).same.stamp) SPLIT_RECORD refl (omega arith) c.in-Err-Pages.fault (why_pages _ c.in-Err-Pages.field-0 c.in-Err-Pages.fault c.in-Err-Pages.field-0-is did.stops.why)
+    let did = c.in-Err-Step-Pages.ensures.splits in
+    stopped_comes _ _ k (is_node (format_of g.K.KeyClass)) state old c.args.session entry c.split_node.new.self.volume did.unlogged.most did.unlogged.log did.unlogged.imaged
+    c.requires.early (λ page. (did.unlogged.since page).same.stamp) SPLIT_RECORD refl (omega arith) c.in-Err-Step-Pages.fault (why_split_pages _ c.in-Err-Step-Pages.field-0 c.in-Err-Step-Pages.field-0-0 c.in-Err-Step-Pages.fault c.in-Err-Step-Pages.field-0-is c.in-Err-Step-Pages.field-0-0-is did.why)
     c.refuse.new.self c.refuse.result
-    (subst (λ (x : Parts g.row.K-Key.Denot g.row.D.Denot). IsRefused c.in-Err-Pages.fault x c.refuse.new.self c.refuse.result) c.split_node.ensures.only
-    (subst (λ (n : StoreFault). IsRefused n c.split_node.new.self c.refuse.new.self c.refuse.result) c.in-Err-Pages.fault-is c.refuse.ensures.refused))
+    (subst (λ (x : Parts g.row.K-Key.Denot g.row.D.Denot). IsRefused c.in-Err-Step-Pages.fault x c.refuse.new.self c.refuse.result) c.split_node.ensures.only
+    (subst (λ (n : StoreFault). IsRefused n c.split_node.new.self c.refuse.new.self c.refuse.result) c.in-Err-Step-Pages.fault-is c.refuse.ensures.refused))
 
-pub returns-in-Err-Pages-clause-moves : goal.returns-in-Err-Pages-clause-moves
-returns-in-Err-Pages-clause-moves g c entry at full =
+pub returns-in-Err-Step-Pages-clause-moves : goal.returns-in-Err-Step-Pages-clause-moves
+returns-in-Err-Step-Pages-clause-moves g c entry at full =
     let old : Parts g.row.K-Key.Denot g.row.D.Denot = c.args.self.now in
     let k = keys g.K.Key.Ord.cmp g.K.Key.Shape.overlap g.K.Key.Shape.inside in
     let state = g.D.SectorDisk.state in
     let kept = subst (λ (x : Parts g.row.K-Key.Denot g.row.D.Denot). IsKept k x.sessions) c.self.view_is c.stands.ensures in
-    let did = c.in-Err-Pages.ensures.splits in
-    let un = did.stops.unlogged in
+    let did = c.in-Err-Step-Pages.ensures.splits in
+    let un = did.unlogged in
     λ l. stopped_moves _ (c.a_class_is_lawful.ensures l) _ _ _ state old kept c.requires.works c.args.session c.requires.session entry _ at
     c.split_node.new.self.volume un.most un.log (un.since 0).goes_on.device (un.keeps l)
-    SPLIT_RECORD c.in-Err-Pages.fault (why_pages _ c.in-Err-Pages.field-0 c.in-Err-Pages.fault c.in-Err-Pages.field-0-is did.stops.why)
+    SPLIT_RECORD c.in-Err-Step-Pages.fault (why_split_pages _ c.in-Err-Step-Pages.field-0 c.in-Err-Step-Pages.field-0-0 c.in-Err-Step-Pages.fault c.in-Err-Step-Pages.field-0-is c.in-Err-Step-Pages.field-0-0-is did.why)
     c.refuse.new.self c.refuse.result
-    (subst (λ (x : Parts g.row.K-Key.Denot g.row.D.Denot). IsRefused c.in-Err-Pages.fault x c.refuse.new.self c.refuse.result) c.split_node.ensures.only
-    (subst (λ (n : StoreFault). IsRefused n c.split_node.new.self c.refuse.new.self c.refuse.result) c.in-Err-Pages.fault-is c.refuse.ensures.refused))
+    (subst (λ (x : Parts g.row.K-Key.Denot g.row.D.Denot). IsRefused c.in-Err-Step-Pages.fault x c.refuse.new.self c.refuse.result) c.split_node.ensures.only
+    (subst (λ (n : StoreFault). IsRefused n c.split_node.new.self c.refuse.new.self c.refuse.result) c.in-Err-Step-Pages.fault-is c.refuse.ensures.refused))
 
 pub returns-in-Err-PagesFull-clause-comes : goal.returns-in-Err-PagesFull-clause-comes
 returns-in-Err-PagesFull-clause-comes g c entry at =
@@ -85,7 +86,7 @@ returns-in-Err-PagesFull-clause-comes g c entry at =
     let did = c.in-Err-PagesFull.ensures.splits in
     let full : c.in-Err-PagesFull.field-0 ≡ PagesFull = search rules in
     full_comes c.args.session old c.split_node.new.self c.close.new.self c.split_node.ensures.only c.close.ensures.closed c.close.result c.close.ensures.outcome
-    _ _ k (is_node (format_of g.K.KeyClass)) state (Insert entry) did.stops.unlogged.most did.stops.unlogged.log
+    _ _ k (is_node (format_of g.K.KeyClass)) state (Insert entry) did.unlogged.most did.unlogged.log did.unlogged.imaged
     (few_below (state old.volume.shelf.disk) old c.args.item.page c.requires.below (λ steady. did.full steady full))
 
 pub returns-in-Err-PagesFull-clause-moves : goal.returns-in-Err-PagesFull-clause-moves
@@ -96,7 +97,7 @@ returns-in-Err-PagesFull-clause-moves g c entry at full l =
     let kept = subst (λ (x : Parts g.row.K-Key.Denot g.row.D.Denot). IsKept k x.sessions) c.self.view_is c.stands.ensures in
     let shape : Members g.row.K-Key.Denot =
     record { partial_cmp = g.K.Key.PartialOrd.partial_cmp; eq = g.K.Key.PartialEq.eq; cmp = g.K.Key.Ord.cmp; overlap = g.K.Key.Shape.overlap; inside = g.K.Key.Shape.inside } in
-    let un = c.in-Err-PagesFull.ensures.splits.stops.unlogged in
+    let un = c.in-Err-PagesFull.ensures.splits.unlogged in
     full_is c.args.session old c.split_node.new.self c.close.new.self c.split_node.ensures.only c.close.ensures.closed c.close.result c.close.ensures.outcome
     (λ x y. Moves (class_of shape g.K.ReadKeys.is_proper l) (reading_of g.K.ReadKeys.said (format_of g.K.KeyClass)) (format_of g.K.KeyClass) (is_node (format_of g.K.KeyClass))
     (state old.volume.shelf.disk) (state x.volume.shelf.disk) c.args.session old x y (write_events c.args.session (Insert entry) y))
@@ -104,26 +105,26 @@ returns-in-Err-PagesFull-clause-moves g c entry at full l =
     (state c.split_node.new.self.volume.shelf.disk) old kept c.requires.works c.args.session c.requires.session c.requires.early entry c.args.parent c.args.item at
     c.split_node.new.self.volume un.most un.log (un.since 0).goes_on.device (un.keeps l))
 
-pub returns-in-Err-Memory-clause-comes : goal.returns-in-Err-Memory-clause-comes
-returns-in-Err-Memory-clause-comes g c entry at =
+pub returns-in-Err-Step-Damaged-clause-comes : goal.returns-in-Err-Step-Damaged-clause-comes
+returns-in-Err-Step-Damaged-clause-comes g c entry at =
     let old : Parts g.row.K-Key.Denot g.row.D.Denot = c.args.self.now in
     let k = keys g.K.Key.Ord.cmp g.K.Key.Shape.overlap g.K.Key.Shape.inside in
     let state = g.D.SectorDisk.state in
-    let un = c.in-Err-Memory.ensures.splits.stops.unlogged in
-    lost_comes _ _ k (is_node (format_of g.K.KeyClass)) state old c.args.session entry c.split_node.new.self.volume un.most un.log c.break_off.new.self c.break_off.result c.break_off.ensures.outcome
+    let un = c.in-Err-Step-Damaged.ensures.splits.unlogged in
+    lost_comes _ _ k (is_node (format_of g.K.KeyClass)) state old c.args.session entry c.split_node.new.self.volume un.most un.log un.imaged c.break_off.new.self c.break_off.result c.break_off.ensures.outcome
     (c.break_off.ensures.failed ∙ ap (λ (x : Parts g.row.K-Key.Denot g.row.D.Denot). record x { sessions = failed_state x.sessions }) c.split_node.ensures.only)
 
-pub returns-in-Err-Memory-clause-moves : goal.returns-in-Err-Memory-clause-moves
-returns-in-Err-Memory-clause-moves g c entry at full l =
+pub returns-in-Err-Step-Damaged-clause-moves : goal.returns-in-Err-Step-Damaged-clause-moves
+returns-in-Err-Step-Damaged-clause-moves g c entry at full l =
     let old : Parts g.row.K-Key.Denot g.row.D.Denot = c.args.self.now in
     let k = keys g.K.Key.Ord.cmp g.K.Key.Shape.overlap g.K.Key.Shape.inside in
     let state = g.D.SectorDisk.state in
     let kept = subst (λ (x : Parts g.row.K-Key.Denot g.row.D.Denot). IsKept k x.sessions) c.self.view_is c.stands.ensures in
     let shape : Members g.row.K-Key.Denot =
     record { partial_cmp = g.K.Key.PartialOrd.partial_cmp; eq = g.K.Key.PartialEq.eq; cmp = g.K.Key.Ord.cmp; overlap = g.K.Key.Shape.overlap; inside = g.K.Key.Shape.inside } in
-    let did = c.in-Err-Memory.ensures.splits in
-    let un = did.stops.unlogged in
-    let damaged : c.in-Err-Memory.field-0 ≡ Damaged = search rules in
+    let did = c.in-Err-Step-Damaged.ensures.splits in
+    let un = did.unlogged in
+    let damaged : c.in-Err-Step-Damaged.field-0 ≡ Step Damaged = search rules in
     let few = c.split_node.ensures.fits.1 in
     let same = (un.since 0).goes_on.pages in
     never_split _ (c.a_class_is_lawful.ensures l) g.K.ReadKeys.said (format_of g.K.KeyClass) (is_node (format_of g.K.KeyClass)) (state old.volume.shelf.disk) _

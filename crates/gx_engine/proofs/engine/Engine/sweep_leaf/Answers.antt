@@ -1,19 +1,18 @@
 use Rattle.std.proofs.Common.{rules}
 use Rattle.gx_machine.specs.Keys.{keys}
-use Rattle.gx_record.specs.declared.sizes.TheConstants.{PAGE_RECORD}
 use Rattle.gx_engine.specs.States.{Parts}
 use Rattle.gx_engine.specs.Sweeping.{is_held}
-use Rattle.gx_engine.proofs.Framed.{changed_frames}
+use Rattle.gx_engine.proofs.Framed.{swept_frames}
 use Rattle.gx_engine.proofs.Descents.{leaf_sweeping}
 use Rattle.gx_engine.proofs.Ordered.{order_changed}
-use Rattle.gx_engine.proofs.Calling.{changed_read}
+use Rattle.gx_engine.proofs.Calling.{swept_read}
 use Rattle.gx_engine.proofs.engine.Engine.sweep_leaf.Goals as goal
 
 pub invariant_of-self : goal.invariant_of-self
 invariant_of-self g c =
     let did = c.sweep.ensures in
     order_changed _ _ c.self.invariant _ (search rules) (search rules)
-    (changed_frames _ _ _ _ _ _ _ _ PAGE_RECORD _ (λ any. any) c.sweep.result did.logged did.unlogged)
+    (swept_frames _ _ _ _ _ _ _ _ _ _ c.sweep.result did.logged did.unlogged)
 
 pub returns-clause-sweeps : goal.returns-clause-sweeps
 returns-clause-sweeps g c =
@@ -21,10 +20,10 @@ returns-clause-sweeps g c =
     let k = keys g.K.Key.Ord.cmp g.K.Key.Shape.overlap g.K.Key.Shape.inside in
     let did = c.sweep.ensures in
     rw (← c.self.view_is, ← c.page.ensures)
-    (leaf_sweeping _ _ _ _ _ _ _ _ (is_held k old) c.page.result c.sweep.result did.logged did.unlogged
-    (λ steady. did.swept steady (is_held k old) (λ entry answer post. search rules)) did.own did.why did.damaged did.memory did.full)
+    (leaf_sweeping _ _ _ _ _ _ _ _ _ (is_held k old) (λ entry answer post. search rules) c.page.result c.sweep.result did.logged did.unlogged
+    (λ steady. did.swept steady (is_held k old) (λ entry answer post. search rules)) did.own did.damaged)
 
 pub returns-clause-device : goal.returns-clause-device
 returns-clause-device g c =
     let did = c.sweep.ensures in
-    rw (← c.self.view_is) (changed_read _ _ _ _ _ _ _ _ PAGE_RECORD _ (λ any. any) c.sweep.result did.logged did.unlogged)
+    rw (← c.self.view_is) (swept_read _ _ _ _ _ _ _ _ _ _ c.sweep.result did.logged did.unlogged)

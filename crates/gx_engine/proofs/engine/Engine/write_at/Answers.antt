@@ -1,7 +1,7 @@
 use Rattle.std.proofs.Common.{◌≡◌, inl, refl, ◌∙◌, ap, subst, ◌-◌, arith, rules}
 use Rattle.gx_machine.specs.Keys.{Members, keys}
 use Rattle.gx_node.specs.Reading.{format_of, is_node}
-use Rattle.gx_readings.specs.Classes.{class_of, reading_of}
+use Rattle.gx_durable.specs.Classes.{class_of, reading_of}
 use Rattle.gx_phases.specs.Moves.{failed_state}
 use Rattle.gx_phases.specs.States.{IsKept, phase_at}
 use Rattle.gx_node.specs.declared.fault.StepFault.TheVariants.{Damaged}
@@ -27,7 +27,7 @@ returns-in-Ok-clause-comes g c =
     let did = c.seek_pair.ensures.unlogged in
     let w = c.seek_pair.new.self.volume in
     let new = c.write_sought.new.self in
-    comes_on old w did.log did.most (format_of g.K.KeyClass) g.K.KeyClass.is_key k g.K.KeyClass.KEY (is_node (format_of g.K.KeyClass)) (λ page. (did.since page).same.stamp) (state old.volume.shelf.disk) (state w.shelf.disk) (state new.volume.shelf.disk)
+    comes_on old w did.log did.most did.imaged (format_of g.K.KeyClass) g.K.KeyClass.is_key k g.K.KeyClass.KEY (is_node (format_of g.K.KeyClass)) (λ page. (did.since page).same.stamp) (state old.volume.shelf.disk) (state w.shelf.disk) (state new.volume.shelf.disk)
     (did.since 0).goes_on.faults c.args.session c.args.entry c.args.leaf c.args.marked new c.write_sought.result
     (subst (λ (x : Parts g.row.K-Key.Denot g.row.D.Denot). SeekComes (format_of g.K.KeyClass) g.K.KeyClass.is_key k g.K.KeyClass.KEY (is_node (format_of g.K.KeyClass)) (state w.shelf.disk)
     (state new.volume.shelf.disk)
@@ -61,7 +61,7 @@ returns-in-Err-Pages-clause-comes g c =
     let refused : IsRefused c.in-Err-Pages.fault c.seek_pair.new.self c.refuse.new.self c.refuse.result = search rules in
     let k = keys g.K.Key.Ord.cmp g.K.Key.Shape.overlap g.K.Key.Shape.inside in
     let why = why_pages _ c.in-Err-Pages.field-0 c.in-Err-Pages.fault c.in-Err-Pages.field-0-is c.in-Err-Pages.ensures.refused.why in
-    refused_comes c.args.self.now c.seek_pair.new.self.volume did.log did.most (format_of g.K.KeyClass) g.K.KeyClass.is_key k g.K.KeyClass.KEY (is_node (format_of g.K.KeyClass)) state
+    refused_comes c.args.self.now c.seek_pair.new.self.volume did.log did.most did.imaged (format_of g.K.KeyClass) g.K.KeyClass.is_key k g.K.KeyClass.KEY (is_node (format_of g.K.KeyClass)) state
     (state c.args.self.now.volume.shelf.disk) c.args.session c.args.entry c.args.leaf c.args.marked (λ page. (did.since page).same.stamp) 0 (inl refl) (omega arith) c.in-Err-Pages.fault
     (no_room (is_node (format_of g.K.KeyClass)) (state c.args.self.now.volume.shelf.disk) (state c.seek_pair.new.self.volume.shelf.disk) c.args.self.now.volume c.seek_pair.new.self.volume
     c.in-Err-Pages.fault why)
@@ -84,23 +84,23 @@ returns-in-Err-Pages-clause-moves g c =
     c.in-Err-Pages.fault why) c.refuse.new.self c.refuse.result
     (subst (λ (x : Parts g.row.K-Key.Denot g.row.D.Denot). IsRefused c.in-Err-Pages.fault x c.refuse.new.self c.refuse.result) c.seek_pair.ensures.only refused)
 
-pub returns-in-Err-Memory-clause-comes : goal.returns-in-Err-Memory-clause-comes
-returns-in-Err-Memory-clause-comes g c =
+pub returns-in-Err-Damaged-clause-comes : goal.returns-in-Err-Damaged-clause-comes
+returns-in-Err-Damaged-clause-comes g c =
     let did = c.seek_pair.ensures.unlogged in
     let k = keys g.K.Key.Ord.cmp g.K.Key.Shape.overlap g.K.Key.Shape.inside in
-    damaged_comes c.args.self.now c.seek_pair.new.self.volume did.log did.most (format_of g.K.KeyClass) g.K.KeyClass.is_key k g.K.KeyClass.KEY (is_node (format_of g.K.KeyClass)) g.D.SectorDisk.state _
+    damaged_comes c.args.self.now c.seek_pair.new.self.volume did.log did.most did.imaged (format_of g.K.KeyClass) g.K.KeyClass.is_key k g.K.KeyClass.KEY (is_node (format_of g.K.KeyClass)) g.D.SectorDisk.state _
     c.args.session c.args.entry c.args.leaf c.args.marked c.break_off.new.self c.break_off.result c.break_off.ensures.outcome
     (c.break_off.ensures.failed ∙ ap (λ (x : Parts g.row.K-Key.Denot g.row.D.Denot). record x { sessions = failed_state x.sessions }) c.seek_pair.ensures.only)
 
-pub returns-in-Err-Memory-clause-moves : goal.returns-in-Err-Memory-clause-moves
-returns-in-Err-Memory-clause-moves g c =
+pub returns-in-Err-Damaged-clause-moves : goal.returns-in-Err-Damaged-clause-moves
+returns-in-Err-Damaged-clause-moves g c =
     let old : Parts g.row.K-Key.Denot g.row.D.Denot = c.args.self.now in
     let state = g.D.SectorDisk.state in
     let kept = subst (λ (x : Parts g.row.K-Key.Denot g.row.D.Denot). IsKept (keys g.K.Key.Ord.cmp g.K.Key.Shape.overlap g.K.Key.Shape.inside) x.sessions) c.self.view_is c.stands.ensures in
-    let damaged : c.in-Err-Memory.field-0 ≡ Damaged = search rules in
+    let damaged : c.in-Err-Damaged.field-0 ≡ Damaged = search rules in
     let did = c.seek_pair.ensures.unlogged in
     let w = c.seek_pair.new.self.volume in
     λ l. never_moves _ (c.a_class_is_lawful.ensures l) _ _ _ (state old.volume.shelf.disk) old kept c.requires.works c.args.session c.requires.session c.args.entry c.args.leaf c.args.marked
     c.requires.seeks state
-    w did.most did.log (did.since 0).goes_on.device (did.keeps l) (c.a_volume_shows_the_logs_tree.ensures l w) (c.in-Err-Memory.ensures.refused.damaged damaged)
+    w did.most did.log (did.since 0).goes_on.device (did.keeps l) (c.a_volume_shows_the_logs_tree.ensures l w) (c.in-Err-Damaged.ensures.refused.damaged damaged)
     _ c.break_off.new.self c.break_off.result _

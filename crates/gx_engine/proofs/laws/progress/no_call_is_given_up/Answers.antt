@@ -1,5 +1,4 @@
 use Rattle.std.proofs.Common.{refl, arith}
-use Rattle.std.specs.Prelude.{ℕ, ◌<◌, ◌^◌}
 use Rattle.gx_machine.specs.Keys.{Members}
 use Rattle.gx_events.specs.declared.event.Event.TheVariants.{Ask}
 use Rattle.gx_engine.proofs.CallsEnd.{starts_end}

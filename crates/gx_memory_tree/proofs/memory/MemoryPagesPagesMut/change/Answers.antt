@@ -1,7 +1,7 @@
 use Rattle.std.proofs.Common.{◌≡◌, ◌+◌, ◌-◌, ◌<◌, ◌≤◌, ◌∙◌, ap, sym, subst, length, map, get_or, set, rules, arith}
 use Rattle.std.proofs.lemmas.List.{length-set, get_or-set_same, map-set}
 use Rattle.gx_page.specs.Contents.{Contents}
-use Rattle.gx_tree_laws.specs.Trees.{Node}
+use Rattle.gx_node.specs.Trees.{Node}
 use Rattle.gx_node.specs.Reading.{format_of, is_node}
 use Rattle.gx_node.specs.Store.{Store, node_of, node_at, with_node}
 use Rattle.gx_tree.proofs.Changed.{set_elsewhere}

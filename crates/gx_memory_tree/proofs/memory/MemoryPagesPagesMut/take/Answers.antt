@@ -2,7 +2,7 @@ use Rattle.std.proofs.Common.{◌≡◌, ◌<◌, ◌≤◌, ◌+◌, ◌-◌, �
 use Rattle.std.proofs.lemmas.List.{length-append, map-append}
 use Rattle.std.specs.List.{list_all}
 use Rattle.gx_page.specs.Contents.{Contents}
-use Rattle.gx_tree_laws.specs.Trees.{Node}
+use Rattle.gx_node.specs.Trees.{Node}
 use Rattle.gx_node.specs.Reading.{format_of, is_node}
 use Rattle.gx_node.specs.Store.{Store, node_of, node_at, with_page, numbered}
 use Rattle.gx_node.proofs.Listed.{in_items, node_in, each_at, all_more, numbered_more}

@@ -1,7 +1,7 @@
 use Rattle.std.proofs.Common.{◌≡◌, ◌-◌, true, false, refl, ap, sym, ◌∙◌, subst}
 use Rattle.gx_machine.specs.Keys.{keys, IsLawful}
 use Rattle.gx_machine.specs.Machine.{is_session}
-use Rattle.gx_engine_laws.specs.Events.{IsEvent}
+use Rattle.gx_events.specs.Events.{IsEvent}
 use Rattle.gx_phases.specs.States.{State, phase_at, engine_of, IsKept}
 use Rattle.gx_phases.specs.Asked.{begins, AskedAt, IsAsked, asked_event}
 use Rattle.gx_phases.proofs.Keeping.{at_kept}

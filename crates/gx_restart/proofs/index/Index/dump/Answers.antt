@@ -1,6 +1,6 @@
 use Rattle.std.proofs.Common.{subst, Err}
 use Rattle.gx_node.specs.Reading.{format_of, is_node}
-use Rattle.gx_readings.specs.Classes.{class_of, reading_of}
+use Rattle.gx_durable.specs.Classes.{class_of, reading_of}
 use Rattle.gx_restart.specs.declared.text.stop.Stop.{Stop}
 use Rattle.gx_restart.specs.Reading.{IsNotGivenUp}
 use Rattle.gx_restart.proofs.Boxes.{boxes}

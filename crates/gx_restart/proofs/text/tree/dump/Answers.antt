@@ -1,7 +1,7 @@
 use Rattle.std.proofs.Common.{◌+◌, ◌++◌, refl, sym, ◌∙◌, arith, Err}
 use Rattle.std.proofs.lemmas.Result.{on_ok_weaker, err_from_is_err_and}
 use Rattle.gx_node.specs.Reading.{format_of, is_node}
-use Rattle.gx_readings.specs.Classes.{class_of, reading_of}
+use Rattle.gx_durable.specs.Classes.{class_of, reading_of}
 use Rattle.gx_script.specs.Writes.{IsCut, IsPut}
 use Rattle.gx_restart.specs.declared.text.stop.Stop.TheVariants as stop
 use Rattle.gx_restart.specs.Text.{node_text}

@@ -1,7 +1,7 @@
 use Rattle.std.proofs.Common.{[], ◌++◌}
 use Rattle.gx_node.specs.Reading.{format_of, is_node}
 use Rattle.gx_recovery.specs.Known.{Limits}
-use Rattle.gx_readings.specs.Classes.{class_of, reading_of}
+use Rattle.gx_durable.specs.Classes.{class_of, reading_of}
 use Rattle.gx_script.specs.Writes.{IsPut}
 use Rattle.gx_restart.specs.Bringing.{AreBrought, Brings, Helps}
 use Rattle.gx_restart.specs.Reading.{OfItsTree}

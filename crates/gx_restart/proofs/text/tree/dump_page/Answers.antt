@@ -1,6 +1,6 @@
 use Rattle.std.proofs.Common.{◌++◌, subst}
 use Rattle.std.proofs.lemmas.Result.{on_ok_weaker, err_from_is_err_and}
-use Rattle.gx_tree_laws.specs.Trees.{Node}
+use Rattle.gx_node.specs.Trees.{Node}
 use Rattle.gx_script.specs.Writes.{IsCut, IsPut}
 use Rattle.gx_restart.specs.Text.{node_text}
 use Rattle.gx_restart.proofs.Telling.{node_told, nothing_told}

@@ -1,7 +1,7 @@
 use Rattle.std.proofs.Common.{◌≡◌, ◌+◌, refl, ap, ◌∙◌, arith}
 use Rattle.gx_index_laws.specs.States.{tree_now}
-use Rattle.gx_readings.specs.Classes.{class_of}
-use Rattle.gx_tree_laws.specs.Trees.{Tree}
+use Rattle.gx_durable.specs.Classes.{class_of}
+use Rattle.gx_node.specs.Trees.{Tree}
 use Rattle.gx_restart.specs.Sizes.{live_on, live_up_to}
 use Rattle.gx_restart.proofs.Bringing.{all_used, brings, helps}
 use Rattle.gx_restart.proofs.Counting.{one_page_more}

@@ -1,5 +1,5 @@
 use Rattle.std.proofs.Common.{ap, ◌∙◌}
-use Rattle.gx_tree_laws.specs.Trees.{Node}
+use Rattle.gx_node.specs.Trees.{Node}
 use Rattle.gx_restart.specs.Sizes.{live_on}
 use Rattle.gx_restart.proofs.Telling.{node_told}
 use Rattle.gx_restart.proofs.verification.entries.count_on.Goals as goal

@@ -3,7 +3,7 @@ use Rattle.std.specs.Prelude.{if◌then◌else◌}
 use Rattle.std.proofs.lemmas.Bool.{ne_eqb}
 use Rattle.std.proofs.lemmas.List.{length-map}
 use Rattle.gx_node.specs.Reading.{format_of, inner_of, leaf_of, pair_of}
-use Rattle.gx_tree_laws.specs.Trees.{Node}
+use Rattle.gx_node.specs.Trees.{Node}
 use Rattle.gx_restart.specs.Sizes.{live_on}
 use Rattle.gx_restart.proofs.Counting.{few_pass}
 use Rattle.gx_restart.proofs.verification.entries.count_page.Goals as goal

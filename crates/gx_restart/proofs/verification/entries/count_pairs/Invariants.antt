@@ -1,5 +1,5 @@
 use Rattle.std.proofs.Common.{◌≡◌, ◌≤◌, not, take}
-use Rattle.gx_tree_laws.specs.Lists.{how_many}
+use Rattle.gx_node.specs.Lists.{how_many}
 use Rattle.gx_restart.proofs.verification.entries.count_pairs.Given as goal
 
 -- the pairs before this slot were counted

@@ -1,4 +1,4 @@
-use Rattle.std.proofs.Common.{sym, subst, true}
+use Rattle.std.proofs.Common.{[], sym, subst, true}
 use Rattle.gx_node.specs.Reading.{format_of, is_node}
 use Rattle.gx_store.specs.Faults as faults
 use Rattle.gx_store.specs.Since.{IsSince}
@@ -15,7 +15,7 @@ returns-clause-since g c = λ q.
     let s : Shelf g.row.D.Denot = c.args.store.now in
     let log = c.args.log.now in
     let state = g.D.SectorDisk.state in
-    let v : Volume g.row.D.Denot = record { log = log; shelf = s; most = 0 } in
+    let v : Volume g.row.D.Denot = record { log = log; shelf = s; most = 0; imaged = [] } in
     let passes = is_node (format_of g.K.KeyClass) in
     let read : Shelf g.row.D.Denot = c.seek_step-sought.new.pages in
     let room = has_room log c.args.size in

@@ -23,7 +23,7 @@ returns-clause-unlogged g c =
     let i = c.self.inside in
     let f = format_of g.K.KeyClass in
     let state = g.D.SectorDisk.state in
-    let v : Volume g.row.D.Denot = record { log = i.log; shelf = i.store; most = i.most } in
+    let v : Volume g.row.D.Denot = record { log = i.log; shelf = i.store; most = i.most; imaged = i.imaged } in
     let u = c.begin_reading.new.store in
     let is : u ≡ bringing v = c.begin_reading.ensures in
     let t = c.bring.new.self in

@@ -3,9 +3,9 @@ use Rattle.std.specs.Prelude.{nat_lt}
 use Rattle.std.proofs.lemmas.Bool.{eq-eqb, ne_eqb}
 use Rattle.gx_node.specs.Reading.{format_of}
 use Rattle.gx_node.specs.Edits.{entry_of}
-use Rattle.gx_tree_laws.specs.Lists.{how_many}
-use Rattle.gx_tree_laws.specs.Trees.{Node}
-use Rattle.gx_tree_laws.specs.Writes.{is_sweepable}
+use Rattle.gx_node.specs.Lists.{how_many}
+use Rattle.gx_node.specs.Trees.{Node}
+use Rattle.gx_node.specs.Writes.{is_sweepable}
 use Rattle.gx_node.specs.Store.{node_of}
 use Rattle.gx_storage.specs.Bringing.{has_removable}
 use Rattle.gx_storage.proofs.storage.Storage.has_removable.Goals as goal

@@ -15,7 +15,7 @@ returns-in_err-split-clause-unlogged g c =
     let i = c.self.inside in
     let f = format_of g.K.KeyClass in
     let state = g.D.SectorDisk.state in
-    let v : Volume g.row.D.Denot = record { log = i.log; shelf = i.store; most = i.most } in
+    let v : Volume g.row.D.Denot = record { log = i.log; shelf = i.store; most = i.most; imaged = i.imaged } in
     let u = c.begin_event.new.store in
     let t = c.split_step.new.pages in
     let is = begun_is v u SPLIT_RECORD _ c.begin_event.ensures refl in
@@ -28,7 +28,7 @@ give_three-requires-clause-place g c =
     let i = c.self.inside in
     let f = format_of g.K.KeyClass in
     let state = g.D.SectorDisk.state in
-    let v : Volume g.row.D.Denot = record { log = i.log; shelf = i.store; most = i.most } in
+    let v : Volume g.row.D.Denot = record { log = i.log; shelf = i.store; most = i.most; imaged = i.imaged } in
     let u = c.begin_event.new.store in
     let t = c.split_step.new.pages in
     let is = begun_is v u SPLIT_RECORD _ c.begin_event.ensures refl in
@@ -41,7 +41,7 @@ give_three-requires-clause-room g c =
     let i = c.self.inside in
     let f = format_of g.K.KeyClass in
     let state = g.D.SectorDisk.state in
-    let v : Volume g.row.D.Denot = record { log = i.log; shelf = i.store; most = i.most } in
+    let v : Volume g.row.D.Denot = record { log = i.log; shelf = i.store; most = i.most; imaged = i.imaged } in
     let u = c.begin_event.new.store in
     let t = c.split_step.new.pages in
     let is = begun_is v u SPLIT_RECORD _ c.begin_event.ensures refl in
@@ -59,7 +59,7 @@ returns-clause-logged g c =
     let i = c.self.inside in
     let f = format_of g.K.KeyClass in
     let state = g.D.SectorDisk.state in
-    let v : Volume g.row.D.Denot = record { log = i.log; shelf = i.store; most = i.most } in
+    let v : Volume g.row.D.Denot = record { log = i.log; shelf = i.store; most = i.most; imaged = i.imaged } in
     let u = c.begin_event.new.store in
     let t = c.split_step.new.pages in
     let is = begun_is v u SPLIT_RECORD _ c.begin_event.ensures refl in
@@ -67,7 +67,7 @@ returns-clause-logged g c =
     let sibling = rw c.in-Some.is at c.in_ok-split.ensures.sibling in
     let next : c.in-Some.split.sibling ≡ suc i.store.used = sibling ∙ ap suc (begun_long f state v SPLIT_RECORD u is) in
     let these = c.in_rising_order-first.ensures.these ∙ ap (λ p. rising c.args.page c.args.parent p) next in
-    rw (← c.self.view_is) (logged_these _ _ f (is_node f) state v SPLIT_RECORD t _ (rising c.args.page c.args.parent (suc i.store.used)) c.give_three.new.log these did c.give_three.ensures.given (nodes_of f _ _ c.in_order.ensures)
+    rw (← c.self.view_is) (logged_these _ _ f (is_node f) state v SPLIT_RECORD t _ (rising c.args.page c.args.parent (suc i.store.used)) c.give_three.new.log c.give_three.new.imaged these c.give_three.ensures.imaged did c.give_three.ensures.given (nodes_of f _ _ c.in_order.ensures)
     c.give_three.ensures.last)
 
 pub returns-clause-own : goal.returns-clause-own
@@ -75,7 +75,7 @@ returns-clause-own g c =
     let i = c.self.inside in
     let f = format_of g.K.KeyClass in
     let state = g.D.SectorDisk.state in
-    let v : Volume g.row.D.Denot = record { log = i.log; shelf = i.store; most = i.most } in
+    let v : Volume g.row.D.Denot = record { log = i.log; shelf = i.store; most = i.most; imaged = i.imaged } in
     let u = c.begin_event.new.store in
     let t = c.split_step.new.pages in
     let is = begun_is v u SPLIT_RECORD _ c.begin_event.ensures refl in
@@ -89,7 +89,7 @@ returns-clause-stamped g c =
     let i = c.self.inside in
     let f = format_of g.K.KeyClass in
     let state = g.D.SectorDisk.state in
-    let v : Volume g.row.D.Denot = record { log = i.log; shelf = i.store; most = i.most } in
+    let v : Volume g.row.D.Denot = record { log = i.log; shelf = i.store; most = i.most; imaged = i.imaged } in
     let u = c.begin_event.new.store in
     let t = c.split_step.new.pages in
     let is = begun_is v u SPLIT_RECORD _ c.begin_event.ensures refl in
@@ -105,7 +105,7 @@ returns-in_default-clause-logged g c =
     let i = c.self.inside in
     let f = format_of g.K.KeyClass in
     let state = g.D.SectorDisk.state in
-    let v : Volume g.row.D.Denot = record { log = i.log; shelf = i.store; most = i.most } in
+    let v : Volume g.row.D.Denot = record { log = i.log; shelf = i.store; most = i.most; imaged = i.imaged } in
     let u = c.begin_event.new.store in
     let t = c.split_step.new.pages in
     let is = begun_is v u SPLIT_RECORD _ c.begin_event.ensures refl in
@@ -119,7 +119,7 @@ returns-in_err-split-clause-full g c =
     let i = c.self.inside in
     let f = format_of g.K.KeyClass in
     let state = g.D.SectorDisk.state in
-    let v : Volume g.row.D.Denot = record { log = i.log; shelf = i.store; most = i.most } in
+    let v : Volume g.row.D.Denot = record { log = i.log; shelf = i.store; most = i.most; imaged = i.imaged } in
     let u = c.begin_event.new.store in
     let t = c.split_step.new.pages in
     let is = begun_is v u SPLIT_RECORD _ c.begin_event.ensures refl in
@@ -133,7 +133,7 @@ returns-in_err-split-clause-damaged g c =
     let i = c.self.inside in
     let f = format_of g.K.KeyClass in
     let state = g.D.SectorDisk.state in
-    let v : Volume g.row.D.Denot = record { log = i.log; shelf = i.store; most = i.most } in
+    let v : Volume g.row.D.Denot = record { log = i.log; shelf = i.store; most = i.most; imaged = i.imaged } in
     let u = c.begin_event.new.store in
     let t = c.split_step.new.pages in
     let is = begun_is v u SPLIT_RECORD _ c.begin_event.ensures refl in
@@ -145,7 +145,7 @@ returns-clause-sibling g c =
     let i = c.self.inside in
     let f = format_of g.K.KeyClass in
     let state = g.D.SectorDisk.state in
-    let v : Volume g.row.D.Denot = record { log = i.log; shelf = i.store; most = i.most } in
+    let v : Volume g.row.D.Denot = record { log = i.log; shelf = i.store; most = i.most; imaged = i.imaged } in
     let u = c.begin_event.new.store in
     let t = c.split_step.new.pages in
     let is = begun_is v u SPLIT_RECORD _ c.begin_event.ensures refl in

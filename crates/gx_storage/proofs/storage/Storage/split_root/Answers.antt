@@ -13,7 +13,7 @@ returns-then-used-eq0-clause-unlogged g c =
     let i = c.self.inside in
     let f = format_of g.K.KeyClass in
     let state = g.D.SectorDisk.state in
-    let v : Volume g.row.D.Denot = record { log = i.log; shelf = i.store; most = i.most } in
+    let v : Volume g.row.D.Denot = record { log = i.log; shelf = i.store; most = i.most; imaged = i.imaged } in
     let u = c.begin_event.new.store in
     let is = begun_is v u SPLIT_RECORD _ c.begin_event.ensures refl in
     let since = unstepped (is_node f) state v SPLIT_RECORD u u is (λ was q since. since) in
@@ -24,7 +24,7 @@ returns-in_err-split-clause-unlogged g c =
     let i = c.self.inside in
     let f = format_of g.K.KeyClass in
     let state = g.D.SectorDisk.state in
-    let v : Volume g.row.D.Denot = record { log = i.log; shelf = i.store; most = i.most } in
+    let v : Volume g.row.D.Denot = record { log = i.log; shelf = i.store; most = i.most; imaged = i.imaged } in
     let u = c.begin_event.new.store in
     let t = c.split_root_step.new.pages in
     let is = begun_is v u SPLIT_RECORD _ c.begin_event.ensures refl in
@@ -37,7 +37,7 @@ give_three-requires-clause-place g c =
     let i = c.self.inside in
     let f = format_of g.K.KeyClass in
     let state = g.D.SectorDisk.state in
-    let v : Volume g.row.D.Denot = record { log = i.log; shelf = i.store; most = i.most } in
+    let v : Volume g.row.D.Denot = record { log = i.log; shelf = i.store; most = i.most; imaged = i.imaged } in
     let u = c.begin_event.new.store in
     let t = c.split_root_step.new.pages in
     let is = begun_is v u SPLIT_RECORD _ c.begin_event.ensures refl in
@@ -49,7 +49,7 @@ give_three-requires-clause-room g c =
     let i = c.self.inside in
     let f = format_of g.K.KeyClass in
     let state = g.D.SectorDisk.state in
-    let v : Volume g.row.D.Denot = record { log = i.log; shelf = i.store; most = i.most } in
+    let v : Volume g.row.D.Denot = record { log = i.log; shelf = i.store; most = i.most; imaged = i.imaged } in
     let u = c.begin_event.new.store in
     let t = c.split_root_step.new.pages in
     let is = begun_is v u SPLIT_RECORD _ c.begin_event.ensures refl in
@@ -61,7 +61,7 @@ returns-clause-own g c =
     let i = c.self.inside in
     let f = format_of g.K.KeyClass in
     let state = g.D.SectorDisk.state in
-    let v : Volume g.row.D.Denot = record { log = i.log; shelf = i.store; most = i.most } in
+    let v : Volume g.row.D.Denot = record { log = i.log; shelf = i.store; most = i.most; imaged = i.imaged } in
     let u = c.begin_event.new.store in
     let t = c.split_root_step.new.pages in
     let is = begun_is v u SPLIT_RECORD _ c.begin_event.ensures refl in
@@ -75,7 +75,7 @@ returns-clause-logged g c =
     let i = c.self.inside in
     let f = format_of g.K.KeyClass in
     let state = g.D.SectorDisk.state in
-    let v : Volume g.row.D.Denot = record { log = i.log; shelf = i.store; most = i.most } in
+    let v : Volume g.row.D.Denot = record { log = i.log; shelf = i.store; most = i.most; imaged = i.imaged } in
     let u = c.begin_event.new.store in
     let t = c.split_root_step.new.pages in
     let is = begun_is v u SPLIT_RECORD _ c.begin_event.ensures refl in
@@ -83,7 +83,7 @@ returns-clause-logged g c =
     let places = c.in_ok-split.ensures.places in
     let split = c.in_ok-split.split in
     let these = ap (λ x. (let xs : List ℕ = 1 ∷ x ∷ split.second ∷ [] in xs)) (places.0 ∙ ap suc (begun_long f state v SPLIT_RECORD u is)) ∙ ap (λ x. (let xs : List ℕ = 1 ∷ suc i.store.used ∷ x ∷ [] in xs)) (places.1 ∙ ap (λ n. suc (suc n)) (begun_long f state v SPLIT_RECORD u is)) in
-    rw (← c.self.view_is) (logged_these _ _ f (is_node f) state v SPLIT_RECORD t (1 ∷ split.first ∷ split.second ∷ []) (1 ∷ suc i.store.used ∷ suc (suc i.store.used) ∷ []) c.give_three.new.log these did c.give_three.ensures.given
+    rw (← c.self.view_is) (logged_these _ _ f (is_node f) state v SPLIT_RECORD t (1 ∷ split.first ∷ split.second ∷ []) (1 ∷ suc i.store.used ∷ suc (suc i.store.used) ∷ []) c.give_three.new.log c.give_three.new.imaged these c.give_three.ensures.imaged did c.give_three.ensures.given
     (nodes_of f _ _ c.in_order.ensures) c.give_three.ensures.last)
 
 pub returns-clause-stamped : goal.returns-clause-stamped
@@ -91,7 +91,7 @@ returns-clause-stamped g c =
     let i = c.self.inside in
     let f = format_of g.K.KeyClass in
     let state = g.D.SectorDisk.state in
-    let v : Volume g.row.D.Denot = record { log = i.log; shelf = i.store; most = i.most } in
+    let v : Volume g.row.D.Denot = record { log = i.log; shelf = i.store; most = i.most; imaged = i.imaged } in
     let u = c.begin_event.new.store in
     let t = c.split_root_step.new.pages in
     let is = begun_is v u SPLIT_RECORD _ c.begin_event.ensures refl in
@@ -106,7 +106,7 @@ give_three-requires-clause-rise g c =
     let i = c.self.inside in
     let f = format_of g.K.KeyClass in
     let state = g.D.SectorDisk.state in
-    let v : Volume g.row.D.Denot = record { log = i.log; shelf = i.store; most = i.most } in
+    let v : Volume g.row.D.Denot = record { log = i.log; shelf = i.store; most = i.most; imaged = i.imaged } in
     let u = c.begin_event.new.store in
     let t = c.split_root_step.new.pages in
     let is = begun_is v u SPLIT_RECORD _ c.begin_event.ensures refl in
@@ -121,7 +121,7 @@ returns-clause-places g c =
     let i = c.self.inside in
     let f = format_of g.K.KeyClass in
     let state = g.D.SectorDisk.state in
-    let v : Volume g.row.D.Denot = record { log = i.log; shelf = i.store; most = i.most } in
+    let v : Volume g.row.D.Denot = record { log = i.log; shelf = i.store; most = i.most; imaged = i.imaged } in
     let u = c.begin_event.new.store in
     let t = c.split_root_step.new.pages in
     let is = begun_is v u SPLIT_RECORD _ c.begin_event.ensures refl in
@@ -133,7 +133,7 @@ returns-in_err-split-clause-full g c =
     let i = c.self.inside in
     let f = format_of g.K.KeyClass in
     let state = g.D.SectorDisk.state in
-    let v : Volume g.row.D.Denot = record { log = i.log; shelf = i.store; most = i.most } in
+    let v : Volume g.row.D.Denot = record { log = i.log; shelf = i.store; most = i.most; imaged = i.imaged } in
     let u = c.begin_event.new.store in
     let t = c.split_root_step.new.pages in
     let is = begun_is v u SPLIT_RECORD _ c.begin_event.ensures refl in
@@ -147,7 +147,7 @@ returns-in_err-split-clause-damaged g c =
     let i = c.self.inside in
     let f = format_of g.K.KeyClass in
     let state = g.D.SectorDisk.state in
-    let v : Volume g.row.D.Denot = record { log = i.log; shelf = i.store; most = i.most } in
+    let v : Volume g.row.D.Denot = record { log = i.log; shelf = i.store; most = i.most; imaged = i.imaged } in
     let u = c.begin_event.new.store in
     let t = c.split_root_step.new.pages in
     let is = begun_is v u SPLIT_RECORD _ c.begin_event.ensures refl in
@@ -159,7 +159,7 @@ returns-then-used-eq0-clause-damaged g c =
     let i = c.self.inside in
     let f = format_of g.K.KeyClass in
     let state = g.D.SectorDisk.state in
-    let v : Volume g.row.D.Denot = record { log = i.log; shelf = i.store; most = i.most } in
+    let v : Volume g.row.D.Denot = record { log = i.log; shelf = i.store; most = i.most; imaged = i.imaged } in
     let u = c.begin_event.new.store in
     let is = begun_is v u SPLIT_RECORD _ c.begin_event.ensures refl in
     let long = begun_long f state v SPLIT_RECORD u is in

@@ -2,7 +2,7 @@ use Rattle.std.proofs.Common.{[], sym, ap, subst, ◌∙◌}
 use Rattle.gx_node.specs.Reading.{format_of, is_node}
 use Rattle.gx_page.specs.Contents.{Contents}
 use Rattle.gx_pool.specs.Edits.{changed}
-use Rattle.gx_tree_laws.specs.Trees.{Node}
+use Rattle.gx_node.specs.Trees.{Node}
 use Rattle.gx_store.specs.State.{Shelf}
 use Rattle.gx_store.proofs.Asking.{changing_moves, moves_joined}
 use Rattle.gx_store.proofs.Changing.{change_as_it_was, change_goes_on, change_in_order, change_keeps_held, change_leaves_ready, change_nodes, change_others}

@@ -1,6 +1,0 @@
-pub mod Placing
-pub mod Searching
-pub mod Bridging
-pub mod Fitting
-pub mod Heads
-pub mod Telling

@@ -1,4 +1,0 @@
-pub mod Kept
-pub mod Broken
-pub mod Telling
-pub mod Texts

@@ -1,4 +1,0 @@
-pub mod BoxKeys
-pub mod Classes
-pub mod IntervalKeys
-pub mod Laws

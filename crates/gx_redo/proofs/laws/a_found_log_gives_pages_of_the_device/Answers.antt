@@ -1,5 +1,0 @@
-use Rattle.gx_redo.proofs.Found.{found_on_device}
-use Rattle.gx_redo.proofs.laws.a_found_log_gives_pages_of_the_device.Goals as goal
-
-pub returns : goal.returns
-returns g c = λ l. found_on_device (g.M.Meaning.known l) g.M.Spelled.reading

@@ -1,5 +1,0 @@
-use Rattle.gx_redo.proofs.GoingOn.{redone_goes_on}
-use Rattle.gx_redo.proofs.laws.a_redone_log_goes_on.Goals as goal
-
-pub returns : goal.returns
-returns g c = λ l d e b f. redone_goes_on (g.M.Meaning.known l) g.M.Spelled.reading _ _ _ _

@@ -1,4 +1,0 @@
-pub mod Laid
-pub mod Redone
-pub mod Restart
-pub mod GoingOn

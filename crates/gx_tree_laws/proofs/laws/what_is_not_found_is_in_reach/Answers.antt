@@ -1,5 +1,0 @@
-use Rattle.gx_tree_laws.proofs.InReach.{wanted_in_reach}
-use Rattle.gx_tree_laws.proofs.laws.what_is_not_found_is_in_reach.Goals as goal
-
-pub returns : goal.returns
-returns g c = λ t wants test stack found look more. wanted_in_reach t wants test stack found look more
