@@ -1,13 +1,16 @@
 #!/usr/bin/env python3
-"""Looks at README and docs/: each page's words, names in backquotes, links, dates. Prints nothing where all is well."""
+"""Looks at README and docs/: each page's words, names in backquotes, links, dates, and how many lines a file has.
+
+Prints nothing where all is well.
+"""
 import pathlib
 import re
 
 # Words that a page may have, at most. A page that isn't here fails.
 WORDS = {
-    "README": 700, "MAP": 1400, "SCRIPT": 1800, "OPERATING": 1200, "CLIENTS": 800, "FILE": 1800, "TREE": 2500,
-    "CLASSES": 1300, "LOG": 1800, "RECOVERY": 2800, "ENGINE": 2800, "SESSIONS": 1800, "THEOREM": 3500, "PROMISES": 2500,
-    "PROOFS": 1500, "SPEED": 1200, "GATE": 400, "DECISIONS": 2500,
+    "README": 700, "MAP": 1600, "SCRIPT": 1800, "OPERATING": 1600, "CLIENTS": 1500, "FILE": 1900, "TREE": 2400,
+    "CLASSES": 1300, "LOG": 1700, "RECOVERY": 2400, "ENGINE": 2300, "SESSIONS": 1700, "THEOREM": 3200, "PROMISES": 1500,
+    "PROOFS": 1500, "SPEED": 1200, "GATE": 400, "DECISIONS": 1300,
 }
 # Words that all pages may have together.
 ALL = 32000
@@ -145,6 +148,15 @@ def links(page, text):
             yield target
 
 
+def lines_of(text):
+    """Rows `FILE` | LINES whose file has another number of lines, by more than a tenth."""
+    for name, lines in re.findall(r"^\| `(\w+(?:/\w+)+)` \| (\d+) \|", text, re.M):
+        for path in (TOP / "crates").glob(name + ".*t"):
+            count = len(path.read_text().splitlines())
+            if abs(count - int(lines)) * 10 > count:
+                yield f"{name} has {count} lines, not {lines}"
+
+
 def main():
     known = everywhere()
     bad = []
@@ -167,6 +179,7 @@ def main():
         bad += [f"{page.stem}: no clause `{name}` in {crate}" for crate, name in clauses(prose) if not has_clause(crate, name)]
         bad += [f"{page.stem}: no {target}" for target in links(page, text)]
         bad += [f"{page.stem}: a date, {date}" for date in dates(text)]
+        bad += [f"{page.stem}: {wrong_count}" for wrong_count in lines_of(text)]
     if words > ALL:
         bad.append(f"all pages: {words} words, {ALL}")
     print("\n".join(dict.fromkeys(bad)), end="\n" if bad else "")

@@ -37,13 +37,12 @@ def main(crate, *names):
         if status:
             sys.exit(said[-2000:])
         total = 0
-        for file in sorted(glob.glob(f"{TOP}/crates/{crate}/must-fail/*.edit")):
+        for file in sorted(glob.glob(f"{TOP}/planted/{crate}/*.edit") + glob.glob(f"{TOP}/crates/{crate}/must-fail/*.edit")):
             name = os.path.basename(file)[:-5]
             if names and name not in names:
                 continue
             shutil.copytree(seed, over, symlinks=True)
-            with open(file, encoding="utf-8") as it:
-                edit(it.read(), copied(crate, folder))
+            edit(file, copied(crate, folder))
             said, status, seconds = check(crate, folder, over, "--stage-times", times)
             shutil.rmtree(over)
             total += seconds

@@ -1,7 +1,8 @@
 #!/usr/bin/env bash
 # Runs the gate on a fresh clone, all of it anew, whatever this machine has kept of earlier runs, and logs what its parts take,
 # in processor seconds: each crate's proof, the second proof of its tests, the build of each program by two compilers, and each
-# must-fail edit (the first of a crate proves the crate again, and `(none)` is the check behind the last). The last line has
+# must-fail edit (the first of a crate proves the crate again, and `(none)` is the check behind the last), and the planted bugs of a crate
+# that are tried in this run. The last line has
 # the whole gate's processor seconds, its time by the clock, and its own last line. `gate_table.sh` makes a table of it. The
 # argument, if there is one, is the revision; RT_JOBS says how many crates are proved side by side (as many as there are
 # processors). Run it alone on the machine. The gate's own output goes to the file GATE_OUTPUT, if one is named. Where GATE_CRATES names
@@ -23,6 +24,8 @@ def kind_of(words, room):
     crate = words[words.index("--crate-name") + 1]
     if os.path.basename(room).startswith("rt-edit-"):
         return "edit", crate, room
+    if os.path.basename(os.path.dirname(room)).startswith("planted-"):
+        return "planted", crate, ""
     if "--crate-checked" in words:
         return "runs", crate, words[words.index("--backend") + 1]
     return ("tests" if any(word.endswith("_tests.o") for word in words) else "proof"), crate, ""
@@ -54,9 +57,9 @@ def sample(gate):
         except (OSError, ValueError, IndexError):
             pass
 
-began = time.time()
-with open(output, "w+", encoding="utf-8") as told:
-    gate = subprocess.Popen(["rt", "ci", "--anew", *os.environ.get("GATE_CRATES", "").split()], cwd=folder, stdin=subprocess.DEVNULL, stdout=subprocess.PIPE, stderr=subprocess.STDOUT)
+def run(words, told):
+    """Runs a command to its end, and returns its last line."""
+    gate = subprocess.Popen(words, cwd=folder, stdin=subprocess.DEVNULL, stdout=subprocess.PIPE, stderr=subprocess.STDOUT)
     os.set_blocking(gate.stdout.fileno(), False)
     text = b""
     while gate.poll() is None:
@@ -65,9 +68,17 @@ with open(output, "w+", encoding="utf-8") as told:
         time.sleep(0.2)
     text += gate.stdout.read() or b""
     told.write(text.decode(errors="replace"))
+    told.flush()
+    return text.decode(errors="replace").rstrip("\n").rpartition("\n")[2]
+
+began = time.time()
+named = os.environ.get("GATE_CRATES", "").split()
+with open(output, "w+", encoding="utf-8") as told:
+    last = run(["rt", "ci", "--anew", *named], told)
+    turn = subprocess.run([".ci/turns"], cwd=folder, stdout=subprocess.PIPE, text=True).stdout.split()
+    last += "; planted: " + run(["tools/planted.py", *(it for it in turn if not named or it in named)], told)
 clock = time.time() - began
 used = resource.getrusage(resource.RUSAGE_CHILDREN)
-last = text.decode(errors="replace").rstrip("\n").rpartition("\n")[2]
 
 parts, first = collections.Counter(), {}
 for kind, start, seconds in seen.values():

@@ -35,7 +35,7 @@ chmod 755 "$work"
 flags=(-O2 -std=c11 -Wall -Wextra -pthread "-I$top/c")
 from="$top/bench/peers"
 peers=(gist)
-cc "${flags[@]}" -o "$work/gist" "$from/workload.c" "$from/gist.c" "$top/c/gist_client.c"
+cc "${flags[@]}" -o "$work/gist" "$from/workload.c" "$from/gist.c" "$top"/c/gist_*.c
 
 # NAME HEADER PACKAGE: whether a peer can be built; says what lacks.
 has() {

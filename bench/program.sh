@@ -45,8 +45,6 @@ case_of "no words" 2 "$work/nothing" "Usage: gist"
 case_of "a wrong command" 2 "$work/nothing" "unrecognized subcommand 'plane'" plane
 case_of "a word too many" 2 "$work/nothing" "unexpected argument 'x'" plain x
 case_of "help" 2 "$work/nothing" "A spatial index" --help
-case_of "help of the command" 2 "$work/nothing" "standard input" plain --help
-case_of "help names the page" 2 "$work/nothing" "docs/SCRIPT.md" plain --help
 case_of "a word that isn't text" 2 "$work/nothing" "word 1 isn't UTF-8" $'\xff'
 case_of "the second such word" 2 "$work/nothing" "word 2 isn't UTF-8" plain $'\xff'
 case_of "a word of 5,000 bytes" 2 "$work/nothing" "unrecognized subcommand" "$(printf '%5000s' x)"
@@ -67,7 +65,7 @@ ended "a closed input" 1 "$work/nothing" "^gist: the script can't be read"
 : > "$work/out"
 status=0
 "$program" plain < "$work/script" > /dev/full 2> "$work/err" || status=$?
-ended "a full disk" 1 "$work/nothing" "^gist: a reply can't be written: no storage space$"
+ended "a full disk" 1 "$work/nothing" "^gist: a reply can't be written: no space left on device$"
 
 status=0
 "$program" plain < "$work/script" >&- 2> "$work/err" || status=$?
@@ -186,7 +184,6 @@ on_file "what it holds" 0 'ok commits 1 entries 1 used 2
 ' "" verify tree
 holds "verifying leaves the file" cmp -s tree whole
 holds "and when it was changed" [ "$(stat -c %y tree)" = "$changed" ]
-holds "a picture of it" [ "$("$top/bench/picture.sh" dumped picture.svg)" = "2 entries, 1 bounds of level 0" ]
 
 cp places before
 for words in "format places 7 4" "format places 65537 4" "format places 16 3" "format places 16 101" "format places -16 4" "format places 16" \
@@ -203,26 +200,39 @@ on_file "a storm" 0 'storm ok calls 800
 ' "" storm 1 4 200
 on_file "a storm of one session" 0 'storm ok calls 2000
 ' "" storm 4294967295 1 2000
-on_file "help of storm" 2 "$nothing" "gist storm 1 4 200" storm --help
-on_file "help of format" 2 "$nothing" "gist format places.gist 4096 100" format --help
-on_file "help of run" 2 "$nothing" "gist run places.gist < changes" run -h
-on_file "help of dump" 2 "$nothing" "gist dump places.gist" dump --help
-on_file "help of verify" 2 "$nothing" "gist verify places.gist" verify --help
+# Each help is the text that stands in bench/help, whole.
+for command in gist plain format run dump verify storm; do
+    words="$command --help"
+    [ "$command" != gist ] || words=--help
+    # shellcheck disable=SC2086
+    on_file "help of $command" 2 "$nothing" "Usage: gist" $words
+    holds "the whole help of $command" cmp -s err "$top/bench/help/$command.txt"
+done
 on_file "a number out of its range is told" 2 "$nothing" "7 is not in 8..=65536" format places 7 4
 holds "wrong words leave the file" cmp -s places before
 on_file "wrong words for a new file" 2 "$nothing" "7 is not in 8..=65536" format new 7 4
 holds "wrong words make no file" [ ! -e new ]
 
-on_file "a file that isn't there" 1 "$none" "^gist: nowhere: it isn't there, or can't be opened$" run nowhere
-on_file "a file that isn't there, to be dumped" 1 "$none" "^gist: nowhere: it isn't there, or can't be opened$" dump nowhere
-on_file "a file that isn't there, to be verified" 1 "$none" "^gist: nowhere: it isn't there, or can't be opened$" verify nowhere
+# Why a file can't be opened is told behind its name; nothing is made.
+missing="^gist: nowhere: no such file or directory$"
+on_file "a file that isn't there" 1 "$none" "$missing" run nowhere
+on_file "a file that isn't there, to be dumped" 1 "$none" "$missing" dump nowhere
+on_file "a file that isn't there, to be verified" 1 "$none" "$missing" verify nowhere
 holds "it isn't made" [ ! -e nowhere ]
-on_file "a folder" 1 "$none" "^gist: \.: it isn't there, or can't be opened$" run .
-on_file "a folder to be formatted" 1 "$none" "^gist: \.: it can't be opened, made or extended$" format . 16 4
-on_file "a folder that isn't there" 1 "$none" "^gist: no/places: it can't be opened, made or extended$" format no/places 16 4
+for command in run dump verify; do
+    on_file "a folder: $command" 1 "$none" "^gist: \.: is a directory$" "$command" .
+    on_file "a file below a file: $command" 1 "$none" "^gist: places/x: not a directory$" "$command" places/x
+done
+on_file "a folder to be formatted" 1 "$none" "^gist: \.: is a directory$" format . 16 4
+on_file "a folder that isn't there" 1 "$none" "^gist: no/places: no such file or directory$" format no/places 16 4
+long="$(printf '%0300d' 0)"
+on_file "a name of 300 bytes" 1 "$none" "^gist: $long: the name is too long$" format "$long" 16 4
+longer="$(printf '%0500d/' 0 0 0)x"
+on_file "a path that has no room in a line" 1 "$none" "^gist: the name is too long$" run "$longer"
 truncate -s 2048000 short
+shorter="^gist: the file is shorter than any index, or was cut$"
 on_file "a file of 4,000 sectors" 1 'refused 17 too small
-' "^gist: " run short
+' "$shorter" run short
 truncate -s 2199552 zeros
 on_file "a file of zeros" 1 'refused 14 not formatted
 ' "^gist: " run zeros
@@ -236,10 +246,10 @@ cp places damaged
 printf '\000\000\000\002' | dd of=damaged bs=1 seek=$((4176 * 512 + 16)) conv=notrunc 2> /dev/null
 cp damaged as_damaged
 on_file "a damaged page, verified" 1 'refused 13 damaged
-' "^gist: what the device holds is damaged: page 2" verify damaged
+' "^gist: what the device holds is damaged: page 2: rightlinks lead to a page that is no leaf in use, or was passed$" verify damaged
 holds "verifying leaves a damaged file" cmp -s damaged as_damaged
 on_file "a damaged page" 1 'refused 13 damaged
-' "^gist: what the device holds is damaged: page 2" run damaged
+' "^gist: what the device holds is damaged: page 2: rightlinks lead to a page that is no leaf in use, or was passed$" run damaged
 source "$top/bench/small_records.sh"
 on_file "small records, verified" 0 'ok commits 4 entries 2 used 2
 ' "" verify small
@@ -269,18 +279,19 @@ holds "a sweep is" body_is 6 "$(batch "0a${leaf}010000" "08$(printf '%016x' 6)$(
 cp places cut
 truncate -s $((512 * 4290)) cut
 on_file "a file that was cut" 1 'refused 17 too small
-' "^gist: " run cut
+' "$shorter" run cut
 
 # A file is in use while another process runs a script on it.
+in_use="^gist: places: another process has it in use$"
 mkfifo lines
 "$program" run places < lines > first 2>&1 &
 first=$!
 exec 7> lines
 printf '1 BEGIN\n' >&7
 while ! grep -q '1 ok' first; do sleep 0.05; done
-on_file "a file in use" 1 "$none" "^gist: places: another process has it in use$" run places
-on_file "a file in use, to be verified" 1 "$none" "^gist: places: another process has it in use$" verify places
-on_file "a file in use, to be formatted" 1 "$none" "^gist: places: another process has it in use$" format places 16 4
+on_file "a file in use" 1 "$none" "$in_use" run places
+on_file "a file in use, to be verified" 1 "$none" "$in_use" verify places
+on_file "a file in use, to be formatted" 1 "$none" "$in_use" format places 16 4
 printf '1 COMMIT\n' >&7
 exec 7>&-
 wait "$first"
@@ -292,22 +303,38 @@ on_file "the file is free again" 0 '1 ok
 1 entry 7 0 0 10 10
 ' "" run places
 
+# Those who verify a file share it; whoever writes has it alone.
+held='ok commits 3 entries 1 used 2
+'
+lines=""
+exec 6< places
+flock -s 6
+on_file "a file that is read, verified" 0 "$held" "" verify places
+on_file "a file that is read, to be run" 1 "$none" "$in_use" run places
+on_file "a file that is read, to be dumped" 1 "$none" "$in_use" dump places
+exec 6<&-
+exec 6< places
+flock -x 6
+on_file "a file that another has alone, to be verified" 1 "$none" "$in_use" verify places
+exec 6<&-
+lines="$all"
+
 status=0
 "$program" run places < "$work" > "$work/out" 2> "$work/err" || status=$?
 ended "a folder as a script on a file" 1 "$work/nothing" "^gist: the script can't be read: is a directory$"
 : > "$work/out"
 status=0
 "$program" format places 16 4 > /dev/full 2> "$work/err" < /dev/null || status=$?
-ended "a format told to a full disk" 1 "$work/nothing" "^gist: a reply can't be written: no storage space$"
+ended "a format told to a full disk" 1 "$work/nothing" "^gist: a reply can't be written: no space left on device$"
 status=0
 "$program" dump places > /dev/full 2> "$work/err" < /dev/null || status=$?
-ended "a tree told to a full disk" 1 "$work/nothing" "^gist: a reply can't be written: no storage space$"
+ended "a tree told to a full disk" 1 "$work/nothing" "^gist: a reply can't be written: no space left on device$"
 status=0
 "$program" verify places > /dev/full 2> "$work/err" < /dev/null || status=$?
-ended "verifying told to a full disk" 1 "$work/nothing" "^gist: a reply can't be written: no storage space$"
+ended "verifying told to a full disk" 1 "$work/nothing" "^gist: a reply can't be written: no space left on device$"
 status=0
 "$program" storm 1 2 10 > /dev/full 2> "$work/err" < /dev/null || status=$?
-ended "a storm told to a full disk" 1 "$work/nothing" "^gist: a reply can't be written: no storage space$"
+ended "a storm told to a full disk" 1 "$work/nothing" "^gist: a reply can't be written: no space left on device$"
 on_file "what a format leaves" 0 '1 ok
 1 found 0
 ' "" run places
@@ -402,6 +429,110 @@ for closed in 0 1 2 all; do
         all) ended "a storm with all streams closed" 1 "$work/nothing" "" ;;
     esac
 done
+
+# A file is left as its command leaves it, however long it is, and no other is touched or made: this one of 14,000 pages takes some
+# 60 MB, most of them a hole.
+mkdir apart
+"$program" format apart/east 14000 100 > /dev/null
+"$program" format apart/west 16 4 > /dev/null
+cp apart/west west_before
+head -c 1024 apart/east > front
+lines='1 BEGIN
+1 INSERT 7 0 0 10 10
+1 COMMIT
+'
+on_file "a script on a long file" 0 '1 ok
+1 inserted
+1 committed 1
+' "" run apart/east
+holds "its magic and its numbers stay" cmp -s -n 1024 front apart/east
+lines=""
+cp --sparse=always apart/east east_before
+on_file "a long file, verified" 0 'ok commits 1 entries 1 used 2
+' "" verify apart/east
+holds "verifying leaves all of it" cmp -s apart/east east_before
+"$program" dump apart/east > tree
+holds "its tree" grep -q '^entry 7 0 0 10 10 live$' tree
+holds "a dump leaves its magic and its numbers" cmp -s -n 1024 front apart/east
+on_file "and its index" 0 'ok commits 1 entries 1 used 2
+' "" verify apart/east
+holds "no other file is touched" cmp -s apart/west west_before
+on_file "a file that isn't there, beside them" 1 "$none" "no such file or directory$" run apart/north
+holds "and none is made" [ "$(ls -A apart)" = "east
+west" ]
+rm east_before
+
+# With a library in front of the C library that has one call fail, and counts reads.
+"${CC:-cc}" -O2 -shared -fPIC -o refuse.so "$top/bench/refuse_calls.c" -ldl
+# NAME STATUS OUTPUT FAULTS CALL ERROR WORD..: a run in which each call of this name fails with this error.
+failing() {
+    local name="$1" wanted="$2" output="$3" pattern="$4" call="$5" error="$6"
+    shift 6
+    printf '%s' "$output" > wanted
+    status=0
+    printf '%s' "$lines" | CALL="$call" ERROR="$error" LD_PRELOAD="$work/refuse.so" "$program" "$@" > out 2> err || status=$?
+    ended "$name" "$wanted" "$work/wanted" "$pattern"
+}
+lines="$all"
+for row in "1 permission denied" "13 permission denied" "30 read-only file system" "5 input or output error" "24 another error of the system"; do
+    told="^gist: places: ${row#* }$"
+    failing "a file isn't opened, error ${row%% *}" 1 "$none" "$told" open "${row%% *}" run places
+    failing "nor to be read, error ${row%% *}" 1 "$none" "$told" open "${row%% *}" verify places
+    failing "nor made, error ${row%% *}" 1 "$none" "$told" open "${row%% *}" format places 16 4
+done
+failing "a file isn't extended" 1 "$none" "^gist: new: no space left on device$" ftruncate 28 format new 16 4
+failing "it is too long for the file system" 1 "$none" "^gist: new: file too large$" ftruncate 27 format new 16 4
+rm -f new
+failed_call="^gist: a read, a write or a sync of the device failed$"
+for command in run dump verify; do
+    failing "a read fails: $command" 1 "$none" "$failed_call" pread 5 "$command" places
+    holds "and why: $command" grep -q '^gist: places: input or output error$' err
+done
+failing "a write fails" 1 "$none" "$failed_call" pwrite 28 format places 16 4
+holds "and why" grep -q '^gist: places: no space left on device$' err
+"$program" format places 16 4 > /dev/null
+failing "a sync fails" 1 "$none" "$failed_call" fdatasync 5 run places
+holds "and why that did" grep -q '^gist: places: input or output error$' err
+
+# Verifying opens a file to read it alone, and the others to write it too.
+for row in "run 2" "dump 2" "verify 0"; do
+    COUNTED="$work/counted" LD_PRELOAD="$work/refuse.so" "$program" "${row% *}" places < /dev/null > /dev/null
+    holds "how a file is opened: ${row% *}" [ "$(cut -d' ' -f2 counted)" = "${row#* }" ]
+done
+
+# As many pages are held as frames are asked for: each search of a tree of some 100 pages reads most of them with 16, and with 4,096 none
+# a second time.
+"$program" format many 256 4 > /dev/null
+{
+    echo "1 BEGIN"
+    for ((i = 0; i < 200; i++)); do echo "1 INSERT $i $((37 * i % 200)) $((59 * i % 200)) $((37 * i % 200 + 1)) $((59 * i % 200 + 1))"; done
+    echo "1 COMMIT"
+} | "$program" run many > /dev/null
+{
+    echo "1 BEGIN"
+    for ((i = 0; i < 20; i++)); do echo "1 OVERLAP 0 0 300 300"; done
+} > searches
+# FRAMES: how many reads a script makes with so many.
+reads_with() {
+    COUNTED="$work/counted" LD_PRELOAD="$work/refuse.so" "$program" run many --frames "$1" < searches > "found_$1"
+    cut -d' ' -f1 counted
+}
+with_16="$(reads_with 16)"
+with_64="$(reads_with 64)"
+with_4096="$(reads_with 4096)"
+holds "as many frames as are asked for: $with_16, $with_64, $with_4096 reads" [ $((with_16 > with_64 + 100 && with_64 > with_4096 + 500)) = 1 ]
+holds "the same is found" cmp -s found_16 found_4096
+
+# An index of 8 pages is filled, emptied and filled again, twenty times over: a full leaf is swept before it is split.
+"$program" format small 8 4 > /dev/null
+for ((round = 1; round <= 20; round++)); do
+    for call in INSERT DELETE; do
+        echo "1 BEGIN"
+        for ((i = 1; i <= 12; i++)); do echo "1 $call $((100 * round + i)) $((10 * i)) 0 $((10 * i + 1)) 1"; done
+        echo "1 COMMIT"
+    done
+done | "$program" run small > refilled
+holds "an index that is emptied is filled again" [ "$(grep -c inserted refilled) $(grep -c deleted refilled) $(tail -1 refilled)" = "240 240 1 committed 40" ]
 
 echo "$passed passed, $failed failed"
 [ "$failed" = 0 ]

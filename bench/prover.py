@@ -1,6 +1,6 @@
 """What edit_times.py and goal_times.py share: checks of one crate, as rt makes them, over kept work."""
 import os
-import re
+import pathlib
 import resource
 import shutil
 import subprocess
@@ -9,6 +9,7 @@ import sys
 TOP = os.path.dirname(os.path.dirname(os.path.abspath(__file__)))
 sys.path.append(f"{TOP}/tools")
 import kit
+import planted
 
 
 def check(crate, folder, kept, *more):
@@ -39,17 +40,9 @@ def kept_by_rt(crate, to):
     return to
 
 
-def edit(text, folder):
+def edit(path, folder):
     """Makes an edit in the crate that lies in this folder."""
-    path = old = None
-    for line in text.split("\n"):
-        if line.startswith("file: "):
-            path = f"{folder}/{line[6:].strip()}"
-        elif line.startswith("old: "):
-            old = line[5:]
-        elif line.startswith("new:"):
-            with open(path, encoding="utf-8") as it:
-                was = it.read()
-            assert was.count(old) == 1, f"{old!r} stands {was.count(old)} times in {path}"
-            with open(path, "w", encoding="utf-8") as it:
-                it.write(was.replace(old, re.sub("^ ", "", line[4:])))
+    made = planted.applied(planted.read(pathlib.Path(path), ""), folder)
+    assert isinstance(made, dict), made
+    for file, text in made.items():
+        pathlib.Path(folder, file).write_text(text, encoding="utf-8")

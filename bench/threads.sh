@@ -9,11 +9,15 @@
 # and, with four threads, PostgreSQL's GiST; medians of ROUNDS (5), all in turn. A peer that isn't installed is left
 # out; Debian's packages are libsqlite3-dev, and postgresql with libpq-dev.
 #
+# Then one thread's commits alone, and beside a thread that commits one a millisecond; and reads by one and three threads
+# beside one that commits without pause: how many of both a second, and from how many microseconds on the slowest
+# hundredth of the reads is; medians of ROUNDS.
+#
 #   bench/threads.sh [TRANSACTIONS [FOLDER [PROGRAM]]]
 #
 # TRANSACTIONS is how many there are in memory, up to 5,000: a record has room for no more. FOLDER is on the file system
 # to be measured, and without PROGRAM the one that stands here is proved and built. ONLY=commits leaves out the first
-# part.
+# part. With SLOW=1 each sync of a file takes a millisecond more, PostgreSQL's too.
 set -euo pipefail
 top="$(cd "$(dirname "${BASH_SOURCE[0]}")/.." && pwd)"
 work="$(mktemp -d ${2:+-p "$2"})"
@@ -36,17 +40,22 @@ fi
 cd "$top/bench/commits"
 flags=(-O2 -std=gnu11 -Wall -Wextra -pthread)
 cc "${flags[@]}" -shared -fPIC -o "$work/count.so" count.c
+slow=
+if [ "${SLOW:-0}" = 1 ]; then
+    cc "${flags[@]}" -shared -fPIC -o "$work/slow_sync.so" "$top/bench/peers/slow_sync.c"
+    slow="$work/slow_sync.so"
+fi
 cc "${flags[@]}" -o "$work/sqlite" commits.c sqlite.c -lsqlite3 2> "$work/log" ||
     echo "left out: SQLite, for want of libsqlite3-dev" >&2
 binaries="$(pg_config --bindir 2> /dev/null || true)"
 flags+=("-I$(pg_config --includedir 2> /dev/null || true)")
 if [ -x "$binaries/initdb" ] && cc "${flags[@]}" -o "$work/postgres" commits.c postgres.c -lpq 2> "$work/log"; then
     source "$top/bench/peers/server.sh"
-    start_postgres "$work" "$binaries"
+    start_postgres "$work" "$binaries" "$slow"
 else
     echo "left out: PostgreSQL, for want of postgresql and libpq-dev" >&2
 fi
-export SERVER="$work/server"
+export SERVER="$work/server" SLOW_SYNC="$slow"
 cd "$work"
 echo "load $(cut -d' ' -f1 /proc/loadavg), the file is on $(df -T . | tail -1 | awk '{ print $2 }')"
 python3 - "$program" "${1:-4000}" <<'P'
@@ -56,14 +65,17 @@ program, total = sys.argv[1], int(sys.argv[2])
 file, samples, summary = "shared.gist", "samples", "summary"
 rate = 5000
 rounds = int(os.environ.get("ROUNDS", 5))
-counting = {**os.environ, "LD_PRELOAD": os.path.abspath("count.so")}
+slow = os.environ["SLOW_SYNC"]
+# What counts comes before what slows, which makes the system's call itself.
+counting = {**os.environ, "LD_PRELOAD": " ".join([os.path.abspath("count.so"), slow]).strip()}
+slowed = {**os.environ, "LD_PRELOAD": slow}
 
 def run(threads, transactions, file, before=[]):
     """The seconds that so many transactions take, which the record has to have."""
     each = transactions // threads
     line = f"{threads} {each} {file}".strip()
     began = time.perf_counter()
-    done = subprocess.run(before + [program], input=line + "\n", text=True, check=True, stdout=subprocess.PIPE, stderr=subprocess.DEVNULL)
+    done = subprocess.run(before + [program], input=line + "\n", text=True, check=True, stdout=subprocess.PIPE, stderr=subprocess.DEVNULL, env=slowed)
     took = time.perf_counter() - began
     said = done.stdout.splitlines()
     agree = all(words.endswith(f": {6 * each} calls finished, the record agrees: true") for words in said[:-2])
@@ -169,11 +181,34 @@ def commits(transactions):
                 told_of += f", gist {ratio:.2f} times as many"
             print(f"{kind}, threads {threads}, {name}: {told_of}", flush=True)
 
+def beside(kind, threads, each):
+    """What the first thread, the others and the readers do a second, and the nanoseconds from which on the slowest hundredth of the reads are."""
+    done = subprocess.run([program], input=f"{kind} {threads} {each} {file}\n", text=True, check=True, capture_output=True, env=slowed)
+    commits, others, reads, micros, slowest = map(int, re.findall(r"\d+", done.stdout)[:5])
+    return [1e6 * it / micros for it in (commits, others, reads)] + [slowest]
+
+def mixed():
+    """Commits alone and beside a thread that pauses for a millisecond behind each of its own, and reads beside commits without pause, in turn."""
+    each = 400 if slow else 4000
+    work = [("paced", 1, each), ("paced", 2, each), ("reads", 2, 8000), ("reads", 4, 6000)]
+    told = {it: [] for it in work}
+    for _ in range(rounds):
+        for it in work:
+            told[it].append(beside(*it))
+    for kind, threads, _ in work:
+        commits, others, reads, slowest = (statistics.median(it) for it in zip(*told[kind, threads, _]))
+        if kind == "paced":
+            print(f"paced, {threads - 1} beside: {commits:.0f} commits a second, {others:.0f} beside", flush=True)
+        else:
+            print(f"reads by {threads - 1}: {reads:.0f} a second, the slowest hundredth from {slowest / 1000:.0f} microseconds on, "
+                  f"beside {commits:.0f} commits a second", flush=True)
+
 alone = os.environ.get("ONLY") == "commits"
 if not alone:
     table("memory", total, "")
     table("file", total // 10, file)
 commits(total // 2)
+mixed()
 print("a write of 4,096 bytes there with its sync: at least {:.0f} microseconds, in the middle {:.0f}".format(*bare()), flush=True)
 try:
     if not alone:

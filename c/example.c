@@ -1,5 +1,5 @@
 /* Keeps the parks of a town in an index, and asks which of them a map's window shows. The word behind the program's
- * name is the file. */
+ * name is the file, which must not be there. */
 #include "gist_client.h"
 
 #include <inttypes.h>
@@ -13,7 +13,7 @@ static const gist_entry PARKS[] = {
 
 /* Says what failed, and ends the program. */
 static int fail(const char *what, int status, const gist_end *end) {
-    fprintf(stderr, "%s: %s%s%s\n", what, gist_text(status), end && end->sentence[0] ? ": " : "",
+    fprintf(stderr, "%s: %s%s%s\n", what, gist_strerror(status), end && end->sentence[0] ? ": " : "",
             end ? end->sentence : "");
     return 1;
 }
@@ -46,7 +46,7 @@ int main(int count, char **words) {
     const char *path = count > 1 ? words[1] : "parks.gist";
     gist_index *index;
     gist_end end;
-    int status = gist_format(NULL, path, 64, 100, &end);
+    int status = gist_format(NULL, path, 64, 100, 0, &end);
     if (status != GIST_OK) return fail("format", status, &end);
     status = gist_open(&index, NULL, path, 64, &end);
     if (status != GIST_OK) return fail("open", status, &end);

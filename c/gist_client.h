@@ -1,13 +1,36 @@
 /* A client of gist, the crash-safe spatial index in a file, in C11 for Linux.
 
-   An open index is a process of its own, `gist run`, which is asked over a pair of sockets and a pipe. A fault of this
-   process leaves the index alone, and a commit that was answered is in the file. docs/CLIENTS.md has the whole picture,
-   docs/SCRIPT.md what each call means.
+   An open index is a process of its own, `gist run`, which is asked over a pair of sockets and a pipe. A fault of
+   this process leaves the index alone, and a commit that was answered is in the file. docs/CLIENTS.md has the whole
+   picture, docs/SCRIPT.md what each call means. Each call returns one of the statuses below.
 
-   Each call returns one of the statuses below. There is no global state. An index is used by one thread at a time:
-   threads that share one put a lock of theirs around its calls; different indexes have nothing in common. No call
-   raises SIGPIPE or changes what the process does with a signal, each descriptor is closed on exec, and what was
-   started is waited for by the call that says so. */
+   Caveats:
+
+   - Threads: an index is used by one thread at a time; threads that share one put a lock of theirs around its calls.
+     Different indexes have nothing in common, and nothing is global.
+
+   - Fork: an index belongs to the process that opened it. In a child that was forked off, each call answers
+     GIST_SYSTEM with errno ECHILD, and gist_close frees what the child has and leaves its parent's index alone. A
+     child that neither closes the index nor execs holds the program's input: if the parent is killed, the program
+     lives on, and keeps the file in use, until the child has ended.
+
+   - Signals: a call that is interrupted by a handler goes on until it is answered, with SA_RESTART and without. None
+     may be called within a handler, and none may be left by longjmp. No call raises SIGPIPE or changes what the
+     process does with a signal. The program is in a session of its own, so a Ctrl-C doesn't reach it.
+
+   - Time: nothing bounds how long a call waits for the program. kill(pid, SIGKILL) with what gist_pid said, from a
+     handler or another thread, ends such a wait: the call answers GIST_ENDED.
+
+   - SIGCHLD: where the process ignores it, or something else of it waits for any child, the system doesn't tell how
+     the program ended. Then gist_end has status 1 where the program wrote a sentence and 0 where it didn't, and
+     gist_close takes an end without a sentence for a good one. What was answered as committed is in the file all the
+     same.
+
+   - Descriptors: each is closed on exec. The program gets none of this process's, where the C library is glibc 2.34
+     or later; else those that aren't closed on exec.
+
+   - The program is started with GIST_NO_BUILD in its environment, so that the repository's launcher, where it isn't
+     built, says how to build it and ends with status 3. */
 #ifndef GIST_CLIENT_H
 #define GIST_CLIENT_H
 
@@ -18,6 +41,12 @@
 #ifdef __cplusplus
 extern "C" {
 #endif
+
+/* The version of this client: as text, and as a number, 10,000 * major + 100 * minor + patch. gist_version says that
+   of the library. */
+#define GIST_VERSION "0.1.0"
+#define GIST_VERSION_NUMBER 100
+const char *gist_version(void);
 
 /* How a call ended. */
 enum gist_status {
@@ -46,10 +75,12 @@ enum gist_status {
     /* The client's own. After GIST_ENDED and GIST_PROTOCOL all calls of the index but gist_close answer GIST_ENDED. */
     GIST_ENDED = 32,    /* the program has ended, and with it all that was open; what was answered as committed stays */
     GIST_PROTOCOL = 33, /* the program answered what no gist of this kind answers; it was ended */
-    GIST_SYSTEM = 34,   /* a call of the system failed, as errno says; the index is as it was */
+    GIST_SYSTEM = 34,   /* errno says why: EINVAL, an argument that is NULL or no value of its enum; ECHILD, another
+                           process opened the index; else a call of the system failed. The index is as it was */
 };
 
-/* How the program ended: its status, or minus the signal that killed it; and what it wrote to standard error. */
+/* How the program ended: its status, or minus the signal that killed it; and why, in words: what it wrote to standard
+   error, or what can be said without. Empty where it ended well. */
 typedef struct gist_end {
     int status;
     char sentence[1024];
@@ -75,21 +106,39 @@ enum gist_query {
 /* An open index. */
 typedef struct gist_index gist_index;
 
-/* What a status means, in words that stay; never NULL. */
+/* What a status means in a word or two, as the program says it; and in a sentence that says what to do. Never NULL. */
 const char *gist_text(int status);
+const char *gist_strerror(int status);
 
-/* In the next three calls `program` is the path of gist; where it is NULL, the environment variable GIST has it. PATH
+/* What an index has: its last commit, its entries, and how many pages are in use. */
+typedef struct gist_counts {
+    uint64_t commits, entries;
+    uint32_t used;
+} gist_counts;
+
+/* And what it was formatted with: how many pages it may use, how many entries a node has at most, and the class of its
+   keys (1: boxes). It is full where counts.used is pages and a node has to be split. */
+typedef struct gist_stats {
+    gist_counts counts;
+    uint32_t pages, fanout, key_class;
+} gist_stats;
+
+/* In the calls of files `program` is the path of gist; where it is NULL, the environment variable GIST has it. PATH
    isn't searched, since other programs have that name. They answer GIST_SYSTEM where it can't be started, the refusal
    with which it ends, or GIST_ENDED where it ends badly without one: `end`, where it isn't NULL, says how (status 2:
-   a number out of its range). */
+   a number out of its range; 3: a launcher that isn't built). */
 
-/* Lays a new index down in the file `path`, which is made where it isn't there, for `pages` pages of 4,096 bytes (8 to
-   65536) of `fanout` entries at most (4 to 100). What the file held is lost. GIST_DEVICE: the file can't be made or
-   written, or is in use. */
-int gist_format(const char *program, const char *path, unsigned pages, unsigned fanout, gist_end *end);
+/* For gist_format: what the file holds is lost. */
+enum { GIST_OVERWRITE = 1 };
 
-/* Opens the index in the file `path`, with `frames` pages of 4,096 bytes in memory (16 to 4096); what a crash cut off
-   is undone first. With GIST_OK *index is the open index, which gist_close has to close; with any other status it is
+/* Lays a new index down in the file `path`, which is made where it isn't there, for `pages` pages of 4,096 bytes (8
+   to 65536) of `fanout` entries at most (4 to 100). `flags` is 0 or GIST_OVERWRITE; with 0 the file has to be new or
+   empty, else it is left alone, and the answer is GIST_SYSTEM with errno EEXIST. GIST_DEVICE: the file can't be made
+   or written, or is in use. */
+int gist_format(const char *program, const char *path, unsigned pages, unsigned fanout, unsigned flags, gist_end *end);
+
+/* Opens the index in the file `path`, with `frames` pages of 4,096 bytes in memory (16 to 4096; 0: as many as it has
+   pages, at most 4096); what a crash cut off is undone first. With GIST_OK *index is the open index, which gist_close has to close; with any other status it is
    NULL, and nothing is left open. GIST_DEVICE: the file isn't there, is in use or can't be read or written;
    GIST_NOT_FORMATTED, GIST_TOO_SMALL, GIST_BAD_PARAMETER, GIST_DAMAGED: what it holds; GIST_MEMORY. */
 int gist_open(gist_index **index, const char *program, const char *path, unsigned frames, gist_end *end);
@@ -98,13 +147,21 @@ int gist_open(gist_index **index, const char *program, const char *path, unsigne
    The refusals of gist_open, after part of the tree maybe; GIST_SYSTEM also where the stream takes no more. */
 int gist_dump(const char *program, const char *path, FILE *to, gist_end *end);
 
+/* Tests the index in the file `path` in a copy in memory, and leaves the file as it is. GIST_OK: it is sound, and
+   `counts`, where it isn't NULL, has what it holds. The index must not be open. The refusals of gist_open. */
+int gist_verify(const char *program, const char *path, gist_counts *counts, gist_end *end);
+
+/* The same, and tells also what the index was formatted with. */
+int gist_stat(const char *program, const char *path, gist_stats *stats, gist_end *end);
+
 /* Gives up what is open, waits until the program has ended, and frees the index, whatever the status: GIST_OK where the
-   program ended well, else why it ended, be it now or before; `end` is as above. NULL is closed already. */
+   program ended well, else why it ended, be it now or before; `end` is as above. NULL is closed already. In a process
+   that was forked off it frees alone, and answers GIST_OK. */
 int gist_close(gist_index *index, gist_end *end);
 
 /* Each call from here on is made in a session, 1 to 8, and where it isn't answered with GIST_OK nothing has changed in
    its transaction. Beside what is said with it, it may answer GIST_BAD_SESSION, GIST_MEMORY, GIST_DEVICE, GIST_FAILED,
-   GIST_ENDED or GIST_PROTOCOL; and but for gist_begin GIST_NO_TRANSACTION. */
+   GIST_ENDED, GIST_PROTOCOL or GIST_SYSTEM; and but for gist_begin GIST_NO_TRANSACTION. */
 
 /* Begins a transaction. GIST_IN_TRANSACTION: the session has one. GIST_HISTORY_FULL. */
 int gist_begin(gist_index *index, unsigned session);
@@ -134,10 +191,22 @@ int gist_delete_many(gist_index *index, unsigned session, const gist_entry *entr
 int gist_search(gist_index *index, unsigned session, enum gist_query query, gist_box box, const gist_entry **found,
                 size_t *count);
 
-/* The session that the last GIST_BUSY was because of; 0 before any. */
+/* What one of several searches found. */
+typedef struct gist_hits {
+    const gist_entry *found;
+    size_t count;
+} gist_hits;
+
+/* Makes `count` searches of one kind, of a box each; up to 16 are written before their answers are read, which saves time
+   where they find little. hits[i] gets what boxes[i] finds, as gist_search does. The first refusal is the status, and
+   `done`, where it isn't NULL, gets its search's place: only so many hits are set. */
+int gist_search_many(gist_index *index, unsigned session, enum gist_query query, const gist_box *boxes, size_t count,
+                     gist_hits *hits, size_t *done);
+
+/* The session that the last GIST_BUSY was because of; 0 before any, and of NULL. */
 unsigned gist_busy(const gist_index *index);
 
-/* The number of the program's process. */
+/* The number of the program's process; 0 of NULL. */
 long gist_pid(const gist_index *index);
 
 #ifdef __cplusplus

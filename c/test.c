@@ -1,11 +1,14 @@
-/* Runs the tests of the client, over the program that GIST names. The last line counts those that passed and failed. */
+/* Runs the tests of the client, or those that its words name, over the program that GIST names. The last line counts
+   those that passed and failed. */
 #define _GNU_SOURCE
 #include "test.h"
 
 #include <dirent.h>
 #include <errno.h>
+#include <signal.h>
 #include <stdlib.h>
 #include <string.h>
+#include <sys/stat.h>
 #include <sys/wait.h>
 #include <unistd.h>
 
@@ -45,7 +48,7 @@ gist_index *opened(const char *path) {
 }
 
 gist_index *fresh(const char *path, unsigned pages, unsigned fanout) {
-    HOLDS(gist_format(NULL, path, pages, fanout, NULL) == GIST_OK);
+    HOLDS(gist_format(NULL, path, pages, fanout, GIST_OVERWRITE, NULL) == GIST_OK);
     return opened(path);
 }
 
@@ -59,6 +62,13 @@ size_t found_in(const char *path) {
     HOLDS(place == count);
     HOLDS(gist_close(index, NULL) == GIST_OK);
     return count;
+}
+
+void script(const char *path, const char *text) {
+    unlink(path);
+    FILE *it = fopen(path, "we");
+    HOLDS(it && fprintf(it, "#!/bin/sh\n%s\n", text) > 0 && fclose(it) == 0);
+    HOLDS(chmod(path, 0700) == 0);
 }
 
 static size_t descriptors(void) {
@@ -81,9 +91,63 @@ static void clear_up(void) {
     if (system(command) != 0) printf("%s is left\n", folder);
 }
 
-int main(void) {
-    static void (*const TESTS[])(void) = {calls,     refusals,     many,        sessions, killed,   openings,
-                                          full_disk, surroundings, odd_answers, threads,  leftovers};
+/* A test, and the seconds in which it has to end. Under valgrind it gets twenty times as many. */
+static const struct {
+    const char *name;
+    void (*run)(void);
+    unsigned seconds;
+} TESTS[] = {
+    /* (first, since later ones leave free memory) */
+    {"memory_ends", memory_ends, 30},
+    {"calls", calls, 30},
+    {"refusals", refusals, 30},
+    {"many", many, 60},
+    {"sessions", sessions, 30},
+    {"searches", searches, 30},
+    {"killed", killed, 30},
+    {"openings", openings, 30},
+    {"overwriting", overwriting, 30},
+    {"counts", counts, 30},
+    {"installed", installed, 30},
+    {"full_disk", full_disk, 60},
+    {"surroundings", surroundings, 30},
+    {"ends", ends, 30},
+    {"odd_answers", odd_answers, 30},
+    {"threads", threads, 60},
+    {"shared", shared, 60},
+    {"forked", forked, 30},
+    {"interrupted", interrupted, 60},
+    {"nonsense", nonsense, 30},
+    {"stopped", stopped, 30},
+    {"descriptors_end", descriptors_end, 30},
+    {"leftovers", leftovers, 30},
+};
+static size_t running;
+
+/* Ends all where a test hangs. */
+static void late(int signal) {
+    static const char TEXT[] = " had not ended in its time\n";
+    (void)signal;
+    if (write(STDOUT_FILENO, TESTS[running].name, strlen(TESTS[running].name)) < 0) _exit(2);
+    if (write(STDOUT_FILENO, TEXT, sizeof TEXT - 1) < 0) _exit(2);
+    _exit(1);
+}
+
+/* Whether there is a program; a launcher that isn't built says how to build it. */
+static bool is_built(void) {
+    gist_end end;
+    if (gist_format(NULL, "first", 8, 4, 0, &end) == GIST_OK) return true;
+    fprintf(stderr, "test: %s\n", end.sentence[0] ? end.sentence : strerror(errno));
+    return false;
+}
+
+static bool is_named(const char *test, int count, char **words) {
+    for (int i = 1; i < count; i++)
+        if (strcmp(words[i], test) == 0) return true;
+    return count <= 1;
+}
+
+int main(int count, char **words) {
     int passed = 0, failed = 0;
     const char *program = getenv("GIST");
     char *whole = program ? realpath(program, NULL) : NULL;
@@ -93,10 +157,16 @@ int main(void) {
     }
     free(whole);
     atexit(clear_up);
+    if (!is_built()) return 3;
+    signal(SIGALRM, late);
+    setvbuf(stdout, NULL, _IOLBF, 0);
     descriptors_before = descriptors();
-    for (size_t i = 0; i < sizeof TESTS / sizeof *TESTS; i++) {
+    for (running = 0; running < sizeof TESTS / sizeof *TESTS; running++) {
+        if (!is_named(TESTS[running].name, count, words)) continue;
         faults = 0;
-        TESTS[i]();
+        alarm(TESTS[running].seconds * (getenv("UNDER_VALGRIND") ? 20 : 1));
+        TESTS[running].run();
+        alarm(0);
         faults ? failed++ : passed++;
     }
     printf("%d passed, %d failed\n", passed, failed);

@@ -23,16 +23,31 @@ gist_index *opened(const char *path);
 gist_index *fresh(const char *path, unsigned pages, unsigned fanout);
 size_t found_in(const char *path);
 
+/* Makes a program of the shell's, which does what the text says. */
+void script(const char *path, const char *text);
+
 /* The tests. */
 void calls(void);
 void refusals(void);
 void many(void);
 void sessions(void);
-void killed(void);
+void searches(void);
 void openings(void);
+void overwriting(void);
+void counts(void);
+void installed(void);
+void killed(void);
 void full_disk(void);
 void surroundings(void);
+void ends(void);
 void odd_answers(void);
 void threads(void);
+void shared(void);
+void forked(void);
+void interrupted(void);
+void nonsense(void);
+void stopped(void);
+void descriptors_end(void);
+void memory_ends(void);
 
 #endif

@@ -120,3 +120,30 @@ void sessions(void) {
     HOLDS(gist_close(index, NULL) == GIST_OK);
     HOLDS(found_in("sessions") == 160);
 }
+
+/* Several searches in one call: what each finds, in more than one write, and where one is refused. */
+void searches(void) {
+    gist_entry entries[500];
+    gist_box boxes[100];
+    gist_hits hits[100];
+    gist_index *index = fresh("searches", 512, 16);
+    size_t done, right = 0;
+    fill(entries, 0, 500);
+    HOLDS(gist_begin(index, 1) == GIST_OK && gist_insert_many(index, 1, entries, 500, NULL) == GIST_OK);
+    HOLDS(gist_commit(index, 1, NULL) == GIST_OK && gist_begin(index, 2) == GIST_OK);
+    for (int32_t i = 0; i < 100; i++) boxes[i] = i % 10 == 9 ? PLANE : (gist_box){i % 10 * 40, 0, i % 10 * 40 + 35, 0};
+    HOLDS(gist_search_many(index, 2, GIST_OVERLAP, boxes, 100, hits, &done) == GIST_OK && done == 100);
+    for (size_t i = 0; i < 100; i++) {
+        size_t from = i % 10 == 9 ? 0 : i % 10 * 4, wanted = i % 10 == 9 ? 500 : 4, place = 0;
+        while (place < hits[i].count && is_entry(&hits[i].found[place], from + place)) place++;
+        right += place == wanted && hits[i].count == wanted;
+    }
+    HOLDS(right == 100);
+    HOLDS(gist_search_many(index, 2, GIST_EQUAL, boxes, 0, NULL, &done) == GIST_OK && done == 0);
+    boxes[5].x2 = -1;
+    HOLDS(gist_search_many(index, 2, GIST_OVERLAP, boxes, 100, hits, &done) == GIST_BAD_BOX && done == 5);
+    HOLDS(hits[4].count == 4 && is_entry(hits[4].found, 16));
+    HOLDS(gist_abort(index, 2) == GIST_OK);
+    HOLDS(gist_search_many(index, 2, GIST_WITHIN, boxes, 3, hits, &done) == GIST_NO_TRANSACTION && done == 0);
+    HOLDS(gist_close(index, NULL) == GIST_OK);
+}

@@ -18,7 +18,7 @@ void killed(void) {
     gist_end end;
     size_t count;
     const gist_entry *found;
-    HOLDS(gist_format(NULL, "killed", 512, 16, NULL) == GIST_OK);
+    HOLDS(gist_format(NULL, "killed", 512, 16, 0, NULL) == GIST_OK);
     for (size_t from = 0; from < 50; from += 10) {
         gist_index *index = opened("killed");
         fill(entries, from, 200);
@@ -30,49 +30,10 @@ void killed(void) {
         HOLDS(gist_insert_many(index, 2, entries + 110, 50, &count) == GIST_ENDED && count == 0);
         HOLDS(gist_begin(index, 3) == GIST_ENDED);
         HOLDS(gist_search(index, 2, GIST_OVERLAP, PLANE, &found, &count) == GIST_ENDED && !found && count == 0);
-        HOLDS(gist_close(index, &end) == GIST_ENDED && end.status == -SIGKILL && end.sentence[0] == 0);
+        HOLDS(gist_close(index, &end) == GIST_ENDED && end.status == -SIGKILL);
+        HOLDS(strstr(end.sentence, "ended because SIGKILL killed it"));
         HOLDS(found_in("killed") == from + 10);
     }
-}
-
-void openings(void) {
-    gist_index *index, *other = NULL;
-    gist_end end;
-    HOLDS(gist_open(&other, NULL, "nowhere", 64, &end) == GIST_DEVICE && !other && end.status == 1);
-    HOLDS(strstr(end.sentence, "nowhere: it isn't there"));
-    HOLDS(gist_open(&other, NULL, "nowhere", 15, &end) == GIST_ENDED && !other && end.status == 2);
-    HOLDS(gist_format(NULL, "few", 7, 4, &end) == GIST_ENDED && end.status == 2 && strstr(end.sentence, "7 is not in"));
-    HOLDS(gist_format(NULL, "no/such", 8, 4, &end) == GIST_DEVICE && end.status == 1);
-    /* (under valgrind a spawned process can't say that it found no program) */
-    if (!getenv("UNDER_VALGRIND")) {
-        HOLDS(gist_open(&other, "no program", "nowhere", 64, &end) == GIST_SYSTEM && errno == ENOENT && !other);
-        HOLDS(gist_format("/", "nowhere", 8, 4, &end) == GIST_SYSTEM && errno == EACCES);
-    }
-    int zeros = open("zeros", O_RDWR | O_CREAT | O_CLOEXEC, 0600);
-    HOLDS(ftruncate(zeros, 2048000) == 0 && gist_open(&other, NULL, "zeros", 64, &end) == GIST_TOO_SMALL);
-    HOLDS(ftruncate(zeros, 2199552) == 0 && gist_open(&other, NULL, "zeros", 64, NULL) == GIST_NOT_FORMATTED);
-    HOLDS(close(zeros) == 0);
-    index = fresh("-used", 16, 4);
-    HOLDS(gist_open(&other, NULL, "-used", 64, &end) == GIST_DEVICE && strstr(end.sentence, "in use"));
-    HOLDS(gist_begin(index, 1) == GIST_OK && gist_insert(index, 1, 7, (gist_box){0, 0, 10, 10}) == GIST_OK);
-    HOLDS(gist_commit(index, 1, NULL) == GIST_OK);
-    HOLDS(gist_close(index, &end) == GIST_OK && end.status == 0);
-    char *text = NULL;
-    size_t length;
-    FILE *tree = open_memstream(&text, &length);
-    HOLDS(gist_dump(NULL, "-used", tree, &end) == GIST_OK);
-    HOLDS(fclose(tree) == 0);
-    HOLDS(strncmp(text, "commits 1 used 2 counter 0\npage 1 ", 34) == 0 && strstr(text, "\nentry 7 0 0 10 10 live\n"));
-    free(text);
-    tree = open_memstream(&text, &length);
-    HOLDS(gist_dump(NULL, "zeros", tree, &end) == GIST_NOT_FORMATTED);
-    HOLDS(fclose(tree) == 0 && length == 0);
-    free(text);
-    int odd = open("-used", O_RDWR | O_CLOEXEC);
-    HOLDS(pwrite(odd, "\0\2", 2, 512 + 6) == 2 && gist_open(&other, NULL, "-used", 64, &end) == GIST_BAD_PARAMETER);
-    HOLDS(pwrite(odd, "\0\1", 2, 512 + 6) == 2 && pwrite(odd, "\0\0\0\2", 4, 4176 * 512 + 16) == 4);
-    HOLDS(gist_open(&other, NULL, "-used", 64, &end) == GIST_DAMAGED && strstr(end.sentence, "page 2"));
-    HOLDS(close(odd) == 0);
 }
 
 /* The file's first ten pages end at 2,134,016 + 40,960 bytes; no page behind them can be written. */
@@ -83,7 +44,7 @@ void full_disk(void) {
     struct rlimit before, below;
     size_t kept = 0, found;
     int status = GIST_OK;
-    HOLDS(gist_format(NULL, "full", 2048, 100, NULL) == GIST_OK);
+    HOLDS(gist_format(NULL, "full", 2048, 100, 0, NULL) == GIST_OK);
     HOLDS(getrlimit(RLIMIT_FSIZE, &before) == 0);
     below = (struct rlimit){2134016 + 40960, before.rlim_max};
     void (*usual)(int) = signal(SIGXFSZ, SIG_IGN);
@@ -130,11 +91,16 @@ void surroundings(void) {
     HOLDS(pthread_sigmask(SIG_SETMASK, &before, NULL) == 0);
     HOLDS(getpgid((pid_t)gist_pid(index)) != getpgid(0));
     HOLDS(kill((pid_t)gist_pid(index), SIGTERM) == 0 && gist_close(index, &end) == GIST_ENDED &&
-          end.status == -SIGTERM);
+          end.status == -SIGTERM && strstr(end.sentence, "SIGTERM"));
     /* where children are not waited for, a fault is still told */
     signal(SIGCHLD, SIG_IGN);
-    HOLDS(gist_format(NULL, "signals", 16, 4, NULL) == GIST_OK);
+    HOLDS(gist_format(NULL, "signals", 16, 4, GIST_OVERWRITE, NULL) == GIST_OK);
     HOLDS(gist_open(&index, NULL, "nowhere", 64, &end) == GIST_DEVICE);
+    index = opened("signals");
+    HOLDS(kill((pid_t)gist_pid(index), SIGKILL) == 0 && gist_begin(index, 1) == GIST_ENDED);
+    HOLDS(gist_close(index, &end) == GIST_ENDED && end.sentence[0] != 0);
+    index = opened("signals");
+    HOLDS(gist_close(index, &end) == GIST_OK && end.sentence[0] == 0);
     signal(SIGCHLD, SIG_DFL);
     /* a process without standard streams */
     pid_t child = fork();
@@ -142,7 +108,7 @@ void surroundings(void) {
         close(0);
         close(1);
         close(2);
-        if (gist_format(NULL, "bare", 16, 4, NULL) != GIST_OK) _exit(1);
+        if (gist_format(NULL, "bare", 16, 4, 0, NULL) != GIST_OK) _exit(1);
         if (gist_open(&index, NULL, "bare", 64, NULL) != GIST_OK) _exit(2);
         if (gist_begin(index, 1) != GIST_OK) _exit(3);
         _exit(gist_close(index, NULL));
@@ -160,12 +126,27 @@ void surroundings(void) {
     HOLDS(kill(child, SIGKILL) == 0 && waitpid(child, &status, 0) == child);
 }
 
-/* Makes a program that answers only what the text says, and ends. */
-static void answer(const char *text) {
-    unlink("answering");
-    FILE *it = fopen("answering", "we");
-    HOLDS(it && fprintf(it, "#!/bin/sh\nread line\nprintf '%s'\n", text) > 0 && fclose(it) == 0);
-    HOLDS(chmod("answering", 0700) == 0);
+/* A program that ends tells why, in words. */
+void ends(void) {
+    gist_index *index;
+    gist_end end;
+    HOLDS(gist_open(&index, "/bin/true", "x", 64, &end) == GIST_ENDED && end.status == 0);
+    HOLDS(strcmp(end.sentence, "ended before it was asked to, and said nothing") == 0);
+    HOLDS(gist_open(&index, "/bin/false", "x", 64, &end) == GIST_ENDED && end.status == 1);
+    HOLDS(strcmp(end.sentence, "ended with status 1 and said nothing") == 0);
+    HOLDS(gist_format("/bin/false", "x", 16, 4, 0, &end) == GIST_ENDED && end.status == 1 && end.sentence[0]);
+    script("breaks", "echo 'gist: it broke' >&2; kill -ABRT $$");
+    HOLDS(gist_open(&index, "./breaks", "x", 64, &end) == GIST_ENDED && end.status == -SIGABRT);
+    HOLDS(strcmp(end.sentence, "ended because SIGABRT ended it, a fault of the program (signal 6); it broke") == 0);
+    script("breaks", "kill -USR2 $$");
+    HOLDS(gist_open(&index, "./breaks", "x", 64, &end) == GIST_ENDED && strstr(end.sentence, "a signal ended it"));
+    /* a launcher is told to build nothing, and one that isn't built says so */
+    script("launcher", "[ \"$GIST_NO_BUILD\" = 1 ] && echo told >&2; exit 3");
+    HOLDS(gist_open(&index, "./launcher", "x", 64, &end) == GIST_ENDED && end.status == 3);
+    HOLDS(strcmp(end.sentence, "told") == 0);
+    HOLDS(system("mkdir unbuilt && cp \"$LAUNCHER\" unbuilt/gist") == 0);
+    HOLDS(gist_open(&index, "unbuilt/gist", "x", 64, &end) == GIST_ENDED && end.status == 3);
+    HOLDS(strncmp(end.sentence, "the program isn't built", 23) == 0 && !strchr(end.sentence, '\n'));
 }
 
 void odd_answers(void) {
@@ -188,15 +169,20 @@ void odd_answers(void) {
     };
     gist_index *index;
     for (size_t i = 0; i < sizeof CASES / sizeof *CASES; i++) {
-        answer(CASES[i].text);
+        char text[128];
+        snprintf(text, sizeof text, "read line\nprintf '%s'", CASES[i].text);
+        script("answering", text);
         HOLDS(gist_open(&index, "./answering", "x", 64, NULL) == CASES[i].status && !index);
     }
-    for (int status = -1; status < 40; status++) HOLDS(gist_text(status)[0] != 0);
+    for (int status = -1; status < 40; status++) HOLDS(gist_text(status)[0] != 0 && gist_strerror(status)[0] != 0);
+    HOLDS(strcmp(gist_text(GIST_PREDICATES_FULL), "predicates full") == 0);
+    HOLDS(strstr(gist_strerror(GIST_PREDICATES_FULL), "begin another"));
+    HOLDS(strcmp(gist_text(GIST_ENDED - 1), "no status") == 0);
 }
 
 /* Each thread opens, uses and closes indexes of its own. */
 static void *work(void *name) {
-    bool holds = gist_format(NULL, name, 64, 16, NULL) == GIST_OK;
+    bool holds = gist_format(NULL, name, 64, 16, 0, NULL) == GIST_OK;
     for (uint64_t row = 0; holds && row < 10; row++) {
         gist_index *index;
         gist_entry it = entry_of(row);

@@ -1,40 +1,72 @@
-"""Builds the wheel of the client for pip, with nothing but Python.
+"""Builds the wheel and the sources of the client, with nothing but Python.
 
-pip calls build_wheel, as pyproject.toml says. A usual builder would have to
-be fetched first, and there may be no network.
+pip and `python -m build` call the functions here, as pyproject.toml says. A
+usual builder would have to be fetched first, and there may be no network.
 """
 
 import base64
 import hashlib
+import io
 import re
+import tarfile
 import zipfile
 from pathlib import Path
-from typing import Dict, Optional
+from typing import Any, Dict
 
 HERE = Path(__file__).resolve().parent
-MODULES = ("gist.py", "gist_program.py", "gist_refusals.py")
+PROJECT = dict(re.findall(r'^([a-z-]+) = "(.*)"$',
+                          (HERE / "pyproject.toml").read_text(), re.M))
+STEM = f"{PROJECT['name'].replace('-', '_')}-{PROJECT['version']}"
+METADATA = (f"Metadata-Version: 2.1\nName: {PROJECT['name']}\n"
+            f"Version: {PROJECT['version']}\n"
+            f"Summary: {PROJECT['description']}\n"
+            f"Requires-Python: {PROJECT['requires-python']}\n").encode()
 
 
-def build_wheel(wheel_directory: str,
-                config_settings: Optional[Dict[str, str]] = None,
-                metadata_directory: Optional[str] = None) -> str:
+def build_wheel(wheel_directory: str, *_: Any, **__: Any) -> str:
     """Writes the wheel into a folder, and returns its name."""
-    of = dict(re.findall(r'^([a-z-]+) = "(.*)"$',
-                         (HERE / "pyproject.toml").read_text(), re.M))
-    stem = f"{of['name'].replace('-', '_')}-{of['version']}"
-    info = f"{stem}.dist-info"
-    files = {name: (HERE / name).read_bytes() for name in MODULES}
-    files[f"{info}/METADATA"] = (
-        f"Metadata-Version: 2.1\nName: {of['name']}\n"
-        f"Version: {of['version']}\nSummary: {of['description']}\n"
-        f"Requires-Python: {of['requires-python']}\n").encode()
+    return _wheel(wheel_directory, _package())
+
+
+def build_editable(wheel_directory: str, *_: Any, **__: Any) -> str:
+    """Writes a wheel that only names this folder, and returns its name."""
+    return _wheel(wheel_directory, {"gist_client.pth": f"{HERE}\n".encode()})
+
+
+def build_sdist(sdist_directory: str, *_: Any, **__: Any) -> str:
+    """Writes an archive of what build_wheel needs, and returns its name."""
+    files = _package()
+    for name in ("pyproject.toml", Path(__file__).name):
+        files[name] = (HERE / name).read_bytes()
+    files["PKG-INFO"] = METADATA
+    archive = f"{STEM}.tar.gz"
+    with tarfile.open(Path(sdist_directory) / archive, "w:gz",
+                      format=tarfile.PAX_FORMAT) as to:
+        for name, data in files.items():
+            member = tarfile.TarInfo(f"{STEM}/{name}")
+            member.size = len(data)
+            to.addfile(member, io.BytesIO(data))
+    return archive
+
+
+def _package() -> Dict[str, bytes]:
+    """The files of the package, each by its path from here."""
+    return {f"gist/{path.name}": path.read_bytes()
+            for path in sorted((HERE / "gist").iterdir())
+            if path.suffix == ".py" or path.name == "py.typed"}
+
+
+def _wheel(folder: str, files: Dict[str, bytes]) -> str:
+    """Writes a wheel of these files, and returns its name."""
+    info = f"{STEM}.dist-info"
+    files[f"{info}/METADATA"] = METADATA
     files[f"{info}/WHEEL"] = (b"Wheel-Version: 1.0\nGenerator: wheel_of_gist\n"
                               b"Root-Is-Purelib: true\nTag: py3-none-any\n")
     record = "".join(f"{name},sha256={_sum_of(data)},{len(data)}\n"
                      for name, data in files.items())
     files[f"{info}/RECORD"] = f"{record}{info}/RECORD,,\n".encode()
-    wheel = f"{stem}-py3-none-any.whl"
-    with zipfile.ZipFile(Path(wheel_directory) / wheel, "w",
+    wheel = f"{STEM}-py3-none-any.whl"
+    with zipfile.ZipFile(Path(folder) / wheel, "w",
                          zipfile.ZIP_DEFLATED) as to:
         for name, data in files.items():
             to.writestr(name, data)

@@ -22,7 +22,8 @@ unsigned peer_writers(void) {
 void peer_open(const char *path, size_t entries, bool is_new) {
     gist_end end;
     size_t pages = entries / 40 + 64;
-    if (is_new && gist_format(NULL, path, (unsigned)(pages > 65536 ? 65536 : pages), 100, &end) != GIST_OK)
+    if (pages > 65536) pages = 65536;
+    if (is_new && gist_format(NULL, path, (unsigned)pages, 100, GIST_OVERWRITE, &end) != GIST_OK)
         stop("format", end.sentence);
     if (gist_open(&index_of, NULL, path, MEMORY / 4, &end) != GIST_OK) stop("open", end.sentence);
 }

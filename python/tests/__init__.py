@@ -3,6 +3,7 @@ file gist at the repository's top."""
 
 import os
 import stat
+import subprocess
 import sys
 import tempfile
 import unittest
@@ -10,7 +11,7 @@ from pathlib import Path
 from typing import Iterator, List, Tuple
 
 import gist
-from gist_program import words_of
+from gist._process import words_of
 
 REPOSITORY = Path(__file__).resolve().parents[2]
 #: The program's path.
@@ -59,6 +60,20 @@ class Case(unittest.TestCase):
     def new(self, pages: int = 512, fanout: int = 16) -> None:
         """Makes a new index."""
         gist.format(self.path, pages, fanout)
+
+    def run_python(self, lines: str, *words: object,
+                   timeout: float = 20) -> str:
+        """Runs lines in a Python of its own, and returns what it printed.
+
+        It is killed after so many seconds, and the test fails.
+        """
+        run = subprocess.run(
+            [sys.executable, "-c", lines, *map(str, words)],
+            stdout=subprocess.PIPE, timeout=timeout, cwd=self.folder,
+            env={**os.environ, "GIST": PROGRAM,
+                 "PYTHONPATH": str(REPOSITORY / "python")})
+        self.assertEqual(run.returncode, 0)
+        return run.stdout.decode()
 
     def fill(self, start: int, end: int) -> None:
         """Commits the entries of these rows."""

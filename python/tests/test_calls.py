@@ -1,6 +1,8 @@
 """What each call does, and that sessions are kept apart."""
 
 import os
+import threading
+import time
 from contextlib import ExitStack
 
 import gist
@@ -82,11 +84,14 @@ class Calls(Case):
     def test_wrong_arguments_are_not_asked(self) -> None:
         self.new()
         with gist.open(self.path) as index, index.transaction() as t:
-            for row in (-1, 2 ** 64):
-                with self.assertRaises(ValueError):
-                    t.insert(row, (0, 0, 1, 1))
-            for box in ((0, 0, 1), (0, 0, 1, 1, 1), (0, 0, 2 ** 31, 0),
-                        (-2 ** 31 - 1, 0, 0, 0), (0.5, 0, 1, 1)):
+            for row in (-1, 2 ** 64, 1.0):
+                with self.assertRaisesRegex(ValueError, "rows are integers"):
+                    t.insert(row, (0, 0, 1, 1))  # type: ignore[arg-type]
+            for box in ((0, 0, 2 ** 31, 0), (-2 ** 31 - 1, 0, 0, 0),
+                        (0.5, 0, 1, 1), (float("nan"), 0, 1, 1)):
+                with self.assertRaisesRegex(ValueError, "32 bits; degrees"):
+                    t.insert(1, box)  # type: ignore[arg-type]
+            for box in ((0, 0, 1), (0, 0, 1, 1, 1), (0.5, 0, 1, 1)):
                 with self.assertRaises(ValueError):
                     t.insert(1, box)  # type: ignore[arg-type]
                 with self.assertRaises(ValueError):
@@ -104,6 +109,10 @@ class Calls(Case):
                 hits = t.overlap(PLANE)
                 self.assertEqual(hits.count, 3000)
                 self.assertEqual(next(hits)[0], 0)
+                # (of all that were found)
+                self.assertEqual(len(hits), 3000)
+                self.assertTrue(hits)
+                self.assertFalse(t.overlap((-9, -9, -9, -9)))
                 self.assertEqual(rows(u.overlap(box_of(77))), [77])
                 self.assertEqual(rows(t.overlap(box_of(78))), [78])
         # (they outlive the transaction and the index)
@@ -137,6 +146,53 @@ class Calls(Case):
         lines = gist.dump(self.path)
         self.assertEqual(next(lines), "commits 1 used 2 counter 0")
         lines.close()  # type: ignore[attr-defined]
+
+    def test_format_spares_what_is_there(self) -> None:
+        self.new()
+        self.fill(1, 3)
+        with self.assertRaisesRegex(FileExistsError, "overwrite=True"):
+            gist.format(self.path, 16)
+        self.assertEqual(self.found(), entries(1, 3))
+        gist.format(self.path, 16, overwrite=True)
+        self.assertEqual(self.found(), [])
+        self.path.write_bytes(b"")
+        gist.format(self.path, 16)
+        self.assertEqual(self.found(), [])
+
+    def test_format_that_fails_leaves_no_file(self) -> None:
+        program = self.limited("RLIMIT_FSIZE", 4096)
+        with self.assertRaises(gist.GistError):
+            gist.format(self.path, 16, program=program)
+        self.assertFalse(self.path.exists())
+
+    def test_stat_and_verify(self) -> None:
+        self.new(16, 8)
+        self.assertEqual(gist.verify(self.path), (0, 0, 2))
+        self.fill(0, 30)
+        report = gist.verify(self.path)
+        self.assertEqual(report[:2], (1, 30))
+        used = report.used
+        self.assertIn(f"commits 1 used {used} ",
+                      next(iter(gist.dump(self.path))))
+        self.assertEqual(gist.stat(self.path),
+                         gist.Stat(pages=16, fanout=8, kind=1, used=used,
+                                   commits=1, entries=30, full=used / 16))
+        self.path.write_bytes(self.path.read_bytes()[:2 ** 21])
+        for call in (gist.verify, gist.stat):
+            with self.assertRaises(gist.TooSmall):
+                call(self.path)
+
+    def test_frames_are_as_many_as_pages(self) -> None:
+        """At least 16 of them and at most 4,096, unless a number is given."""
+        program = self.folder / "told"
+        program.write_text('#!/bin/sh\necho "frames $3" >&2; exit 7')
+        program.chmod(0o755)
+        for pages, frames in ((8, 16), (500, 500), (5000, 4096)):
+            path = self.folder / str(pages)
+            gist.format(path, pages)
+            for given, wanted in ((None, frames), (77, 77)):
+                with self.assertRaisesRegex(gist.Ended, f"frames {wanted}$"):
+                    gist.open(path, given, program)
 
     def test_paths(self) -> None:
         for name in ("-places", "two words", "plätze"):
@@ -215,6 +271,43 @@ class Sessions(Case):
                 index.retry(lambda u: u.insert(9, (0, 0, 1, 1)), tries=2)
             with self.assertRaises(ValueError):
                 index.retry(lambda u: None, tries=0)
+
+    def test_retry_is_bound_by_time(self) -> None:
+        self.new()
+        with gist.open(self.path) as index, index.transaction() as t:
+            t.insert(7, (0, 0, 10, 10))
+            start = time.monotonic()
+            with self.assertRaises(gist.Busy):
+                index.retry(lambda u: u.overlap(PLANE), reading=True,
+                            tries=None, within=0.3)
+            self.assertTrue(0.3 <= time.monotonic() - start < 5)
+
+    def test_retry_of_a_reader(self) -> None:
+        self.new()
+        with gist.open(self.path) as index:
+            self.assertIs(index.retry(type, reading=True), gist.Reader)
+            self.assertIs(index.retry(type), gist.Transaction)
+
+    def test_search_waits_for_others(self) -> None:
+        self.new()
+        self.fill(1, 9)
+        with gist.open(self.path) as index:
+            self.assertEqual(list(index.search(PLANE)), entries(1, 9))
+            held = [index.transaction() for _ in range(gist.SESSIONS)]
+            held[0].insert(9, box_of(9))
+
+            def end_all() -> None:
+                for at, t in enumerate(held):
+                    time.sleep(0.05)
+                    if at:
+                        t.abort()
+                time.sleep(0.2)
+                held[0].commit()
+
+            ending = threading.Thread(target=end_all)
+            ending.start()
+            self.assertEqual(list(index.search(PLANE)), entries(1, 10))
+            ending.join()
 
     def test_an_ended_transaction_asks_nothing(self) -> None:
         self.new()

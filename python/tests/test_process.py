@@ -1,6 +1,5 @@
 """The program as a process: its end, its pipes, and who shares it."""
 
-import contextlib
 import multiprocessing
 import os
 import signal
@@ -29,6 +28,26 @@ t.delete(1, (0, 0, 1, 1))
 os.kill(os.getpid(), signal.SIGKILL)
 """
 
+# Where the status of a program can't be had.
+UNWAITED = """
+import signal, gist
+signal.signal(signal.SIGCHLD, signal.SIG_IGN)
+gist.format({path!r}, 8)
+with gist.open({path!r}) as index:
+    with index.transaction() as t:
+        t.insert(1, (0, 0, 1, 1))
+    for call in (gist.open, gist.verify):
+        try:
+            call({path!r})
+        except gist.InUse:
+            print("in use")
+try:
+    gist.format({other!r}, 8, program="/bin/true")
+except gist.ProtocolError:
+    print("not formatted")
+print(gist.verify({path!r}).entries)
+"""
+
 
 class Ends(Case):
     """How a program ends, and what is in the file then."""
@@ -47,7 +66,8 @@ class Ends(Case):
                     u.insert(200, (0, 0, 1, 1))
             self.assertEqual(it.exception.status, -signal.SIGKILL)
             self.assertEqual(str(it.exception),
-                             "the program has ended with status -9")
+                             "the program ended because it was killed by "
+                             "SIGKILL")
             with self.assertRaises(gist.Ended):
                 index.transaction()
             index.close()
@@ -59,14 +79,15 @@ class Ends(Case):
             [sys.executable, "-c", KILLED.format(path=str(self.path))],
             env={**os.environ, "PYTHONPATH": str(REPOSITORY / "python")})
         self.assertEqual(run.returncode, -signal.SIGKILL)
-        for _ in range(600):
-            try:
-                self.assertEqual(self.found(), [(1, (0, 0, 1, 1))])
-                return
-            except gist.Device:
-                # (its program hasn't ended yet)
-                time.sleep(0.05)
-        self.fail("the file stays in use")
+        # (its program may not have ended yet)
+        gist.open(self.path, wait=30).close()
+        self.assertEqual(self.found(), [(1, (0, 0, 1, 1))])
+
+    def test_ignored_children(self) -> None:
+        lines = UNWAITED.format(path=str(self.path),
+                                other=str(self.folder / "other"))
+        self.assertEqual(self.run_python(lines),
+                         "in use\nin use\nnot formatted\n1\n")
 
     def test_closed(self) -> None:
         self.new()
@@ -117,12 +138,14 @@ class Ends(Case):
         self.assertNotEqual(fault.sentence, "")
 
     def test_no_program(self) -> None:
+        self.new()
         for program in (self.folder / "nothing", self.folder):
             with self.assertRaises(OSError):
                 gist.open(self.path, program=program)
         with unittest.mock.patch.dict(os.environ, GIST=str(self.folder)):
             with self.assertRaises(OSError):
-                gist.format(self.path, 8)
+                gist.format(self.folder / "other", 8)
+        self.assertFalse((self.folder / "other").exists())
 
     def test_by_argument(self) -> None:
         with unittest.mock.patch.dict(os.environ, GIST=str(self.folder)):
@@ -130,7 +153,24 @@ class Ends(Case):
             gist.open(self.path, program=PROGRAM).close()
             self.assertEqual(len(list(gist.dump(self.path, PROGRAM))), 4)
 
+    def test_launcher_builds_nothing(self) -> None:
+        """One that isn't built finds the client's word, and says so."""
+        launcher = self.folder / "launcher"
+        launcher.write_text('#!/bin/sh\n[ -n "$GIST_NO_BUILD" ] || exit 0\n'
+                            'echo "gist: build it: ./gist plain" >&2; exit 3')
+        launcher.chmod(0o755)
+        self.new()
+        calls: List[Callable[[], object]] = [
+            lambda: gist.open(self.path, program=launcher),
+            lambda: gist.verify(self.path, launcher),
+            lambda: gist.format(self.folder / "new", 8, program=launcher)]
+        for call in calls:
+            with self.assertRaisesRegex(gist.Ended, "3: build it: ./gist"):
+                call()
+        self.assertFalse((self.folder / "new").exists())
+
     def test_what_no_gist_answers(self) -> None:
+        self.new()
         for lines in (b"0 what\n", b"0 refused x\n", b"0 ok\n1 ok\n", b"\n",
                       b"0 found x\n", b"1 refused 15 bad session\n"):
             with self.assertRaises(gist.ProtocolError):
@@ -145,6 +185,7 @@ class Ends(Case):
         self.assertEqual(that.exception.status, 1)
 
     def test_answer_of_another_session(self) -> None:
+        self.new()
         lines = b"0 refused 15 bad session\n"
         program = self.answering(lines, more=b"2 ok\n")
         index = gist.open(self.path, program=program)
@@ -157,36 +198,13 @@ class Ends(Case):
 class Pipes(Case):
     """Exchanges that are held up or broken off."""
 
-    def test_interrupted_call_ends_the_program(self) -> None:
-        self.new()
-        with gist.open(self.path) as index:
-            with index.transaction() as t:
-                t.insert(1, (0, 0, 1, 1))
-            t = index.transaction()
-            os.kill(index.pid, signal.SIGSTOP)
-            before = signal.signal(signal.SIGALRM, self.interrupt)
-            signal.setitimer(signal.ITIMER_REAL, 0.5)
-            with self.assertRaises(KeyboardInterrupt):
-                t.insert(2, (0, 0, 1, 1))
-            signal.signal(signal.SIGALRM, before)
-            with contextlib.suppress(ProcessLookupError):
-                # (or else what fails here would hang)
-                os.kill(index.pid, signal.SIGCONT)
-            with self.assertRaises(gist.Ended):
-                t.insert(3, (0, 0, 1, 1))
-        self.assertEqual(self.found(), [(1, (0, 0, 1, 1))])
-
-    @staticmethod
-    def interrupt(*_: object) -> None:
-        raise KeyboardInterrupt
-
     def test_ctrl_c_doesnt_reach_the_program(self) -> None:
         self.new()
         with gist.open(self.path) as index, index.transaction():
             self.assertNotEqual(os.getpgid(index.pid), os.getpgid(0))
 
     def test_reader_that_stops(self) -> None:
-        """Whoever doesn't read holds the program up, and nothing else."""
+        """It holds the program up, and nothing else."""
         self.new(512, 100)
         self.fill(0, 2000)
         asked = b"1 BEGIN\n" + b"1 OVERLAP %d %d %d %d\n" % PLANE * 100

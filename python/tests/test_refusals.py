@@ -1,11 +1,16 @@
 """Each refusal, by the program where a script can meet it."""
 
+import os
+import pickle
 import re
 import struct
-from typing import Any, Type
+import threading
+from contextlib import contextmanager
+from typing import Any, Callable, Iterator, List, Tuple, Type
 
 import gist
-from gist_refusals import refusal
+from gist._program import Call
+from gist._refusals import refusal
 from tests import PLANE, REPOSITORY, Case, entries
 
 
@@ -21,12 +26,18 @@ class Refusals(Case):
             name = text.title().replace(" ", "")
             it = refusal(f"{number} {text}".encode())
             self.assertIs(type(it), getattr(gist, name))
-            self.assertEqual(str(it), f"refused {number} {text}")
+            self.assertEqual(it.args, (text,))
+            assert isinstance(it, gist.Refused)
+            self.assertEqual(it.number, int(number))
+            # (what to do about it)
+            self.assertRegex(str(it), f"^{text}: [a-z].{{8,}}")
             in_c = f"GIST_{text.upper().replace(' ', '_')}"
             self.assertRegex(header, rf"\b{in_c} = {number}, ")
         later = refusal(b"21 something new")
         self.assertIs(type(later), gist.Refused)
-        self.assertEqual(str(later), "refused 21 something new")
+        assert isinstance(later, gist.Refused)
+        self.assertEqual(later.number, 21)
+        self.assertEqual(str(later), "something new")
 
     def test_of_entries(self) -> None:
         self.new()
@@ -83,7 +94,9 @@ class Refusals(Case):
         """What this client doesn't ask, by lines of one's own."""
         self.new()
         with gist.open(self.path) as index:
-            ask = index._program.exchange
+            def ask(lines: bytes) -> bytes:
+                return index._program.exchange(Call(lines))
+
             for line, answer in (
                     (b"1 COMMIT", b"1 refused 1 no transaction"),
                     (b"1 BEGIN", b"1 ok"),
@@ -105,11 +118,12 @@ class Refusals(Case):
             file.seek(40 * 512)
             file.write(struct.pack(">IBQQIQ", 29, 5, 2 ** 64 - 1, 0, 2, 1))
         with gist.open(self.path) as index:
-            with self.assertRaises(gist.HistoryFull):
-                index.transaction()
-            with self.assertRaises(gist.HistoryFull):
-                index.reading()
-            self.assertEqual(len(index._sessions), gist.SESSIONS)
+            for _ in range(gist.SESSIONS + 1):
+                # (none of them keeps its session)
+                with self.assertRaises(gist.HistoryFull):
+                    index.transaction()
+                with self.assertRaises(gist.HistoryFull):
+                    index.reading()
 
 
 class Openings(Case):
@@ -126,25 +140,58 @@ class Openings(Case):
                 list(gist.dump(self.path))
 
     def test_no_file(self) -> None:
-        self.refuses(gist.Device, "places.gist: it isn't there")
-        self.path.mkdir()
-        self.refuses(gist.Device, "can't be opened")
-        with self.assertRaisesRegex(gist.Device, "^refused 11 device: .*made"):
-            gist.format(self.path, 8, 4)
+        """The system's exceptions are raised, and no program is started."""
+        nothing, path = self.folder / "nothing", self.folder / "no/places"
+        asked: List[Tuple[Callable[..., object], Tuple[int, ...]]] = [
+            (gist.open, ()), (gist.stat, ()), (gist.verify, ()),
+            (gist.dump, ()), (gist.format, (8,))]
+        for call, words in asked:
+            with self.assertRaises(FileNotFoundError) as it:
+                call(path, *words, program=nothing)
+            self.assertEqual(it.exception.filename, str(path))
+            with self.assertRaises(IsADirectoryError):
+                call(self.folder, *words, program=nothing)
+        self.new()
+        self.path.chmod(0)
+        with self.without_rights():
+            for call, words in asked:
+                with self.assertRaises(PermissionError):
+                    call(self.path, *words, program=nothing)
+
+    @contextmanager
+    def without_rights(self) -> Iterator[None]:
+        """Not as root, who may read and write every file."""
+        user = os.geteuid()
+        self.folder.chmod(0o755)
+        try:
+            if user == 0:
+                os.seteuid(65534)
+            yield
+        finally:
+            os.seteuid(user)
 
     def test_in_use(self) -> None:
         self.new()
         with gist.open(self.path) as index:
-            self.refuses(gist.Device, "another process has it in use")
-            with self.assertRaisesRegex(gist.Device, "in use"):
-                gist.format(self.path, 8, 4)
+            self.refuses(gist.InUse, "in use")
+            calls: List[Callable[[], object]] = [
+                lambda: gist.format(self.path, 8, overwrite=True),
+                lambda: gist.verify(self.path), lambda: gist.stat(self.path),
+                lambda: gist.open(self.path, wait=0.2)]
+            for call in calls:
+                with self.assertRaisesRegex(gist.Device, "in use"):
+                    call()
             with index.transaction() as t:
                 t.insert(1, (0, 0, 1, 1))
+            closing = threading.Timer(0.3, index.close)
+            closing.start()
+            gist.open(self.path, wait=10).close()
+            closing.join()
         self.assertEqual(self.found(), [(1, (0, 0, 1, 1))])
 
     def test_no_index(self) -> None:
         self.path.write_bytes(bytes(2048000))
-        self.refuses(gist.TooSmall, "the device is too small")
+        self.refuses(gist.TooSmall, "small|short|cut")
         self.path.write_bytes(bytes(2199552))
         self.refuses(gist.NotFormatted, ": [a-z]|^[a-z]")
 
@@ -168,19 +215,33 @@ class Openings(Case):
 
     def test_memory(self) -> None:
         self.new()
-        self.refuses(gist.Memory, "enough memory", frames=4096,
+        self.refuses(gist.Memory, "memory", frames=4096,
                      program=self.limited("RLIMIT_AS", 8 << 20))
 
     def test_wrong_numbers(self) -> None:
         for pages, fanout in ((7, 4), (65537, 4), (8, 3), (8, 101), (-8, 4)):
-            with self.assertRaises(gist.Ended) as it:
+            with self.assertRaisesRegex(ValueError, "an integer from"):
                 gist.format(self.path, pages, fanout)
-            self.assertEqual(it.exception.status, 2)
-            self.assertIn("not in", it.exception.sentence)
+        for wrong in ("8", 8.0, None):
+            with self.assertRaises(TypeError):
+                gist.format(self.path, wrong)  # type: ignore[arg-type]
         self.assertFalse(self.path.exists())
         self.new()
         for frames in (15, 4097):
-            with self.assertRaisesRegex(gist.Ended, "status 2"):
+            with self.assertRaisesRegex(ValueError, "from 16 to 4096"):
                 gist.open(self.path, frames)
-        with self.assertRaises(ValueError):
+        with self.assertRaises(TypeError):
             gist.open(self.path, "many")  # type: ignore[arg-type]
+
+    def test_words_of_the_end(self) -> None:
+        for status, told in (
+                (-9, "because it was killed by SIGKILL"),
+                (-200, "because it was killed by signal 200"),
+                (7, "because it failed, with status 7"),
+                (0, "though the index wasn't closed")):
+            self.assertEqual(str(gist.Ended(status, "")),
+                             f"the program ended {told}")
+        self.assertRegex(str(gist.Ended(3, "why")), "status 3: why$")
+        for fault in (gist.Ended(3, "why"), refusal(b"3 present", place=7)):
+            self.assertEqual(str(pickle.loads(pickle.dumps(fault))),
+                             str(fault))

@@ -6,7 +6,7 @@ use Rattle.gx_page.specs.Reading.{read_of}
 use Rattle.gx_bench.specs.declared.sent.SentBox.{SentBox}
 use Rattle.gx_bench.specs.declared.sent.SentPage.{SentPage}
 
--- the corners that a box stands for
+-- the corners that a box means
 abbrev pub key_of : SentBox → Rectangle
 key_of b = rectangle_of b.x1 b.y1 b.x2 b.y2
 

@@ -25,7 +25,7 @@ fn written(logged: &Record<'_>, out: &mut [u8]) -> usize
     logged.encode_into(out).unwrap_or(0)
 }
 
-/// Writes a commit's record, and answers how many bytes it has.
+/// Writes a commit's record, and returns how many bytes it has.
 #[unsafe(no_mangle)]
 pub extern "C" fn gx_bench_write_commit(tx: u64, n: u64, out: &mut [u8]) -> usize
     requires { 17 ≤ length out.old }
@@ -34,7 +34,7 @@ pub extern "C" fn gx_bench_write_commit(tx: u64, n: u64, out: &mut [u8]) -> usiz
     written(&Record::Commit { tx, n }, out)
 }
 
-/// Writes a note's record, and answers how many bytes it has.
+/// Writes a note's record, and returns how many bytes it has.
 #[unsafe(no_mangle)]
 pub extern "C" fn gx_bench_write_note(
     tx: u64,
@@ -58,7 +58,7 @@ pub extern "C" fn gx_bench_write_note(
     written(&note, out)
 }
 
-/// Writes the record of a write to a leaf with that image, and answers how many bytes it has.
+/// Writes the record of a write to a leaf with that image, and returns how many bytes it has.
 #[unsafe(no_mangle)]
 pub extern "C" fn gx_bench_write_write(
     tx: u64,
@@ -88,7 +88,7 @@ pub extern "C" fn gx_bench_write_write(
     written(&write, out)
 }
 
-/// Reads whole records from the front until none is there, and answers how many bytes they have.
+/// Reads whole records from the front until none is there, and returns how many bytes they have.
 #[unsafe(no_mangle)]
 pub extern "C" fn gx_bench_read(bytes: &[u8], key: usize) -> usize
     ensures { ReadsWhole key bytes.now result }

@@ -22,7 +22,7 @@ pub struct SentPage {
     pub image: [u8; PAGE_SIZE],
 }
 
-/// The key that a box stands for.
+/// The key that a box means.
 pub(crate) fn key_of(sent: &SentBox) -> Box2
     requires x { sent.now.x1 ≤ℤ sent.now.x2 }
     requires y { sent.now.y1 ≤ℤ sent.now.y2 }
@@ -34,7 +34,7 @@ pub(crate) fn key_of(sent: &SentBox) -> Box2
     }
 }
 
-/// The pages whose images these are. `None` where one is no image, or memory lacks.
+/// The pages whose images these are. `None` where one is no image, or memory is refused.
 pub(crate) fn pages_of(alloc: Global, sent: &[SentPage]) -> Option<Vec<Page>>
     ensures { IfSome result (λ pages. pages.items ≡ map page_of sent.now) }
 {

@@ -7,7 +7,7 @@ ghost use Rattle.gx_bench.specs.Sent.{key_of, InOrder};
 use crate::sent::{SentBox, key_of};
 use gx_geom::Box2;
 
-/// The keys that boxes stand for, one for each place.
+/// The keys that boxes mean, one for each place.
 fn write_keys(sent: &[SentBox], keys: &mut [Box2])
     requires as_many { length keys.old ≡ length sent.now }
     requires in_order { All InOrder sent.now }
@@ -19,7 +19,7 @@ fn write_keys(sent: &[SentBox], keys: &mut [Box2])
 }
 
 /// Splits 2 to 101 boxes in two groups with at least `least` boxes each. In `sides`, which has a place for each box,
-/// `true` stands for the second group.
+/// `true` means the second group.
 #[unsafe(no_mangle)]
 pub extern "C" fn gx_bench_split(sent: &[SentBox], least: usize, sides: &mut [bool])
     requires some { 1 ≤ least }

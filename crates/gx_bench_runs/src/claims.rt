@@ -11,11 +11,11 @@ use std::alloc::Global;
 /// What is asked.
 #[derive(Clone, Copy)]
 pub(crate) enum Kind {
-    /// Claims of drawn entries.
+    /// Claims of random entries.
     Claims,
     /// Predicates that match nothing.
     Searches,
-    /// Whether drawn entries are claimed.
+    /// Whether random entries are claimed.
     Sweeps,
 }
 
@@ -97,7 +97,7 @@ fn ask(table: &mut Transactions<Box2>, kind: Kind, state: &mut u32) -> u64 {
     }
 }
 
-/// Fills tables and asks so often, and answers the sum. `None` where memory lacks.
+/// Fills tables and asks so often, and returns the sum. `None` where memory is refused.
 pub(crate) fn run(alloc: Global, kind: Kind, asks: u64) -> Option<u64> {
     let mut table = Transactions::new(alloc).ok()?;
     let mut state = 7;

@@ -1,4 +1,4 @@
-//! Drawn boxes and windows.
+//! Random boxes and windows.
 ghost use Rattle.std.specs.Prelude.{◌≤◌, ◌<◌};
 
 use gx_geom::Box2;

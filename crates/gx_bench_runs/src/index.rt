@@ -1,4 +1,4 @@
-//! An index of drawn boxes on a device in memory, by the events of one session. `inserts`: so many boxes in a new
+//! An index of random boxes on a device in memory, by the events of one session. `inserts`: so many boxes in a new
 //! index, in transactions of a hundred. `queries`: so many windows looked for in an index of a hundred thousand boxes,
 //! in transactions of sixteen, each given up at its end. `marks`: so many of its pairs deleted, in transactions of a
 //! hundred. `undo`: so many boxes in a new index, deleted in transactions of 512, each given up at its end. `commits`:
@@ -18,7 +18,7 @@ use driven::Index;
 use std::alloc::Global;
 use works::{delete_many, insert_many, query_many, undo_many};
 
-/// How many boxes stand in the index in which is looked.
+/// How many boxes the index has in which is looked.
 const BOXES: u64 = 100_000;
 
 /// How many writes a transaction has.
@@ -52,7 +52,7 @@ impl Kind {
         }
     }
 
-    /// Does so often what is asked, and answers the sum.
+    /// Does so often what is asked, and returns the sum.
     fn work(self, alloc: Global, index: &mut Index, count: u64) -> Option<u64> {
         match self {
             Kind::Inserts => {
@@ -82,7 +82,7 @@ impl Kind {
     }
 }
 
-/// What is told of it.
+/// What is printed of it.
 #[derive(Clone, Copy)]
 pub(crate) enum Told {
     /// The sum of what was done.
@@ -120,8 +120,8 @@ impl Told {
     }
 }
 
-/// Does so often what is asked, and answers what is told of it. `None` where memory lacks or a call isn't answered as
-/// it should be.
+/// Does so often what is asked, and returns what is printed of it. `None` where memory is refused or a call isn't
+/// answered as it should be.
 pub(crate) fn run(alloc: Global, told: Told, kind: Kind, count: u64) -> Option<u64> {
     let mut index = Index::fresh(alloc)?;
     let sum = kind.work(alloc, &mut index, count)?;

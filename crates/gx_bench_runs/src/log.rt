@@ -89,7 +89,7 @@ fn append_one(log: &mut Glog, kind: Kind, leaf: &Page) -> bool {
     }
 }
 
-/// Puts a batch's records into the log, and answers how many there are.
+/// Puts a batch's records into the log, and returns how many there are.
 fn fill(log: &mut Glog, kind: Kind, leaf: &Page) -> u64 {
     let most = match kind {
         Kind::Commit => 1,
@@ -115,7 +115,7 @@ fn write(log: &mut Glog, disk: &mut FileDisk) -> bool {
     true
 }
 
-/// Writes a batch to each place of an extent, from the first on, and answers how many records they have.
+/// Writes a batch to each place of an extent, from the first on, and returns how many records they have.
 fn write_extent(alloc: Global, disk: &mut FileDisk, kind: Kind, leaf: &Page) -> Option<u64> {
     let mut log = Glog::start(alloc, Extent::A, 0).ok()?;
     let mut records: u64 = 0;
@@ -128,7 +128,7 @@ fn write_extent(alloc: Global, disk: &mut FileDisk, kind: Kind, leaf: &Page) -> 
     Some(records)
 }
 
-/// Writes so many extents, and answers how many records they have. `None` where memory lacks or the file fails.
+/// Writes so many extents, and returns how many records they have. `None` where memory is refused or the file fails.
 pub(crate) fn run<R: AllocGlobal + Files<File = File>>(
     rt: &R,
     kind: Kind,

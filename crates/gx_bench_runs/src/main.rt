@@ -69,7 +69,7 @@ impl Benchmark {
         }
     }
 
-    /// Does so often what is asked, and answers the sum. `None` where memory lacks or a file fails.
+    /// Does so often what is asked, and returns the sum. `None` where memory is refused or a file fails.
     fn run<R: AllocGlobal + Files<File = File>>(self, rt: &R, count: u64) -> Option<u64> {
         match self {
             Benchmark::Claims(kind) => claims::run(rt.alloc(), kind, count),

@@ -1,4 +1,4 @@
-//! Drawn numbers.
+//! Random numbers.
 
 /// The next of a sequence of numbers below 2^24.
 pub(crate) fn draw(state: &mut u32) -> u32 {

@@ -1,4 +1,4 @@
-//! A tree of drawn boxes, built in memory by the tree's steps: `inserts`, so many boxes in a new tree; `pages`, the
+//! A tree of random boxes, built in memory by the tree's steps: `inserts`, so many boxes in a new tree; `pages`, the
 //! same, and a sum of all pages' bytes; `queries`, so many windows looked for in a tree of a hundred thousand boxes;
 //! `marks`, so many of its pairs looked for and marked. The sum is of what was done.
 
@@ -13,7 +13,7 @@ use looks::{mark_many, query_many};
 use std::alloc::Global;
 use writes::{MOST, Tree, fresh_tree, insert, sum_of_pages};
 
-/// How many boxes stand in the tree in which is looked.
+/// How many boxes the tree has in which is looked.
 const BOXES: u64 = 100_000;
 
 /// What is asked.
@@ -49,7 +49,7 @@ struct Built {
     entries: Vec<Entry<Box2>>,
 }
 
-/// Inserts so many drawn boxes in a new tree.
+/// Inserts so many random boxes in a new tree.
 fn build(alloc: Global, boxes: u64) -> Option<Built> {
     let mut tree = fresh_tree(alloc)?;
     let mut entries = Vec::new(alloc);
@@ -64,7 +64,7 @@ fn build(alloc: Global, boxes: u64) -> Option<Built> {
     Some(Built { tree, entries })
 }
 
-/// Does so often what is asked, and answers the sum. `None` where memory lacks or a step is refused.
+/// Does so often what is asked, and returns the sum. `None` where memory is refused or a step is.
 pub(crate) fn run(alloc: Global, kind: Kind, count: u64) -> Option<u64> {
     match kind {
         Kind::Inserts => Some(u64::from(build(alloc, count)?.tree.used())),

@@ -59,7 +59,7 @@ impl BoxProbe {
     }
 }
 
-/// Where a number's bytes stand from the least on, of each of four numbers.
+/// The places of the bytes of each of four numbers, the least byte first.
 pub(crate) const LEAST_FIRST: [usize; 16] = [3, 2, 1, 0, 7, 6, 5, 4, 11, 10, 9, 8, 15, 14, 13, 12];
 
 /// The corners of which these are the bytes, side by side.

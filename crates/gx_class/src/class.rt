@@ -52,7 +52,7 @@ pub trait KeyClass {
     /// The key that bytes spell, if they spell one.
     ghost reading: { List ℕ → Option Self.Key };
 
-    /// Whoever has a key in hand learns by this call that it is one.
+    /// Does nothing; its contract says that the value is a key of the class.
     fn known(key: &Self::Key)
         ensures { is_key key.now };
 
@@ -89,7 +89,7 @@ pub trait KeyClass {
     }
 
     /// PickSplit: splits 2 to 101 keys, with at least `least` on each side. In `sides`, which has a place for each key,
-    /// `true` stands for the second group.
+    /// `true` means the second group.
     fn pick_split(keys: &[Self::Key], least: usize, sides: &mut [bool])
         requires some { 1 ≤ least }
         requires enough { 2 * least ≤ length keys.now }

@@ -1,6 +1,7 @@
 pub mod Refusing
 pub mod Faults
 pub mod Over
+pub mod Used
 pub mod Forgetting
 pub mod Dumped
 pub mod Durably

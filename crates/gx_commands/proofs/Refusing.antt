@@ -1,4 +1,4 @@
--- The status of a refused opening, and what a person is told.
+-- The status of a refused opening, and what the user is told.
 use Rattle.std.proofs.Common.{◌≡◌, ℕ, Bool, List, refl}
 use Rattle.gx_geom.specs.declared.refusal.Refusal.{Refusal}
 use Rattle.gx_geom.specs.declared.refusal.Refusal.TheVariants.{Absent, BadBox, BadParameter, BadSession, Busy, CallOpen, ClaimsFull, Damaged, Device, Failed, HistoryFull, InTransaction, Memory, NoCall, NoTransaction, NotFormatted, PagesFull, PredicatesFull, Present, TooSmall}
@@ -10,7 +10,7 @@ use Rattle.gx_geom.specs.Refusals.{refusal_text}
 use Rattle.gx_commands.specs.Lines.{sentence_of}
 use Rattle.gx_commands.specs.Refusing.{Refuses, TellsOpening}
 
--- of a refusal that has no sentence of its own a person is told its text
+-- of a refusal that has no sentence of its own the user is told its text
 pub told_by_text : (why : Refusal) → (why ≡ Memory → ⊥) → (why ≡ Device → ⊥) → (why ≡ Failed → ⊥) → (why ≡ Damaged → ⊥) → (why ≡ NotFormatted → ⊥)
     → (why ≡ TooSmall → ⊥) → (why ≡ BadParameter → ⊥) → refusal_text why ≡ sentence_of why
 told_by_text Memory a b c d e f g = absurd (a refl)

@@ -3,6 +3,7 @@ use Rattle.std.specs.Prelude.{ℕ, ◌≡◌, ◌⊎◌, Bool, false, Option, Li
 use Rattle.std.specs.Io.KnownBytes.{Appends}
 use Rattle.gx_geom.specs.Rectangles.{Rectangle}
 use Rattle.gx_machine.specs.Keys.{Members}
+use Rattle.gx_script.specs.declared.fault.ScriptFault.TheVariants.{Write}
 use Rattle.gx_script.specs.Writes.{IsCut}
 use Rattle.gx_class.specs.declared.class.KeyClass.{Ghosts}
 use Rattle.gx_disk.specs.Device.{Device}
@@ -35,12 +36,12 @@ use Rattle.gx_commands.specs.Endings.{device_of}
 use Rattle.gx_commands.specs.Openings.{Opens}
 use Rattle.gx_commands.specs.Refusing.{Refuses, TellsOpening}
 
--- What a dump was refused with is told, behind what was written of it; where the writer failed a person is told of that; and where it ended
+-- What a dump was refused with is told, behind what was written of it; where the writer failed the user is told of that; and where it ended
 -- well nothing is.
 abbrev pub TellsDump : Result (Unit {0}) DumpFault → Outputs → Outputs → ℕ → Type 0
 TellsDump (Ok done) old new status = (status ≡ 0) × (new ≡ old)
 TellsDump (Err fault.Write) old new status =
-    (status ≡ 1) × ((new.replies ≡ old.replies) × (TakesNoMore old.replies × TellsFault old.replies.kind old.person new.person))
+    (status ≡ 1) × ((new.replies ≡ old.replies) × (TakesNoMore old.replies × TellsFault Write old.replies.kind old.person new.person))
 TellsDump (Err (fault.Refused why)) old new status = Refuses why old new status
 
 module _ {C D : Type 0} (shape : Members Rectangle) (is_key : Rectangle → Bool) (said : List ℕ → Rectangle) (class : Ghosts C Rectangle) (state : D → Device) where
@@ -48,7 +49,7 @@ module _ {C D : Type 0} (shape : Members Rectangle) (is_key : Rectangle → Bool
   abbrev pub OfTree : Parts Rectangle D → (Tree Rectangle → Type 0) → Type 0
   OfTree engine P = (l : Limits) → OfItsTree (class_of shape is_key l) (reading_of said (format_of class)) (format_of class) (is_node (format_of class)) state engine P
 
-  -- An index was dumped, with this result, which is told, and its device is handed back. The writer held the tree's text by then; or only a
+  -- An index was dumped, with this result, which is reported, and its device is handed back. The writer held the tree's text by then; or only a
   -- beginning of it, where the dump did not end well.
   pub record DumpsIndex (old : State Rectangle D) (after : D) (from to : Outputs) (status : ℕ) : Type 0 where
     pub result : Result (Unit {0}) DumpFault
@@ -68,7 +69,7 @@ module _ {C D : Type 0} (shape : Members Rectangle) (is_key : Rectangle → Bool
   abbrev pub index_over : Parts Rectangle D → State Rectangle D
   index_over engine = record { engine = engine; ended = false }
 
-  -- The opening was refused, which is told.
+  -- The opening was refused, which is reported.
   pub record IsNotDumped (number frames : ℕ) (disk after : D) (from to : Outputs) (status : ℕ) : Type 0 where
     pub refused : NotOpened D
     pub opening : Opens shape is_key said class state number frames disk (Err refused)

@@ -7,6 +7,7 @@ use Rattle.gx_machine.specs.declared.call.Call.{Call}
 use Rattle.gx_machine.specs.declared.reply.Reply.{Reply}
 use Rattle.gx_machine.specs.Keys.{Members}
 use Rattle.gx_script.specs.declared.fault.ScriptFault.{ScriptFault}
+use Rattle.gx_script.specs.declared.fault.ScriptFault.TheVariants.{Write}
 use Rattle.gx_script.specs.Scripts.{IsDone, IsStopped}
 use Rattle.gx_script.specs.Writes.{IsCut}
 use Rattle.gx_class.specs.declared.class.KeyClass.{Ghosts}
@@ -36,19 +37,19 @@ use Rattle.gx_commands.specs.Openings.{Opens}
 use Rattle.gx_commands.specs.Refusing.{Refuses, TellsOpening}
 use Rattle.gx_commands.specs.Watching.{Watches}
 
--- A format is told: its line was written; or a front of it, where the writer takes no more, of which a person is told.
+-- A format is told: its line was written; or a front of it, where the writer takes no more, which is reported to the user.
 abbrev pub TellsFormatted : ℕ → ℕ → Outputs → Outputs → ℕ → Type 0
 TellsFormatted pages most old new status =
     ((status ≡ 0) × (Appends old.replies.bytes new.replies.bytes (formatted_line pages most) × (new.person ≡ old.person)))
     ⊎ ((status ≡ 1) × (IsCut old.replies.bytes new.replies.bytes (formatted_line pages most)
-    × (TakesNoMore new.replies × TellsFault new.replies.kind old.person new.person)))
+    × (TakesNoMore new.replies × TellsFault Write new.replies.kind old.person new.person)))
 
 -- so is what it was refused with
 abbrev pub TellsFormat : ℕ → ℕ → Result (Unit {0}) Refusal → Outputs → Outputs → ℕ → Type 0
 TellsFormat pages most (Ok done) old new status = TellsFormatted pages most old new status
 TellsFormat pages most (Err why) old new status = Refuses why old new status
 
--- A device was formatted, with this result, which is told. At each moment of it a crash leaves an image of before but for its first
+-- A device was formatted, with this result, which is reported. At each moment of it a crash leaves an image of before but for its first
 -- sector, or no index, or the fresh one; at Ok the device reads as the fresh one, and all of it is settled.
 pub record FormatsOver {D : Type 0} (state : D → Device) (parameters : Parameters) (root : Contents) (old new : D) (from to : Outputs) (status : ℕ) : Type 0 where
   pub result : Result (Unit {0}) Refusal
@@ -68,7 +69,7 @@ abbrev pub device_of : {B D : Type 0} → State B D → D
 device_of index = index.engine.volume.shelf.disk
 
 module _ {C D : Type 0} (shape : Members Rectangle) (is_key : Rectangle → Bool) (said : List ℕ → Rectangle) (class : Ghosts C Rectangle) (state : D → Device) where
-  -- An index was settled, with this result, which is told, and its device is handed back. Where it ended well, no checkpoint runs, and no batch is
+  -- An index was settled, with this result, which is reported, and its device is handed back. Where it ended well, no checkpoint runs, and no batch is
   -- in flight or fills.
   pub record EndsSettling (old : State Rectangle D) (after : D) (from to : Outputs) (status : ℕ) : Type 0 where
     pub result : Result (Unit {0}) Refusal
@@ -80,7 +81,7 @@ module _ {C D : Type 0} (shape : Members Rectangle) (is_key : Rectangle → Bool
     pub told : TellsSettled result from to status
     pub left : after ≡ device_of new
 
-  -- What follows a script's end, by whether a reply told of a fault: a person is told, and nothing more is done; or the index is settled.
+  -- What follows a script's end, by whether a reply told of a fault: the user is told, and nothing more is done; or the index is settled.
   abbrev pub EndsBy : Bool → State Rectangle D → D → Outputs → Outputs → ℕ → Type 0
   EndsBy true index after from to status =
       (status ≡ 1) × ((to.replies ≡ from.replies) × (TellsPerson fault_sentence from.person to.person × (after ≡ device_of index)))
@@ -104,21 +105,21 @@ module _ {C D : Type 0} (shape : Members Rectangle) (is_key : Rectangle → Bool
     pub quiet : between.person ≡ from.person
     pub ends : EndsBy new.met new.index after between to status
 
-  -- The script was stopped by a fault of its reader or its writer, of which a person is told. Of the device nothing was asked but by the script's calls.
+  -- The script was stopped by a fault of its reader or its writer, which is reported to the user. Of the device nothing was asked but by the script's calls.
   pub record WasStopped (old : Watched (State Rectangle D)) (after : D) (had left : Stream) (from to : Outputs) (status : ℕ) : Type 0 where
     pub new : Watched (State Rectangle D)
     pub fault : ScriptFault
     pub status_is : status ≡ 1
     pub stopped : IsStopped AnswersWatched had.bytes left.bytes from.replies.bytes to.replies.bytes old new fault
     pub faulty : IsFaultOf left to.replies fault
-    pub heard : TellsFault (kind_of left to.replies fault) from.person to.person
+    pub heard : TellsFault fault (kind_of left to.replies fault) from.person to.person
     pub left_is : after ≡ device_of new.index
 
   -- a script was run on a watched index
   abbrev pub RunsScript : Watched (State Rectangle D) → D → Stream → Stream → Outputs → Outputs → ℕ → Type 0
   RunsScript old after had left from to status = HasRun old after had left from to status ⊎ WasStopped old after had left from to status
 
-  -- The opening was refused, which is told. Nothing was read.
+  -- The opening was refused, which is reported. Nothing was read.
   pub record WasRefused (number frames : ℕ) (disk after : D) (had left : Stream) (from to : Outputs) (status : ℕ) : Type 0 where
     pub refused : NotOpened D
     pub opening : Opens shape is_key said class state number frames disk (Err refused)

@@ -1,7 +1,9 @@
 pub mod Lines
 pub mod Refusing
 pub mod Watching
+pub mod Opener
 pub mod Openings
+pub mod Files
 pub mod Endings
 pub mod Dumping
 pub mod Durably

@@ -13,7 +13,7 @@ use Rattle.gx_restart.specs.Beginning.{IsSameDevice}
 use Rattle.gx_restart.specs.Keeping.{KeepsItsSet, OpensSafely}
 use Rattle.gx_restart.specs.Opened.{IsOpened, IsRefused}
 use Rattle.gx_restart.specs.Order.{OpensInOrder}
-use Rattle.gx_restart.specs.Undoing.{IsIdle}
+use Rattle.gx_restart.specs.Undoing.{BeganWith, IsIdle}
 
 -- A device was opened with so many frames, for a class of keys of this number; of which this is the result.
 pub record Opens {C B D : Type 0} (shape : Members B) (is_key : B → Bool) (said : List ℕ → B) (class : Ghosts C B) (state : D → Device)
@@ -23,6 +23,7 @@ pub record Opens {C B D : Type 0} (shape : Members B) (is_key : B → Bool) (sai
   pub device : MatchResult result (λ engine. IsSameDevice (state disk) (state engine.volume.shelf.disk)) (λ n. IsSameDevice (state disk) (state n.disk))
   pub faults : IfErr result (λ n. n.why ≡ NoDevice → (state disk).faults < (state n.disk).faults)
   pub idle : IfOk result IsIdle
+  pub began : IfOk result (BeganWith (Makes shape is_key said class state) frames)
   pub safe : (state disk).honest ≡ true → MatchResult result
       (λ engine. OpensSafely shape is_key said (format_of class) (state disk) (state engine.volume.shelf.disk))
       (λ n. OpensSafely shape is_key said (format_of class) (state disk) (state n.disk))
@@ -33,4 +34,4 @@ pub record Opens {C B D : Type 0} (shape : Members B) (is_key : B → Bool) (sai
   pub opened : (state disk).honest ≡ true
       → IfOk result (λ engine. IsOpened shape is_key said (format_of class) number (state disk) (state engine.volume.shelf.disk) engine)
   pub refused : (state disk).honest ≡ true → 16 ≤ frames → frames ≤ 4096 → MIN_SECTORS ≤ (state disk).sectors
-      → IfErr result (λ n. IsRefused shape is_key said (format_of class) state number (state disk) (state n.disk) n.why)
+      → IfErr result (λ n. IsRefused shape is_key said (format_of class) state number disk n.disk n.why)

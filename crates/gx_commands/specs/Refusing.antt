@@ -1,4 +1,4 @@
--- How a command ends that is refused: its status, what it has written, and what a person was told.
+-- How a command ends that is refused: its status, what it has written, and what the user was told.
 use Rattle.std.specs.Prelude.{ℕ, ◌≡◌, ◌≤◌, ◌⊎◌, Bool, true, Option, None, Some, IfSome, List}
 use Rattle.gx_disk.specs.declared.layout.TheConstants.{MIN_SECTORS}
 use Rattle.gx_geom.specs.declared.refusal.Refusal.{Refusal}
@@ -13,19 +13,19 @@ use Rattle.gx_opening.specs.Shown.{Shows}
 use Rattle.gx_commands.specs.Streams.{Stream, Outputs, Prints, TellsPerson}
 use Rattle.gx_commands.specs.Lines.{refusal_line, sentence_of, damage_sentence}
 
--- The line of a refusal outside of a script was written, and a person told what it means.
+-- The line of a refusal outside of a script was written, and the user told what it means.
 pub record Refuses (why : Refusal) (old new : Outputs) (status : ℕ) : Type 0 where
   pub status_is : status ≡ 1
   pub told : Prints (refusal_line why) old.replies new.replies
   pub heard : TellsPerson (sentence_of why) old.person new.person
 
--- a person is told of damage, where it was found; and that there is some where it wasn't, or its sentence has no room
+-- the user is told of damage, where it was found; and that there is some where it wasn't
 abbrev pub TellsFound : Option Damage → Stream → Stream → Type 0
-TellsFound (Some damage) old new = TellsPerson (damage_sentence damage) old new ⊎ TellsPerson (sentence_of Damaged) old new
+TellsFound (Some damage) old new = TellsPerson (damage_sentence damage) old new
 TellsFound None old new = TellsPerson (sentence_of Damaged) old new
 
 module _ {B C D : Type 0} (shape : Members B) (is_key : B → Bool) (said : List ℕ → B) (class : Ghosts C B) (state : D → Device) where
-  -- A device whose opening was refused as damaged was settled and read, and a person is told what was found there, if something was: of an
+  -- A device whose opening was refused as damaged was settled and read, and the user is told what was found there, if something was: of an
   -- honest device it is true.
   pub record TellsDamage (number : ℕ) (disk after : D) (old new : Outputs) (status : ℕ) : Type 0 where
     pub found : Option Damage

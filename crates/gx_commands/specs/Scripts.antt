@@ -9,9 +9,10 @@ use Rattle.gx_script.specs.declared.fault.ScriptFault.{ScriptFault}
 use Rattle.gx_plain.specs.Boxes.{box_keys}
 use Rattle.gx_plain.specs.Index.{Index, fresh_index, CallsIndex}
 use Rattle.gx_plain.specs.OneRun.{IsOneRun}
+use Rattle.gx_commands.specs.Lines.{stream_sentence}
 use Rattle.gx_commands.specs.Streams.{Stream, Outputs, HasEnded, IsFaultOf, Prints, TellsPerson, kind_of}
 
--- what a refused want of memory prints
+-- what a refusal of memory prints
 abbrev pub memory_line : List ℕ
 memory_line = codes "refused 10 memory\n"
 
@@ -20,10 +21,10 @@ pub record TellsMemory (old new : Stream) (status : ℕ) : Type 0 where
   pub status_is : status ≡ 1
   pub told : Prints memory_line old new
 
--- a person is told of a fault that comes from an error of this kind; but nothing, where whoever reads the replies has left
-pub record TellsFault (kind : Option ErrorKind) (old new : Stream) : Type 0 where
+-- the user is told of a fault that comes from an error of this kind; but nothing, where the reader of the replies has left
+pub record TellsFault (fault : ScriptFault) (kind : Option ErrorKind) (old new : Stream) : Type 0 where
   pub quiet : kind ≡ Some BrokenPipe → new ≡ old
-  pub heard : kind ≢ Some BrokenPipe → (sentence : List ℕ) × TellsPerson sentence old new
+  pub heard : kind ≢ Some BrokenPipe → TellsPerson (stream_sentence fault kind) old new
 
 -- memory was refused, and nothing was read
 pub record LacksMemory (had left : Stream) (old new : Outputs) (status : ℕ) : Type 0 where
@@ -41,14 +42,14 @@ pub record RanScript (had left : Stream) (old new : Outputs) (status : ℕ) : Ty
   pub ended : HasEnded left
   pub quiet : new.person ≡ old.person
 
--- the script was stopped by a fault of its reader or its writer, of which a person is told
+-- the script was stopped by a fault of its reader or its writer, which is reported to the user
 pub record StoppedScript (had left : Stream) (old new : Outputs) (status : ℕ) : Type 0 where
   pub index : Index Rectangle
   pub fault : ScriptFault
   pub status_is : status ≡ 1
   pub stopped : IsStopped (CallsIndex box_keys) had.bytes left.bytes old.replies.bytes new.replies.bytes fresh_index index fault
   pub faulty : IsFaultOf left new.replies fault
-  pub tells : TellsFault (kind_of left new.replies fault) old.person new.person
+  pub tells : TellsFault fault (kind_of left new.replies fault) old.person new.person
 
 -- how a script on a fresh index may end
 abbrev pub EndsScript : Stream → Stream → Outputs → Outputs → ℕ → Type 0

@@ -21,7 +21,7 @@ pub record Stream : Type 0 where
 abbrev pub stream_of : {T : Type 0} → (T → Option (List ℕ)) → Noted T → Stream
 stream_of bytes noted = record { bytes = bytes noted.inner; last = noted.last; kind = noted.kind; calls = noted.calls }
 
--- What a command writes to: replies, and what it tells a person.
+-- What a command writes to: replies, and what it tells the user.
 pub record Outputs : Type 0 where
   pub replies : Stream
   pub person : Stream
@@ -55,10 +55,10 @@ kind_of read written Write = written.kind
 abbrev pub Prints : List ℕ → Stream → Stream → Type 0
 Prints text old new = Appends old.bytes new.bytes text ⊎ (IsCut old.bytes new.bytes text × TakesNoMore new)
 
--- the line that tells a person this sentence
+-- the line that tells the user this sentence
 abbrev pub person_line : List ℕ → List ℕ
 person_line sentence = codes "gist: " ++ (sentence ++ (10 ∷ []))
 
--- a person was told this sentence
+-- the user was told this sentence
 abbrev pub TellsPerson : List ℕ → Stream → Stream → Type 0
 TellsPerson sentence old new = Prints (person_line sentence) old new

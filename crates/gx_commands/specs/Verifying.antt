@@ -1,4 +1,4 @@
--- How a device is verified: what comes of it, what is printed, and what a person is told.
+-- How a device is verified: what comes of it, what is printed, and what the user is told.
 use Rattle.std.specs.Prelude.{ℕ, ◌≡◌, ◌⊎◌, ◌<◌, ◌≤◌, Bool, true, Option, Some, List, Result, Ok, Err, IfErr, IfOk, IfSome}
 use Rattle.std.specs.Io.KnownBytes.{Appends}
 use Rattle.gx_disk.specs.declared.layout.TheConstants.{MIN_SECTORS}
@@ -18,6 +18,7 @@ use Rattle.gx_opening.specs.Shown.{Shows}
 use Rattle.gx_restart.specs.Copied.{memory_state}
 use Rattle.gx_restart.specs.declared.verification.Report.{Report}
 use Rattle.gx_restart.specs.Verified.{IsDamagedCopy, IsUnverified, IsVerified}
+use Rattle.gx_script.specs.declared.fault.ScriptFault.TheVariants.{Write}
 use Rattle.gx_script.specs.Writes.{IsCut}
 use Rattle.gx_commands.specs.Lines.{refusal_line, verified_line}
 use Rattle.gx_commands.specs.Refusing.{Refuses, TellsFound}
@@ -35,20 +36,20 @@ pub record Verifies {C B D : Type 0} (shape : Members B) (is_key : B → Bool) (
   pub refused : (state old).honest ≡ true → 16 ≤ frames → frames ≤ 4096 → MIN_SECTORS ≤ (state old).sectors
       → IfErr result (IsUnverified shape is_key said (format_of class) number (state old))
 
--- A report is told: its line was written; or a front of it, where the writer takes no more, of which a person is told.
+-- A report is told: its line was written; or a front of it, where the writer takes no more, which is reported to the user.
 abbrev pub TellsReport : Report → Outputs → Outputs → ℕ → Type 0
 TellsReport report old new status =
     ((status ≡ 0) × (Appends old.replies.bytes new.replies.bytes (verified_line report) × (new.person ≡ old.person)))
     ⊎ ((status ≡ 1) × (IsCut old.replies.bytes new.replies.bytes (verified_line report)
-    × (TakesNoMore new.replies × TellsFault new.replies.kind old.person new.person)))
+    × (TakesNoMore new.replies × TellsFault Write new.replies.kind old.person new.person)))
 
--- A person is told what was found damaged, if something was; this is true of it.
+-- The user is told what was found damaged, if something was; this is true of it.
 pub record TellsTrue (is_so : Damage → Type 0) (old new : Stream) : Type 0 where
   pub found : Option Damage
   pub is_true : IfSome found is_so
   pub heard : TellsFound found old new
 
--- Damage is told: the line of its refusal, and that to a person.
+-- Damage is told: the line of its refusal, and that to the user.
 pub record TellsCopy (is_so : Damage → Type 0) (old new : Outputs) (status : ℕ) : Type 0 where
   pub status_is : status ≡ 1
   pub told : Prints (refusal_line Damaged) old.replies new.replies
@@ -75,7 +76,7 @@ module _ {C B : Type 0} (shape : Members B) (is_key : B → Bool) (said : List �
     pub left : IsDamagedCopy shape is_key said (format_of class) d (memory_state copy)
     pub shows : Shows shape is_key said (format_of class) MemDisk number (memory_state copy) damage
 
--- A device was verified, with this result, which is told.
+-- A device was verified, with this result, which is reported.
 pub record VerifiesOver {C B D : Type 0} (shape : Members B) (is_key : B → Bool) (said : List ℕ → B) (class : Ghosts C B)
     (state : D → Device) (number frames : ℕ) (old new : D) (from to : Outputs) (status : ℕ) : Type 0 where
   pub result : Result Report Refusal

@@ -56,9 +56,9 @@ fn dump_index<D: SectorDisk + Drop, K: ReadKeys + KeyClass<Key = Box2>, W: Write
 /// as `gx_restart::Index::dump` does, and returns the device and the status.
 ///
 /// The status is 0 where the device was opened and the whole text was written. It is 1 in all other cases. Where the
-/// opening is refused `refused N text` is written, and a person told what it means, and of damage where it lies; where
+/// opening is refused `refused N text` is written, and the user told what it means, and of damage where it lies; where
 /// a page is refused while the text is written, that line follows what was written of it. Where the text couldn't be
-/// written, a person is told, unless whoever reads has left.
+/// written, the user is told, unless the reader has left.
 pub fn dump_over<
     D: SectorDisk + Drop,
     K: ReadKeys + KeyClass<Key = Box2> + Probing,

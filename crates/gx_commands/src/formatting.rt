@@ -57,9 +57,9 @@ fn tell_formatted<W: Write, E: Write>(
 /// a node at most, 4 to 100, as `gx_restart::format` does; writes `formatted pages P fanout M`; and returns the
 /// status.
 ///
-/// The status is 0 where both were done. It is 1 where the line couldn't be written, of which a person is told unless
-/// whoever reads has left; the index stands then. It is 1 too where the format was refused, which writes `refused N
-/// text`, and tells a person what that means: `BadParameter` for numbers out of range, `TooSmall` for too few sectors,
+/// The status is 0 where both were done. It is 1 where the line couldn't be written, which is reported to the user
+/// unless the reader has left; the index stands then. It is 1 too where the format was refused, which writes `refused N
+/// text`, and tells the user what that means: `BadParameter` for numbers out of range, `TooSmall` for too few sectors,
 /// `Memory`, and `Device` where a call failed.
 pub fn format_over<D: SectorDisk, K: KeyClass, W: Write, E: Write>(
     alloc: Global,

@@ -1,11 +1,16 @@
 //! What a command of the program does, whatever words ask for it: a script is run on a fresh index in memory; or over a
-//! device: that is formatted, a script is run on the index that it holds, the tree of that is told, or it is verified.
-//! What was refused is told, by a line to whoever reads and by one to a person, and the program's status is answered.
+//! device, or a file: that is formatted, a script is run on the index that it holds, its tree is dumped, or it is
+//! verified. What was refused is told, by a line among the replies and by one to the user, and the program's status is
+//! answered.
 #![tactic(auto)]
 
+mod causes;
+mod damage;
 mod dumping;
+mod files;
 mod formatting;
 pub mod laws;
+mod opener;
 mod opening;
 mod person;
 mod refusals;
@@ -15,8 +20,10 @@ mod verifying;
 mod watched;
 
 pub use dumping::dump_over;
+pub use files::{dump_file, format_file, run_file, verify_file};
 pub use formatting::format_over;
 pub use gx_script::Noted;
+pub use opener::{Access, Opener, Opening};
 pub use person::{SENTENCE, print, tell_fault, tell_person};
 pub use refusals::{print_refusal, refuse};
 pub use running::run_over;

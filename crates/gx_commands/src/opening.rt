@@ -1,13 +1,11 @@
-//! The opening of a device, in one word; and what is told where it is refused.
-ghost use Rattle.std.specs.Prelude.{◌≡◌, ◌≤◌, IfSome, length};
-ghost use Rattle.std.specs.String.{string_bytes};
+//! The opening of a device, in one word; and what is written for the user where it is refused.
 ghost use Rattle.gx_commands.specs.Streams.{outputs_of, stream_of};
-ghost use Rattle.gx_commands.specs.Lines.{damage_sentence};
 ghost use Rattle.gx_commands.specs.Openings.{Opens};
 ghost use Rattle.gx_commands.specs.Refusing.{TellsFound, TellsOpening};
 
 use crate::REFUSED;
-use crate::person::{SENTENCE, tell_person};
+use crate::damage::sentence_of;
+use crate::person::tell_person;
 use crate::refusals::{print_refusal, refuse, tell_refused};
 use gx_class::{KeyClass, Probing};
 use gx_disk::SectorDisk;
@@ -31,32 +29,18 @@ pub(crate) fn opened<D: SectorDisk, K: ReadKeys + KeyClass<Key = Box2> + Probing
     open(alloc, disk, frames)
 }
 
-// The sentence that tells a person of damage, unless it is too long, or there is no memory for it.
-fn sentence_of(alloc: Global, damage: Damage) -> Option<String>
-    ensures words { IfSome result (λ sentence. string_bytes sentence ≡ damage_sentence damage) }
-    ensures short { IfSome result (λ sentence. length (string_bytes sentence) ≤ SENTENCE) }
-{
-    match format!(in alloc; "what the device holds is damaged: {damage}") {
-        Ok(sentence) if sentence.len() <= SENTENCE => Some(sentence),
-        _ => None,
-    }
-}
-
-/// Tells a person of damage, where it was found.
-pub(crate) fn tell_found<E: Write>(alloc: Global, faults: &mut Noted<E>, found: Option<Damage>)
+/// Tells the user of damage, where it was found.
+pub(crate) fn tell_found<E: Write>(faults: &mut Noted<E>, found: Option<Damage>)
     ensures { TellsFound found (stream_of E.contents faults.old) (stream_of E.contents faults.new) }
 {
-    let Some(damage) = found else {
-        return tell_refused(faults, Refusal::Damaged);
-    };
-    match sentence_of(alloc, damage) {
-        Some(sentence) => tell_person(faults, sentence.as_str()),
+    match found {
+        Some(damage) => tell_person(faults, sentence_of(damage).as_str()),
         None => tell_refused(faults, Refusal::Damaged),
     }
 }
 
-/// Writes the line of an opening that was refused, `refused N text`, tells a person what it means, and returns the
-/// device and the status, 1. Where the device is damaged it is examined, and the person is told where: in its log or
+/// Writes the line of an opening that was refused, `refused N text`, tells the user what it means, and returns the
+/// device and the status, 1. Where the device is damaged it is examined, and the user is told where: in its log or
 /// on which page, and which rule is broken there.
 pub(crate) fn refuse_opening<D: SectorDisk + Drop, K: ReadKeys, W: Write, E: Write>(
     alloc: Global,
@@ -72,7 +56,7 @@ pub(crate) fn refuse_opening<D: SectorDisk + Drop, K: ReadKeys, W: Write, E: Wri
     match why {
         Refusal::Damaged => {
             let (disk, found) = examine::<D, K>(alloc, disk);
-            tell_found(alloc, faults, found);
+            tell_found(faults, found);
             print_refusal(writer, why);
             (disk, REFUSED)
         }

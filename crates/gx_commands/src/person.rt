@@ -1,14 +1,16 @@
-//! What a person is told, and what a reader of replies is.
-ghost use Rattle.std.specs.Prelude.{◌≤◌, length};
+//! What the user is told, and what a reader of replies is.
+ghost use Rattle.std.specs.Prelude.{◌≡◌, ◌≤◌, length};
+ghost use Rattle.gx_commands.specs.Lines.{fault_text, named};
 ghost use Rattle.gx_commands.specs.Scripts.{TellsFault};
 ghost use Rattle.gx_commands.specs.Streams.{Prints, TellsPerson, stream_of};
 
+use crate::causes::{fault_text, kind_text, stream_text};
 use arrayvec::ArrayString;
+use gx_disk::DiskFault;
 use gx_script::{Noted, ScriptFault, write_whole};
-use std::fmt::Write as _;
 use std::io::{ErrorKind, Write};
 
-/// The most bytes of a sentence that a person is told.
+/// The most bytes of a sentence that the user is told.
 pub const SENTENCE: usize = 1024;
 
 /// The most bytes of its line, which begins with the program's name.
@@ -21,7 +23,7 @@ pub fn print<W: Write>(writer: &mut Noted<W>, text: &[u8])
     let _ = write_whole(writer, text);
 }
 
-/// Tells a person a sentence of at most 1,024 bytes, on a line that begins with the program's name.
+/// Tells the user a sentence of at most 1,024 bytes, on a line that begins with the program's name.
 pub fn tell_person<E: Write>(faults: &mut Noted<E>, sentence: &str)
     requires { length sentence.now ≤ SENTENCE }
     ensures { TellsPerson sentence.now (stream_of E.contents faults.old) (stream_of E.contents faults.new) }
@@ -33,19 +35,41 @@ pub fn tell_person<E: Write>(faults: &mut Noted<E>, sentence: &str)
     print(faults, line.as_str().as_bytes());
 }
 
-/// Tells a person that reading or writing a script failed, and why, as far as it is known. Whoever reads the replies
+/// Tells the user that reading or writing a script failed, and why, as far as it is known. The reader of the replies
 /// may leave before their end; that is no fault of the program, and nothing is told.
 pub fn tell_fault<E: Write>(faults: &mut Noted<E>, fault: ScriptFault, kind: Option<ErrorKind>)
-    ensures { TellsFault kind (stream_of E.contents faults.old) (stream_of E.contents faults.new) }
+    ensures { TellsFault fault kind (stream_of E.contents faults.old) (stream_of E.contents faults.new) }
 {
     if kind == Some(ErrorKind::BrokenPipe) {
         return;
     }
     let mut sentence = ArrayString::<SENTENCE>::new();
-    // (no sentence on a fault is longer)
-    let _ = match kind {
-        Some(kind) => write!(sentence, "{fault}: {kind}"),
-        None => write!(sentence, "{fault}"),
-    };
+    sentence.push_str(stream_text(fault));
+    if let Some(kind) = kind {
+        sentence.push_str(": ");
+        sentence.push_str(kind_text(kind));
+    }
     tell_person(faults, sentence.as_str());
+}
+
+// That a file can't be opened, or a call of it failed, behind the file's name where that has room.
+fn named(file: &str, fault: DiskFault) -> ArrayString<SENTENCE>
+    ensures { result.bytes ≡ named file.now (fault_text fault) }
+{
+    let why = fault_text(fault);
+    let mut sentence = ArrayString::new();
+    if file.len() <= SENTENCE - 2 - why.len() {
+        sentence.push_str(file);
+        sentence.push_str(": ");
+    }
+    sentence.push_str(why);
+    sentence
+}
+
+/// Tells the user why a file can't be opened, or a call of it failed.
+pub(crate) fn tell_file<E: Write>(faults: &mut Noted<E>, file: &str, fault: DiskFault)
+    ensures { TellsPerson (named file.now (fault_text fault))
+        (stream_of E.contents faults.old) (stream_of E.contents faults.new) }
+{
+    tell_person(faults, named(file, fault).as_str());
 }

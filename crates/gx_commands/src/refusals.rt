@@ -31,7 +31,7 @@ fn line_of(why: Refusal) -> ArrayString<LONGEST>
     line
 }
 
-// What a person is told of a refusal, of which this is the text: of one that comes outside of scripts more than that
+// What the user is told of a refusal, of which this is the text: of one that comes outside of scripts more than that
 // says.
 fn sentence(why: Refusal, text: &str) -> &str
     requires words { text.now ≡ refusal_text why }
@@ -45,7 +45,7 @@ fn sentence(why: Refusal, text: &str) -> &str
         Refusal::Failed => "the device had failed before",
         Refusal::Damaged => "what the device holds is damaged",
         Refusal::NotFormatted => "the device holds no index; it has to be formatted first",
-        Refusal::TooSmall => "the device is too small for the index",
+        Refusal::TooSmall => "the file is shorter than any index, or was cut",
         Refusal::BadParameter => {
             "a number is out of its range, or the index has another kind of keys"
         }
@@ -53,7 +53,7 @@ fn sentence(why: Refusal, text: &str) -> &str
     }
 }
 
-/// Tells a person what a refusal outside of a script means.
+/// Tells the user what a refusal outside of a script means.
 pub(crate) fn tell_refused<E: Write>(faults: &mut Noted<E>, why: Refusal)
     ensures { TellsPerson (sentence_of why) (stream_of E.contents faults.old) (stream_of E.contents faults.new) }
 {
@@ -68,7 +68,7 @@ pub fn print_refusal<W: Write>(writer: &mut Noted<W>, why: Refusal)
     print(writer, line_of(why).as_str().as_bytes());
 }
 
-/// Writes the line of a refusal, `refused N text`, tells a person what it means, and returns the status, 1.
+/// Writes the line of a refusal, `refused N text`, tells the user what it means, and returns the status, 1.
 pub fn refuse<W: Write, E: Write>(writer: &mut Noted<W>, faults: &mut Noted<E>, why: Refusal) -> u8
     ensures { Refuses why (outputs_of W.contents E.contents writer.old faults.old)
         (outputs_of W.contents E.contents writer.new faults.new) result }

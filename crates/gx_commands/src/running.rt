@@ -48,7 +48,7 @@ fn settle_after<
     (index.into_engine().into_disk(), status)
 }
 
-// What follows a script that was read to its end: where a reply told of a fault, a person is told; else the index is
+// What follows a script that was read to its end: where a reply told of a fault, the user is told; else the index is
 // settled. The device is handed back.
 fn end_script<
     D: SectorDisk + Drop,
@@ -99,14 +99,14 @@ fn run_watched<
     }
 }
 
-// Tells a person what stopped a script.
+// Tells the user what stopped a script.
 fn tell_stopped<R: Read, W: Write, E: Write>(
     faults: &mut Noted<E>,
     fault: ScriptFault,
     reader: &Noted<R>,
     writer: &Noted<W>,
 )
-    ensures { TellsFault (kind_of (stream_of R.remaining reader.now) (stream_of W.contents writer.now) fault)
+    ensures { TellsFault fault (kind_of (stream_of R.remaining reader.now) (stream_of W.contents writer.now) fault)
         (stream_of E.contents faults.old) (stream_of E.contents faults.new) }
 {
     let kind = match fault {
@@ -122,9 +122,9 @@ fn tell_stopped<R: Read, W: Write, E: Write>(
 ///
 /// The status is 0 where the device was opened, the script was read to its end, no reply was refused with `Device`,
 /// `Failed` or `Damaged`, and all that was logged is gated. It is 1 in all other cases. Where the opening is refused
-/// nothing is read, and `refused N text` is written, and a person told what it means, and of damage where it lies;
+/// nothing is read, and `refused N text` is written, and the user told what it means, and of damage where it lies;
 /// where the settling behind the script is refused, that line follows the replies. Where a read or a write of the
-/// script failed, or a reply told of a fault, nothing is settled, and a person is told, unless whoever reads the
+/// script failed, or a reply told of a fault, nothing is settled, and the user is told, unless the reader of the
 /// replies has left. Of the device nothing is asked but by the opening, the script's calls and the settling.
 pub fn run_over<
     D: SectorDisk + Drop,

@@ -19,8 +19,8 @@ pub fn refuse_memory<W: Write>(writer: &mut Noted<W>) -> u8
 
 /// Runs a script on a fresh index in memory, writes the index's replies, and returns the status.
 ///
-/// The status is 0 where the script was read to its end; and 1 where a read or a write failed, of which a person is
-/// told unless whoever reads the replies has left, and where memory is refused before the script begins, which writes
+/// The status is 0 where the script was read to its end; and 1 where a read or a write failed, of which the user is
+/// told unless the reader of the replies has left, and where memory is refused before the script begins, which writes
 /// `refused 10 memory`.
 pub fn run_script<R: Read, W: Write, E: Write>(
     alloc: Global,

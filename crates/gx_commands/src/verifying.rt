@@ -84,7 +84,7 @@ fn refuse_verified<K: ReadKeys, W: Write, E: Write>(
     let NotVerified { why, copy } = refused;
     match why {
         Refusal::Damaged => {
-            tell_found(alloc, faults, damage_in::<K>(alloc, copy));
+            tell_found(faults, damage_in::<K>(alloc, copy));
             print_refusal(writer, why);
             REFUSED
         }
@@ -111,8 +111,8 @@ fn verified<D: SectorDisk, K: ReadKeys + KeyClass<Key = Box2> + Probing>(
 /// entries E used U`, and returns the status. Nothing is written to the device.
 ///
 /// The status is 0 where the line was written. It is 1 in all other cases: where the line couldn't be written, of
-/// which a person is told unless whoever reads has left; and where the device isn't verified, which writes `refused N
-/// text`, and tells a person what that means, and of damage where it lies, as it is found in a copy of the device.
+/// which the user is told unless the reader has left; and where the device isn't verified, which writes `refused N
+/// text`, and tells the user what that means, and of damage where it lies, as it is found in a copy of the device.
 pub fn verify_over<D: SectorDisk, K: ReadKeys + KeyClass<Key = Box2> + Probing, W: Write, E: Write>(
     alloc: Global,
     disk: &mut D,

@@ -33,7 +33,7 @@ const NODES: [Node; USED] = [
     (1, 0, 0, &[(4, 5, 6), (5, 7, 9)]),
 ];
 
-/// An image, and where the bytes of each page stand that a restart takes, page 1 first.
+/// An image, and where the bytes of each page are that an opening takes, page 1 first.
 #[derive(Drop)]
 pub(crate) struct Base {
     pub(crate) bytes: Vec<u8>,
@@ -87,7 +87,7 @@ fn page(alloc: Global, class: u16, number: u32, node: Node) -> Result<Page, RunF
     Ok(page)
 }
 
-/// A body's records, and where the images stand that it has of pages.
+/// A body's records, and where its images of pages are.
 #[derive(Drop)]
 pub(crate) struct Body {
     pub(crate) bytes: Vec<u8>,
@@ -177,7 +177,7 @@ impl Body {
     }
 }
 
-/// Lays a body and its open gate, and notes where its images stand.
+/// Writes a body and its open gate, and notes where its images are.
 fn lay_body(base: &mut Base, body: &Body, place: usize) {
     let at = sector(place.saturating_mul(64).saturating_add(40));
     let size = u32::try_from(body.bytes.len()).unwrap_or(0);
@@ -234,7 +234,7 @@ fn bare(alloc: Global, class: u16, pages: &[Page]) -> Result<Base, RunFault> {
     })
 }
 
-/// An image of a class that is drawn: of its log the head alone is gated, or one or two bodies more.
+/// An image of a random class: of its log only the head is gated, or one or two bodies more.
 pub(crate) fn make_base(alloc: Global, class: u16, draw: &mut Pcg32) -> Result<Base, RunFault> {
     let pages = pages(alloc, class)?;
     let mut base = bare(alloc, class, &pages)?;

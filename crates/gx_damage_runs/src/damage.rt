@@ -1,4 +1,4 @@
-//! Damage that is drawn.
+//! Random damage.
 use crate::base::{Base, USED};
 use crate::bytes::{byte, copy, exchange, flip, sector, set};
 use crate::draw::{below, one_in};
@@ -8,13 +8,13 @@ use rand_pcg::Pcg32;
 /// own number.
 const HEAD: [usize; 10] = [1, 3, 5, 7, 15, 18, 19, 23, 25, 31];
 
-/// Where the bytes of a page stand that is drawn.
+/// Where the bytes of a random page are.
 fn place(base: &Base, draw: &mut Pcg32) -> usize {
     let page = below(draw, USED);
     base.places.get(page).copied().unwrap_or(0)
 }
 
-/// Where a slot's bytes end that is drawn, and how many there are.
+/// Where a random slot's bytes end, and how many there are.
 fn item(base: &Base, draw: &mut Pcg32, at: usize) -> (usize, usize) {
     let level = byte(&base.bytes, at.saturating_add(1));
     let size: usize = if level == 0 { 25 } else { 20 };
@@ -55,7 +55,7 @@ fn body(base: &mut Base, draw: &mut Pcg32) {
     flip(&mut base.bytes, at.saturating_add(offset), below(draw, 8));
 }
 
-/// A note of the log's head tells another leaf. The head's counters have 29 bytes, and each note 38, its leaf at the
+/// A note of the log's head names another leaf. The head's counters have 29 bytes, and each note 38, its leaf at the
 /// end.
 fn note(base: &mut Base, draw: &mut Pcg32) {
     let behind = below(draw, 4).saturating_add(1).saturating_mul(38);

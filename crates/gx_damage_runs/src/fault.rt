@@ -11,7 +11,7 @@ use std::io;
 pub(crate) enum RunFault {
     /// No such line is known.
     BadLine,
-    /// Memory lacks.
+    /// Memory was refused.
     Memory,
     /// A line can't be read or written.
     Stream,

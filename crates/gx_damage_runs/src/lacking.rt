@@ -1,5 +1,5 @@
-//! Events of an engine between two marks, of which whoever is loaded in front of the C library knows that no memory is
-//! to be had there (`bench/refuse_memory.c`). By itself nothing is refused.
+//! Events of an engine between two marks, between which a library that is loaded before the C library refuses memory
+//! (`bench/refuse_memory.c`). Without that library nothing is refused.
 use crate::draw::{below, one_in};
 use crate::fault::RunFault;
 use crate::opened::FRAMES;
@@ -23,7 +23,7 @@ const CALLS: usize = 20_000;
 
 const SECTORS: usize = 200_000;
 
-/// The bytes of the allocation from which on memory lacks, and of the one up to which it does.
+/// The bytes of the allocation from which on memory is refused, and of the one up to which it is.
 const FROM_HERE: usize = 1_000_003;
 
 const UP_TO_HERE: usize = 1_000_033;
@@ -38,7 +38,7 @@ enum At {
     Ending,
 }
 
-/// How often events of a kind were refused for want of memory.
+/// How often events of a kind were refused memory.
 #[derive(Clone, Copy, Default)]
 pub(crate) struct Lacked {
     asks: u64,
@@ -74,7 +74,7 @@ struct Lacking {
     lacked: Lacked,
 }
 
-/// Whether an event was refused for want of memory.
+/// Whether an event was refused memory.
 fn lacks(outcome: &Outcome<Box2>) -> bool {
     matches!(
         outcome,
@@ -162,7 +162,7 @@ impl Lacking {
         Ok(())
     }
 
-    /// The flusher's event that is drawn.
+    /// A random event of the flusher.
     fn draw_flush(&mut self, draw: &mut Pcg32) -> Event<Box2> {
         match below(draw, 4) {
             0 => Event::LogStep,
@@ -175,7 +175,7 @@ impl Lacking {
         }
     }
 
-    /// An event that is drawn.
+    /// A random event.
     fn draw(&mut self, draw: &mut Pcg32) -> Result<(), RunFault> {
         if one_in(draw, 6) {
             let event = self.draw_flush(draw);
@@ -218,8 +218,8 @@ fn helping(need: Need) -> Event<Box2> {
     }
 }
 
-/// Draws so many events of a new index, of eight sessions and of the flusher, settles it, and says how often memory
-/// lacked.
+/// Makes so many random events of a new index, of eight sessions and of the flusher, settles it, and says how often
+/// memory lacked.
 pub(crate) fn run_lacking(alloc: Global, seed: u64, events: u64) -> Result<Lacked, RunFault> {
     let sectors = (PAGES as usize).saturating_mul(8).saturating_add(4168);
     let mut disk = MemDisk::new(alloc, sectors)?;

@@ -17,7 +17,7 @@ use std::fs::{File, Files};
 /// How many entries a node has at most.
 pub(crate) const MOST: usize = 100;
 
-/// How many bodies of the log have pages, and how many each: at most 217 pages stand in a log.
+/// How many bodies of the log have pages, and how many each: a log has at most 217 pages.
 const BODIES: usize = 31;
 
 const IN_BODY: usize = 7;
@@ -78,7 +78,7 @@ fn insert(tree: &mut Tree, entry: &Entry<Box2>, keys: &mut [Box2; MOST]) -> Resu
     Err(RunFault::Unexpected)
 }
 
-/// A tree of so many boxes that are drawn.
+/// A tree of so many random boxes.
 fn draw_tree(alloc: Global, pairs: u64) -> Result<Tree, RunFault> {
     let room = usize::try_from(pairs / 40).unwrap_or(0).saturating_add(64);
     let mut tree = fresh_tree(alloc, room)?;
@@ -167,7 +167,7 @@ fn image(alloc: Global, tree: &Tree) -> Result<Vec<u8>, RunFault> {
     Ok(bytes)
 }
 
-/// Makes a file with a tree of so many boxes and its log. Answers how many pages it has.
+/// Makes a file with a tree of so many boxes and its log. Returns how many pages it has.
 pub(crate) fn make<R: AllocGlobal + Files<File = File>>(
     rt: &R,
     path: &str,

@@ -2,18 +2,18 @@
 //! and verifies or isn't just so; what is said of it is found there, and what opens is a sound image of the same set.
 //!
 //! A line of `stdin` asks for one thing, and what came of it is printed behind it. `boxes SEED IMAGES` and `intervals
-//! SEED IMAGES` draw images of an index of nine rows. `new PAGES MOST` begins the life of an index of boxes. A line
-//! that begins with a digit is one of a script; `stop` opens the index, runs the script since the last stop, and
-//! keeps the image that it leaves then. `moments SEED IMAGES` draws one of these, with bytes changed, sectors
-//! exchanged, and sectors of other moments. `byte SECTOR BYTE VALUE`, the last in hexadecimal, changes a byte of a
-//! new index of 16 pages with 4 entries a node; `zero SECTOR` a sector, `cut SECTORS` the number of sectors, and
-//! `frames FRAMES` nothing but with how many frames it is opened. `lacking SEED EVENTS` draws events of an index,
-//! each of them between two marks, and settles it; how often memory was refused is printed. `make PATH PAIRS` makes a
-//! file with a tree of so many boxes, `open PATH` makes an opening's tests of it, and `remove PATH` removes it; each
-//! prints how many pages are in use then.
+//! SEED IMAGES` make random images of an index of nine rows. `new PAGES MOST` begins the life of an index of boxes. A
+//! line that begins with a digit is one of a script; `stop` opens the index, runs the script since the last stop, and
+//! keeps the image that it leaves then. `moments SEED IMAGES` takes random ones of these, with bytes changed, sectors
+//! exchanged, and sectors of other moments. `byte SECTOR BYTE VALUE`, the last in hexadecimal, changes a byte of a new
+//! index of 16 pages with 4 entries a node; `zero SECTOR` a sector, `cut SECTORS` the number of sectors, and `frames
+//! FRAMES` nothing but with how many frames it is opened. `lacking SEED EVENTS` makes random events of an index, each
+//! of them between two marks, and settles it; how often memory was refused is printed. `make PATH PAIRS` makes a file
+//! with a tree of so many boxes, `open PATH` makes an opening's tests of it, and `remove PATH` removes it; each prints
+//! how many pages are in use then.
 //!
-//! An empty line, and one that begins with `#`, is printed as it stands. The program ends at the first image on which
-//! the two differ, with status 1.
+//! An empty line, and one that begins with `#`, is printed unchanged. The program ends at the first image on which the
+//! two differ, with status 1.
 #![tactic(auto)]
 
 mod base;
@@ -55,7 +55,7 @@ struct Runs {
     script: Vec<u8>,
 }
 
-/// What images are drawn of.
+/// What random images are made of.
 #[derive(Clone, Copy)]
 enum Kind {
     Boxes,
@@ -64,7 +64,7 @@ enum Kind {
 }
 
 impl Kind {
-    /// What draws images of this kind by a seed. Seeds that are near each other, and kinds, draw nothing alike.
+    /// What makes random images of this kind by a seed. Near seeds, and different kinds, give unrelated images.
     fn draws(self, seed: u64) -> Pcg32 {
         let kind = match self {
             Kind::Boxes => 0,
@@ -81,7 +81,7 @@ pub(crate) fn number(words: &mut SplitWhitespace<'_>) -> Result<u64, RunFault> {
     word.parse::<u64>().ok().ok_or(RunFault::BadLine)
 }
 
-/// Draws an image, and answers what came of it, where an opening, the verification and the plain reader agree.
+/// Makes a random image, and returns what came of it, where an opening, the verification and the plain reader agree.
 fn take_image(
     alloc: Global,
     life: &Life,
@@ -103,7 +103,7 @@ fn take_image(
     }
 }
 
-/// Draws the images of a line. Answers whether both agreed on all.
+/// Makes the random images of a line. Returns whether both agreed on all.
 fn take_images(
     rt: &HostRuntime,
     life: &Life,
@@ -125,7 +125,7 @@ fn take_images(
     Ok(true)
 }
 
-/// Makes a file with a large tree, opens one or removes one. Answers how many pages it has in use.
+/// Makes a file with a large tree, opens one or removes one. Returns how many pages it has in use.
 fn take_large(
     rt: &HostRuntime,
     asked: &str,
@@ -162,7 +162,7 @@ impl Runs {
         Ok(())
     }
 
-    /// Takes a line that asks for something, and answers whether all agreed.
+    /// Takes a line that asks for something, and returns whether all agreed.
     fn take_words(&mut self, rt: &HostRuntime, line: &str) -> Result<bool, RunFault> {
         let mut words = line.split_whitespace();
         let asked = words.next().ok_or(RunFault::BadLine)?;
@@ -185,7 +185,7 @@ impl Runs {
         take_images(rt, &self.life, kind, &mut words)
     }
 
-    /// Takes a line, and answers whether all agreed.
+    /// Takes a line, and returns whether all agreed.
     fn take_line(&mut self, rt: &HostRuntime, line: &str) -> Result<bool, RunFault> {
         match line.as_bytes() {
             [] | [b'#', ..] => println!(rt; "{line}")?,
@@ -208,7 +208,7 @@ impl Runs {
     }
 }
 
-/// Changes a new index as a line says, and tells what comes of it.
+/// Changes a new index as a line says, and prints what comes of it.
 fn take_changed(
     rt: &HostRuntime,
     asked: &str,
@@ -224,7 +224,7 @@ fn take_changed(
     Ok(true)
 }
 
-/// Takes each line of the input. Answers whether all agreed.
+/// Takes each line of the input. Returns whether all agreed.
 fn run(rt: &HostRuntime) -> Result<bool, RunFault> {
     let mut runs = Runs {
         life: Life::new(rt.alloc()),

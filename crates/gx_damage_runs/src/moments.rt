@@ -102,13 +102,13 @@ impl Life {
         self.keep(bytes_of(alloc, &mut disk)?)
     }
 
-    /// Draws one of the moments' images.
+    /// Takes a random one of the moments' images.
     fn draw(&self, draw: &mut Pcg32) -> Result<&[u8], RunFault> {
         let place = below(draw, self.images.len());
         Ok(self.images.get(place).ok_or(RunFault::BadLine)?)
     }
 
-    /// Draws a sector that holds something.
+    /// Takes a random sector that holds something.
     fn place(&self, draw: &mut Pcg32) -> usize {
         let list = if one_in(draw, 2) {
             &self.sectors
@@ -131,7 +131,7 @@ impl Life {
         Ok(())
     }
 
-    /// Draws an image, and changes it in one to four places.
+    /// Takes a random image, and changes it in one to four places.
     pub(crate) fn damaged(&self, alloc: Global, draw: &mut Pcg32) -> Result<Vec<u8>, RunFault> {
         let mut image = Vec::new(alloc);
         image.extend_from_slice(self.draw(draw)?)?;

@@ -138,7 +138,7 @@ fn open_damaged<K: ReadKeys + Probing>(
     }
 }
 
-/// Opens an image, verifies it, and answers what came of it; nothing where the plain reader finds another thing. It
+/// Opens an image, verifies it, and returns what came of it; nothing where the plain reader finds another thing. It
 /// opens exactly where that finds nothing wrong, and then has the same number and leaves a sound image of the same
 /// set. Else it is refused with the number of the damage, and what is said of it is found there. It verifies exactly
 /// where it opens, with what is read of it.

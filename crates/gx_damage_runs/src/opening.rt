@@ -5,7 +5,7 @@ use gx_disk::FileDisk;
 use gx_opening::find;
 use std::fs::{File, Files};
 
-/// Reads the log of a file, lays its pages, and tests the tree. Answers how many pages are in use.
+/// Reads the log of a file, lays its pages, and tests the tree. Returns how many pages are in use.
 pub(crate) fn open<R: AllocGlobal + Files<File = File>>(
     rt: &R,
     path: &str,

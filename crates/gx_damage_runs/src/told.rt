@@ -1,5 +1,5 @@
-//! What the program says of a device on which one thing was changed: the line of its refusal, and the sentence that a
-//! person reads.
+//! What the program says of a device on which one thing was changed: the line of its refusal, and the sentence that the
+//! user reads.
 use crate::device::device;
 use crate::fault::RunFault;
 use gx_class::Box2Class;
@@ -8,7 +8,7 @@ use gx_disk::MemDisk;
 use gx_restart::{Noted, open};
 use std::alloc::Global;
 
-/// What a command wrote of its replies, and to a person.
+/// What a command wrote of its replies, and to the user.
 #[derive(Drop)]
 struct Written {
     replies: Vec<u8>,
@@ -35,7 +35,7 @@ fn run(alloc: Global, bytes: &[u8], frames: usize) -> Result<Written, RunFault> 
     })
 }
 
-/// What is written as the tree is told.
+/// What a dump of the tree writes.
 fn dump(alloc: Global, bytes: &[u8], frames: usize) -> Result<Written, RunFault> {
     let mut writer = Noted::new(Vec::new(alloc));
     let mut faults = Noted::new(Vec::new(alloc));
@@ -72,14 +72,14 @@ fn verify(alloc: Global, bytes: &[u8], frames: usize) -> Result<Written, RunFaul
 }
 
 impl Written {
-    /// Whether it is this line, and told a person the same as another.
+    /// Whether it is this line, with the same sentence for the user as another.
     fn is(&self, line: &str, other: &Written) -> bool {
         self.replies.as_slice() == line.as_bytes()
             && self.sentence.as_slice() == other.sentence.as_slice()
     }
 }
 
-/// The text of a refusal and of its sentence, where all commands that open the device tell the same.
+/// The text of a refusal and of its sentence, where all commands that open the device print the same.
 fn refused(
     alloc: Global,
     bytes: &[u8],
@@ -103,7 +103,7 @@ fn refused(
     }
 }
 
-/// Opens a device with these bytes, and says what came of it: so many commits, or how it is refused, and what a person
+/// Opens a device with these bytes, and says what came of it: so many commits, or how it is refused, and what the user
 /// reads then. Nothing where the commands that open it differ.
 pub(crate) fn tell_opening(
     alloc: Global,

@@ -69,7 +69,7 @@ impl Case {
         Ok(())
     }
 
-    /// Makes the calls, each of which is made or fails as it is to.
+    /// Makes the calls, each of which is made or fails by the case.
     fn make_all(self, logged: &mut Logged) -> Result<(), RunFault> {
         let Logged { disk, log } = logged;
         for call in 0..self.calls {
@@ -89,7 +89,7 @@ impl Case {
         log_of(alloc, &mut logged.disk)
     }
 
-    /// The same on a device of its own.
+    /// The same on another device.
     fn seen(self, alloc: Global) -> Result<Seen, RunFault> {
         let mut logged = Logged::new(alloc, 4232)?;
         self.run(alloc, &mut logged)

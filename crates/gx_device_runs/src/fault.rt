@@ -10,7 +10,7 @@ use std::io;
 pub(crate) enum RunFault {
     /// No such line is known, or what it asks for isn't there.
     BadLine,
-    /// Memory lacks.
+    /// Memory was refused.
     Memory,
     /// A line can't be read or written.
     Stream,

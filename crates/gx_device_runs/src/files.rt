@@ -34,12 +34,43 @@ fn say_file<R: Print>(rt: &R, disk: Result<FileDisk, DiskFault>) -> Result<(), R
     }
 }
 
-/// Writes and syncs sector 2 of a file that is created with four sectors, and answers why it can't be opened besides.
+/// Writes and syncs sector 2 of a file that is created with four sectors, and returns why it can't be opened besides.
 fn write_file(rt: &HostRuntime) -> Result<Option<DiskFault>, DiskFault> {
     let mut disk = FileDisk::create(rt, FILE, 4)?;
     write(&mut disk, 2, &[0xc3; 512])?;
     disk.sync()?;
     Ok(FileDisk::open(rt, FILE).err())
+}
+
+/// Opens the file twice for reading, and answers what a write, a sync and an opening for writing are then.
+fn share_file(rt: &HostRuntime) -> Result<[&'static str; 3], DiskFault> {
+    let mut disk = FileDisk::open_to_read(rt, FILE)?;
+    let _other = FileDisk::open_to_read(rt, FILE)?;
+    let besides = match FileDisk::open(rt, FILE) {
+        Ok(_) => "opened besides",
+        Err(fault) => word_of(Err(fault)),
+    };
+    Ok([
+        word_of(write(&mut disk, 2, &[0xd4; 512])),
+        word_of(disk.sync()),
+        besides,
+    ])
+}
+
+/// Prints three words.
+fn say_three<R: Print>(rt: &R, words: [&str; 3]) -> Result<(), RunFault> {
+    let [one, two, three] = words;
+    say_parts(
+        rt,
+        &[
+            Part::Text(" "),
+            Part::Text(one),
+            Part::Text(", "),
+            Part::Text(two),
+            Part::Text(", "),
+            Part::Text(three),
+        ],
+    )
 }
 
 /// A line about the file.
@@ -51,6 +82,10 @@ pub(crate) fn call(rt: &HostRuntime, words: &mut SplitWhitespace<'_>) -> Result<
             Err(_) => say(rt, "not written"),
         },
         "open" => say_file(rt, FileDisk::open(rt, FILE)),
+        "share" => match share_file(rt) {
+            Ok(words) => say_three(rt, words),
+            Err(fault) => say(rt, word_of(Err(fault))),
+        },
         "create" => say_file(rt, FileDisk::create(rt, FILE, number(words)?)),
         "remove" => {
             std::fs::remove_file(rt, FILE)?;

@@ -138,7 +138,7 @@ pub(crate) fn put_head(log: &mut Glog, n: u64) -> Result<Appended, RunFault> {
     Ok(log.put_first(&counters))
 }
 
-/// Puts so many commits into the log, and answers how many went with the batch of the next place.
+/// Puts so many commits into the log, and returns how many went with the batch of the next place.
 fn fill(log: &mut Glog, records: u64) -> Result<u64, RunFault> {
     let next = Appended::At(u64::from(log.used()));
     let mut filled = 0_u64;

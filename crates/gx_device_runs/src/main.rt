@@ -1,7 +1,7 @@
-//! What stands on a device below the engine, by public calls, a line of `stdin` each, with what is answered behind it:
-//! devices, records, frames, the log, scans of nodes, and runs of the storage that are drawn.
+//! The layers below the engine, by public calls, a line of `stdin` each, with the answer behind it: devices, records,
+//! frames, the log, scans of nodes, and random runs of the storage.
 //!
-//! An empty line, and one that begins with `#`, is printed as it stands. The first word of any other names what it is
+//! An empty line, and one that begins with `#`, is printed unchanged. The first word of any other names what it is
 //! about; a line that can't be done ends the program, with status 1.
 #![tactic(auto)]
 

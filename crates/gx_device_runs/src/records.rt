@@ -134,7 +134,7 @@ struct Written {
     after: Mark,
 }
 
-/// A write that leaves a leaf as it is.
+/// A write that doesn't change its leaf.
 fn spell_write<R: Print>(
     rt: &R,
     text: &mut [u8],

@@ -66,7 +66,7 @@ fn found_on(pages: &Pages, boxes: &Boxes, kind: Kind) -> Option<Found> {
 }
 
 /// All queries of a kind on pages with all boxes, so many on each. `None` where a scan and the filter differ, and where
-/// memory lacks.
+/// memory is refused.
 fn found_on_pages(alloc: Global, kind: Kind, count: usize) -> Option<Found> {
     let boxes = Boxes::new();
     let mut all = Found::NONE;

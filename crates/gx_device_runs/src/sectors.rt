@@ -2,6 +2,7 @@
 use crate::fault::RunFault;
 use crate::words::{Part, byte, number, say, say_bytes, say_number, say_parts, word};
 use gx_disk::{DiskFault, SectorDisk};
+use std::io::ErrorKind;
 use std::str::SplitWhitespace;
 
 /// What a call answers, as a word.
@@ -10,8 +11,10 @@ pub(crate) fn word_of(answer: Result<(), DiskFault>) -> &'static str {
         Ok(()) => "done",
         Err(DiskFault::Memory) => "memory",
         Err(DiskFault::Fuse) => "fuse",
-        Err(DiskFault::File) => "file",
+        Err(DiskFault::File(ErrorKind::NotFound)) => "not found",
+        Err(DiskFault::File(_) | DiskFault::InputOutput) => "file",
         Err(DiskFault::InUse) => "in use",
+        Err(DiskFault::ReadOnly) => "read only",
     }
 }
 
@@ -22,7 +25,7 @@ pub(crate) fn write<D: SectorDisk>(
     bytes: &[u8; 512],
 ) -> Result<(), DiskFault> {
     if sector >= disk.sectors() {
-        return Err(DiskFault::File);
+        return Err(DiskFault::File(ErrorKind::InvalidInput));
     }
     disk.write(sector, bytes)
 }

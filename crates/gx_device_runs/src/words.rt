@@ -59,7 +59,7 @@ pub(crate) fn byte(word: &str) -> Result<u8, RunFault> {
 /// A part of an answer.
 #[derive(Clone, Copy)]
 pub(crate) enum Part<'a> {
-    /// A text as it stands.
+    /// A text, unchanged.
     Text(&'a str),
     /// A number, with a space before it.
     Number(u64),

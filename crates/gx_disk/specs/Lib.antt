@@ -1,5 +1,6 @@
 pub mod Crash
 pub mod Device
+pub mod Files
 pub mod Fuse
 pub mod Laws
 pub mod Looks

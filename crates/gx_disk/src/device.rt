@@ -4,6 +4,7 @@ ghost use Rattle.gx_disk.specs.Sectors.{IsSpan};
 ghost use Rattle.gx_disk.specs.Device.{Device, MayLeave, Counts, Reads, Writes, Syncs};
 
 use gx_geom::Refusal;
+use std::io::ErrorKind;
 
 /// How many bytes a sector has.
 pub const SECTOR_SIZE: usize = 512;
@@ -15,10 +16,15 @@ pub enum DiskFault {
     Memory,
     /// The call was made to fail, in a test.
     Fuse,
-    /// The system refused a call on the file, or the file is shorter than it was.
-    File,
+    /// The system refused a call on the file, with an error of this kind. It is `UnexpectedEof` where the file is
+    /// shorter than it was.
+    File(ErrorKind),
+    /// The system met an input or output error, for which `ErrorKind` has no name.
+    InputOutput,
     /// Another opener has the file.
     InUse,
+    /// The file was opened for reading alone.
+    ReadOnly,
 }
 
 /// Whatever calls a device is refused with `Device` where that failed.

@@ -1,4 +1,4 @@
--- The bodies of a log, told one by one: two cuts of the same bytes into bodies are two logs, and one may be damaged.
+-- The bodies of a log, read one by one: two cuts of the same bytes into bodies are two logs, and one may be damaged.
 use Rattle.std.specs.Prelude.{ℕ, List, [], ◌∷◌}
 use Rattle.gx_recovery.specs.Records.{Record}
 use Rattle.gx_durable.specs.Spelled.{Reading, AreRecords}

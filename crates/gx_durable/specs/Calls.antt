@@ -1,4 +1,4 @@
--- What each call of a log and a pool keeps and tells.
+-- What each call of a log and a pool keeps and returns.
 use Rattle.std.specs.Prelude.{◌≡◌, ℕ, Bool, true, List, Result}
 use Rattle.gx_geom.specs.declared.refusal.Refusal.{Refusal}
 use Rattle.gx_disk.specs.Device.{Device}

@@ -1,4 +1,4 @@
--- What a log is told of a class of keys, and how its bytes are read.
+-- What a log knows of a class of keys, and how its bytes are read.
 use Rattle.std.specs.Prelude.{ℕ, ◌==◌, if◌then◌else◌, Bool, List, []}
 use Rattle.gx_machine.specs.declared.entry.Entry.{Entry}
 use Rattle.gx_machine.specs.Keys.{Members, keys_of}
@@ -62,7 +62,7 @@ reading_of said f = record {
   fits = λ page content. (pages : ℕ) × IsPassing (is_node f pages) page content.bytes;
 }
 
--- what a log is told of a class of keys within an index's limits, and how its bytes are read
+-- what a log knows of a class of keys within an index's limits, and how its bytes are read
 abbrev pub known_at : {B : Type 0} → Members B → (B → Bool) → Limits → Known (Entry B) (Page B)
 known_at shape is_key limits = known_of (class_of shape is_key limits)
 

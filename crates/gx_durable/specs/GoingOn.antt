@@ -1,4 +1,4 @@
--- A log that was found goes on where it stands, once its later gates are closed.
+-- A log that was found goes on there, once its later gates are closed.
 use Rattle.std.specs.Prelude.{◌≡◌, ℕ, ◌+◌, ◌*◌, ◌<◌, ◌≤◌, Bool, true, false, List, length, None, Result, OnOk}
 use Rattle.gx_geom.specs.declared.refusal.Refusal.{Refusal}
 use Rattle.gx_disk.specs.declared.layout.TheConstants.{PAGES_AT}
@@ -59,7 +59,7 @@ abbrev pub FoundIsUp : {E P : Type 0} → Known E P → Reading E P → Type 0
 FoundIsUp {E} {P} k r = (sectors : ℕ) (seen : List ℕ) (pending : ℕ → Bool) (bodies : List (List (Record E P))) → IsFoundGood k r sectors seen pending bodies → HasNoLater seen pending
     → Up k r (found_glog seen) sectors seen pending bodies (found_state k r seen bodies)
 
--- A pool that begins behind so many gated batches: nothing is kept, and it was told of the last of them.
+-- A pool that begins behind so many gated batches: nothing is kept, and it knows the last of them.
 pub record BeginsBehind (frames : State) (gated : ℕ) : Type 0 where
   pub empty : (p : ℕ) → kept frames p ≡ None
   pub told : frames.gated + 1 ≡ gated
@@ -81,7 +81,7 @@ abbrev pub SameLogStands : {E P : Type 0} → Known E P → Reading E P → Type
 SameLogStands {E} {P} k r = IsLawful k → (sectors : ℕ) (seen : List ℕ) (pending : ℕ → Bool) (bodies : List (List (Record E P))) (image : List ℕ) → IsFoundGood k r sectors seen pending bodies
     → head_in image ≡ head_in seen → open_bodies image ≡ open_bodies seen → HasSizes image → ((s : ℕ) → PAGES_AT ≤ s → sector_of image s ≡ sector_of seen s) → Stands k r (found_state k r seen bodies) image
 
--- a device on which the same log stands, over the same pages, with no later gate open
+-- a device that has the same log, over the same pages, with no later gate open
 pub record IsClosedFound {E P : Type 0} (k : Known E P) (r : Reading E P) (d e : Device) (bodies : List (List (Record E P))) : Type 0 where
   pub found : IsFoundGood k r e.sectors e.seen e.pending bodies
   pub closed : HasNoLater e.seen e.pending

@@ -12,12 +12,12 @@ use Rattle.gx_recovery.specs.Logged.{Logged, kept}
 use Rattle.gx_durable.specs.Spelled.{Reading}
 use Rattle.gx_durable.specs.Standing.{Stands}
 
--- a page of an image: what the log gives of it, and of a page that it doesn't give what stands in the page area
+-- a page of an image: what the log gives of it, or, if it gives nothing, what the page area has
 abbrev pub page_in : {E P : Type 0} → Reading E P → List (Record E P) → List ℕ → ℕ → P
 page_in r log image p = unwrap_or (given p log) (r.content (bytes_of image p))
 
--- A tree is that of an image with this log: it has the numbers that the log tells, and the image's pages up to those in use. No
--- more is said of it, whatever it has as other pages.
+-- A tree is that of an image with this log: it has the numbers that the log says, and the image's pages up to those in
+-- use. No more is said of it, whatever it has as other pages.
 pub record IsTreeOf {E P : Type 0} (k : Known E P) (r : Reading E P) (log : List (Record E P)) (image : List ℕ) (t : Tree P) : Type 0 where
   pub counter : t.counter ≡ (analysis k log).counter
   pub used : t.used ≡ (analysis k log).used

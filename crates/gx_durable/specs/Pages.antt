@@ -1,4 +1,4 @@
--- What a page's write keeps and tells.
+-- What a page's write keeps and returns.
 use Rattle.std.specs.Prelude.{◌≡◌, ℕ, true, List}
 use Rattle.gx_disk.specs.Device.{Device}
 use Rattle.gx_glog.specs.declared.stage.Turn.TheVariants.{Closed}

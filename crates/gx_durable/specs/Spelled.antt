@@ -7,9 +7,9 @@ use Rattle.gx_record.specs.Format.{spellings, IsRecord}
 use Rattle.gx_recovery.specs.Records.{Image, Change, Whole, Small, Record, Pages, Adjust, Write, Commit, End, Counters, Note}
 use Rattle.gx_durable.specs.Small.{PageChange, SetMark, AddPair, SetKey, RemoveSlots}
 
--- How bytes are read: how many bytes a key has; the entry of a row and a key's bytes; the content of a page's 4,096 bytes;
--- what a small record's change is of such a content; what stands for a page that the device doesn't have; and which contents
--- can be read as the page of a number.
+-- How bytes are read: how many bytes a key has; the entry of a row and a key's bytes; the content of a page's 4,096
+-- bytes; what a small record's change is of such a content; what is taken for a page that the device doesn't have; and
+-- which contents can be read as the page of a number.
 pub record Reading (E P : Type 0) : Type 1 where
   pub key : ℕ
   pub entry : ℕ → List ℕ → E

@@ -5,7 +5,7 @@ use Rattle.gx_pool.specs.State.{State, kept, stamp_of}
 use Rattle.gx_recovery.specs.Logged.{Logged, all_records}
 use Rattle.gx_durable.specs.Area.{is_given}
 
--- A pool has been told of each batch that is gated, and of no other; and of each dirty page whose stamp is the place of a batch that
+-- A pool knows each batch that is gated, and no other; and of each dirty page whose stamp is the place of a batch that
 -- began, that batch or one before gives it. So a page that may be written is one that gated records give.
 pub record Stamped {E P : Type 0} (log : Log) (frames : State) (s : Logged E P) : Type 0 where
   pub behind : frames.gated + 1 ≡ log.gated
@@ -17,7 +17,7 @@ pub record Stamped {E P : Type 0} (log : Log) (frames : State) (s : Logged E P) 
 abbrev pub AllSaid : {E P : Type 0} → State → Logged E P → Type 0
 AllSaid frames s = (p place : ℕ) → stamp_of (kept frames p) ≡ Some place → is_given (all_records s) p ≡ true
 
--- The same but for pages that were changed, whose record isn't appended yet.
+-- The same except for pages that were changed, whose record isn't appended yet.
 abbrev pub SaidBut : {E P : Type 0} → (ℕ → Bool) → State → Logged E P → Type 0
 SaidBut changed frames s = (p place : ℕ) → stamp_of (kept frames p) ≡ Some place → changed p ≡ false → is_given (all_records s) p ≡ true
 

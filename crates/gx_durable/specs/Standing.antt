@@ -19,7 +19,7 @@ use Rattle.gx_durable.specs.Area.{area_of, HasPages, is_given, IsSettledBut}
 use Rattle.gx_durable.specs.Fitting.{AllFit, HasSizes, PagesFit}
 use Rattle.gx_durable.specs.Head.{HasHead, head_in}
 
--- the bytes of the batch in flight: while there is none, what stands there is a head
+-- the bytes of the batch in flight: while there is none, its buffer has a head
 abbrev pub batch_of : Stage → List ℕ → List ℕ
 batch_of Idle flight = []
 batch_of Body flight = flight
@@ -34,8 +34,8 @@ pub record Tells {E P : Type 0} (r : Reading E P) (log : Log) (seen : List ℕ) 
   pub flight : AreRecords r (batch_of log.stage log.flight) s.flight
   pub filling : AreRecords r log.filling s.filling
 
--- A turn may be under way with this head: nothing is in flight or fills, each page is written and settled, and the head is the
--- renewed log, with a next transaction's number that covers what the log tells.
+-- A turn may be under way with this head: nothing is in flight or fills, each page is written and settled, and the head
+-- is the renewed log, with a next transaction's number that covers what the log says.
 pub record MayRenew {E P : Type 0} (k : Known E P) (r : Reading E P) (head : List ℕ) (sectors : ℕ) (pending : ℕ → Bool) (s : Logged E P) : Type 0 where
   pub no_flight : s.flight ≡ []
   pub no_filling : s.filling ≡ []

@@ -46,7 +46,7 @@ bodies_stepped (Ok Gate) bodies s = bodies
 bodies_stepped (Ok Idle) bodies s = bodies
 bodies_stepped (Err refusal) bodies s = bodies
 
--- what a pool is told after a step, by how many places are taken: the last one's batch is gated once its gate is synced
+-- what a pool learns after a step, by how many places are taken: the last one's batch is gated once its gate is synced
 abbrev pub told : Stage → ℕ → State → State
 told GateSync used frames = record frames { gated = used - 1 }
 told Body used frames = frames

@@ -1,4 +1,4 @@
--- What the calls of a turn to the other extent keep and tell.
+-- What the calls of a turn to the other extent keep and return.
 use Rattle.std.specs.Prelude.{◌≡◌, ℕ, Bool, true, List, [], ◌∷◌, ◌++◌, Result, Ok, Err}
 use Rattle.gx_geom.specs.declared.refusal.Refusal.{Refusal}
 use Rattle.gx_disk.specs.Device.{Device}
@@ -31,7 +31,7 @@ abbrev pub HeadStaysUp : {E P : Type 0} → Known E P → Reading E P → Log �
 HeadStaysUp {E} {P} k r old new = (sectors : ℕ) (seen : List ℕ) (pending : ℕ → Bool) (bodies : List (List (Record E P))) (s : Logged E P)
     → Up k r old sectors seen pending bodies s → Up k r new sectors seen pending bodies s
 
--- what a pool is told after a turn's call: after the last one the log goes on behind batch 0
+-- what a pool learns after a turn's call: after the last one the log goes on behind batch 0
 abbrev pub told_turn : Turn → State → State
 told_turn turn.Done frames = record frames { gated = 0 }
 told_turn turn.Closed frames = frames

@@ -22,7 +22,7 @@ use gx_glog::{Appended, Glog, Stage};
 use gx_pool::{PageTest, Pool};
 use gx_record::Record;
 
-/// Puts a record that may come into the log's filling buffer, and answers the place of its batch. Nothing is written to
+/// Puts a record that may come into the log's filling buffer, and returns the place of its batch. Nothing is written to
 /// the device. `NoRoom` where the log has none for it; nothing then changes.
 pub fn append<M: Spelled>(log: &mut Glog, logged: &Record<'_>) -> Appended
     requires in_range { IsInRange (rec_of logged.now) }
@@ -46,13 +46,13 @@ fn tell_pool<T: PageTest>(pool: &mut Pool<T>, stage: Stage, used: u8)
     }
 }
 
-/// Makes the log's next device call, and tells the pool of a batch whose gate is synced. Answers which call it was, and
-/// Idle where nothing is logged and none was made.
-/// Refused where the device call fails (`Device`); it is then still due.
+/// Makes the log's next device call; once a gate is synced the pool learns of its batch. Returns which call it was, and
+/// Idle where nothing is logged and none was made. Refused where the device call fails (`Device`); it is then still
+/// due.
 ///
 /// Of an honest device: the batch that filled is in flight from its first call on, and its commits are durable from its
-/// gate's sync on, and not before. Whether it succeeds or not, each page is left as the device has it, no set changes,
-/// and at each moment what a crash may leave stands for a kept set of the state before.
+/// gate's sync on, and not before. Whether it succeeds or not, no page of the device changes, no set changes, and at
+/// each moment what a crash may leave stands for a kept set of the state before.
 pub fn log_step<M: Spelled, T: PageTest, D: SectorDisk>(
     log: &mut Glog,
     pool: &mut Pool<T>,
@@ -74,8 +74,8 @@ pub fn log_step<M: Spelled, T: PageTest, D: SectorDisk>(
     Ok(stage)
 }
 
-/// Settles all that was written. Whether it succeeds or not, each page is left as the device has it, the log stays up,
-/// and at each moment what a crash may leave stands for a kept set. Refused where the device call fails (`Device`).
+/// Settles all that was written. Whether it succeeds or not, no page of the device changes, the log stays up, and at
+/// each moment what a crash may leave stands for a kept set. Refused where the device call fails (`Device`).
 pub fn sync<M: Spelled, D: SectorDisk>(disk: &mut D) -> Result<(), Refusal>
     ensures counts { Counts 1 (D.state disk.old) (D.state disk.new) result }
     ensures settled { (D.state disk.old).honest ≡ true → OnOk result (IsSettled (D.state disk.new)) }

@@ -24,7 +24,7 @@ pub fn bytes_are_records<M: Spelled>()
     ensures only_none { OnlyNoneAreNone M.reading }
 {}
 
-/// Bodies are told one by one, in one way only, and their records in a row are those of their bytes in a row: so, of an
+/// Bodies are read one by one, in one way only, and their records in a row are those of their bytes in a row: so, of an
 /// image's open bodies, those of its log.
 pub fn bodies_are_told<M: Spelled>()
     ensures one_way { BodiesOneWay M.reading }
@@ -35,8 +35,8 @@ pub fn bodies_are_told<M: Spelled>()
 /// Of a device that a log is up on, whatever a crash leaves is an undamaged log over a page area that is good for it,
 /// and stands for the kept set of its own last commit, which is none before the durable one. So it does for a state
 /// before that one which had the same sets. Where trees are read of the pages in use, that image is legal for the log
-/// that it has: the device has its pages, its tree is sound, and what is live in that,
-/// but for what open transactions wrote, is the set.
+/// that it has: the device has its pages, its tree is sound, and what is live in that, except for what open
+/// transactions wrote, is the set.
 pub fn a_crash_leaves_a_kept_set<M: Spelled>()
     ensures kept { (d : Limits) → ACrashLeavesAKeptSet (M.known d) M.reading }
     ensures before { (d : Limits) → StandsOfBefore (M.known d) M.reading }
@@ -96,10 +96,10 @@ pub fn a_found_log_is_up_to_its_turn<M: Spelled>()
 {}
 
 /// A log that starts behind an image's open bodies, where these are undamaged and the page area is good for them, goes
-/// on there once no later gate is open: it is up, and with a pool that has kept nothing as yet, and was told of the
-/// last body, it runs; each page is stored as the records leave it where all are written. Closing the later gates
-/// leaves the log and the pages as they were found: at each moment what a crash may leave stands for the kept set that
-/// was found, as does each image with those bodies and pages.
+/// on there once no later gate is open: it is up, and with a pool that has kept nothing as yet, and knows of the last
+/// body, it runs; each page is stored as the records leave it where all are written. Closing the later gates leaves the
+/// log and the pages as they were found: at each moment what a crash may leave stands for the kept set that was found,
+/// as does each image with those bodies and pages.
 pub fn a_found_log_goes_on<M: Spelled, D: SectorDisk>()
     ensures up { (l : Limits) → FoundIsUp (M.known l) M.reading }
     ensures runs { (l : Limits) (d : D) → FoundRuns (M.known l) M.reading (D.state d) }

@@ -13,7 +13,7 @@ use gx_disk::SectorDisk;
 use gx_geom::Refusal;
 use gx_pool::{PageTest, Pool};
 
-/// Writes a page to its sectors, where it has changes and all of them are in gated batches, and answers whether that
+/// Writes a page to its sectors, where it has changes and all of them are in gated batches, and returns whether that
 /// was so; else nothing is done.
 /// Refused with `Device` where the device failed. The page is then kept as it was, with its changes.
 ///

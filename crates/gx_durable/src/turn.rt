@@ -47,12 +47,12 @@ fn tell_turned<T: PageTest>(pool: &mut Pool<T>, call: Turn)
     }
 }
 
-/// Makes the next device call of the turn to the other extent, and tells the pool of a turn that has ended. Answers
-/// which call it was. Refused where the device call fails (`Device`); it is then still due.
+/// Makes the next device call of the turn to the other extent; the pool learns of a turn that has ended. Returns which
+/// call it was. Refused where the device call fails (`Device`); it is then still due.
 ///
 /// Of an honest device, where the head is the renewed log and each page is written and settled: the log stays up, with
-/// the same records until the last call, and with the head alone after it. Whether it succeeds or not, each page is
-/// left as the device has it, no set changes, and at each moment what a crash may leave stands for a kept set.
+/// the same records until the last call, and with the head alone after it. Whether it succeeds or not, no page of the
+/// device changes, no set changes, and at each moment what a crash may leave stands for a kept set.
 pub fn turn_step<M: Spelled, T: PageTest, D: SectorDisk>(
     log: &mut Glog,
     pool: &mut Pool<T>,

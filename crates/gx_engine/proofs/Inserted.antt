@@ -202,10 +202,10 @@ module _ {B D : Type 0} (s : ℕ) (entry : Entry B) (k : Keys B) (leaf : ℕ) (o
       let is_end : new ≡ its_end = noted ∙ ap (λ (x : Parts B D). record x { sessions = written_state k s note x.sessions }) only in
       subst (λ (y : Outcome B). P new y) (sym one) (subst (λ (x : Parts B D). P x (Replied reply.Inserted)) (sym is_end) at_end)
 
-  pub added_comes : (Asks : ℕ → Type 0) (Lacks : Type 0) (passes : ℕ → Contents → Bool) (state : D → Device) → mid.volume.most ≡ old.volume.most
-      → WriteBy Asks Lacks k passes (state old.volume.shelf.disk) (state new.volume.shelf.disk) s (Insert entry) old new o
-  added_comes Asks Lacks passes state most =
-      added_is (λ x y. WriteBy Asks Lacks k passes (state old.volume.shelf.disk) (state x.volume.shelf.disk) s (Insert entry) old x y)
+  pub added_comes : (Asks : ℕ → Type 0) (Lacks : Type 0) (Goes : Device → Parts B D → Type 0) (passes : ℕ → Contents → Bool) (state : D → Device) → mid.volume.most ≡ old.volume.most
+      → WriteBy Asks Lacks Goes k passes (state old.volume.shelf.disk) (state new.volume.shelf.disk) s (Insert entry) old new o
+  added_comes Asks Lacks Goes passes state most =
+      added_is (λ x y. WriteBy Asks Lacks Goes k passes (state old.volume.shelf.disk) (state x.volume.shelf.disk) s (Insert entry) old x y)
       (record { entry = entry; before = true; leaf = leaf }, refl, refl, most)
 
 -- the leaf to which an insert has descended is refused as none, or as a full one: that is impossible

@@ -53,6 +53,7 @@ pub mod Driving
 pub mod Repeating
 pub mod Stepping
 pub mod Resting
+pub mod RoomMade
 pub mod Lessening
 pub mod Waits
 pub mod Helping

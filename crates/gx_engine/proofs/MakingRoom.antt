@@ -69,7 +69,7 @@ use Rattle.gx_engine.specs.Holds.{Holds}
 use Rattle.gx_engine.specs.Moves.{Moves, calling}
 use Rattle.gx_engine.specs.States.{Parts, is_due}
 use Rattle.gx_engine.specs.Sweeping.{AreTaken, is_held, slots_said}
-use Rattle.gx_engine.specs.Writes.{AsksHere, AsksRoom, HasPlace, IsFull, LacksPages, LeftFew, WriteBy, pages_split}
+use Rattle.gx_engine.specs.Writes.{AsksHere, AsksRoom, HasNoneToSweep, HasPlace, IsFull, IsToSplit, LacksPages, LeftFew, WriteBy, pages_split}
 use Rattle.gx_engine.proofs.Brought.{as_brought}
 use Rattle.gx_engine.proofs.Claimed.{claimed_alike}
 use Rattle.gx_engine.proofs.Descents.{logged_on, logged_yet, quiet_moves}
@@ -93,18 +93,19 @@ module _ {B D : Type 0} (s : ℕ) (call : Call B) (from : ℕ) (next : Traversal
       let is_end : new ≡ its_end = there ∙ ap (λ (x : Parts B D). calling s call (Descends from next) x) only in
       subst (λ (y : Outcome B). P new y) (sym one) (subst (λ (x : Parts B D). P x More) (sym is_end) at_end)
 
-  pub on_comes : (Asks : ℕ → Type 0) (Lacks : Type 0) (k : Keys B) (passes : ℕ → Contents → Bool) (state : D → Device) → mid.volume.most ≡ old.volume.most
-      → WriteBy Asks Lacks k passes (state old.volume.shelf.disk) (state new.volume.shelf.disk) s call old new o
-  on_comes Asks Lacks k passes state most =
-      on_is (λ x y. WriteBy Asks Lacks k passes (state old.volume.shelf.disk) (state x.volume.shelf.disk) s call old x y) (Descends from next, refl, most)
+  pub on_comes : (Asks : ℕ → Type 0) (Lacks : Type 0) (Goes : Device → Parts B D → Type 0) (k : Keys B) (passes : ℕ → Contents → Bool) (state : D → Device) → mid.volume.most ≡ old.volume.most
+      → Goes (state mid.volume.shelf.disk) its_end → WriteBy Asks Lacks Goes k passes (state old.volume.shelf.disk) (state new.volume.shelf.disk) s call old new o
+  on_comes Asks Lacks Goes k passes state most goes =
+      on_is (λ x y. WriteBy Asks Lacks Goes k passes (state old.volume.shelf.disk) (state x.volume.shelf.disk) s call old x y) (Descends from next, refl, most, goes)
 
 -- or with the work that it had
-pub yet_comes : {B D : Type 0} (Asks : ℕ → Type 0) (Lacks : Type 0) (k : Keys B) (passes : ℕ → Contents → Bool) (d e : Device) (s : ℕ) (call : Call B) (was : Work B) (old mid : Parts B D) → mid ≡ record old { volume = mid.volume }
-    → mid.volume.most ≡ old.volume.most → phase_at (s - 1) old.sessions.phases ≡ phase.Open call was → WriteBy Asks Lacks k passes d e s call old mid More
-yet_comes {B} Asks Lacks k passes d e s call was old mid only most at = (
+pub yet_comes : {B D : Type 0} (Asks : ℕ → Type 0) (Lacks : Type 0) (Goes : Device → Parts B D → Type 0) (k : Keys B) (passes : ℕ → Contents → Bool) (d e : Device) (s : ℕ) (call : Call B) (was : Work B) (old mid : Parts B D) → mid ≡ record old { volume = mid.volume }
+    → mid.volume.most ≡ old.volume.most → phase_at (s - 1) old.sessions.phases ≡ phase.Open call was → Goes e mid → WriteBy Asks Lacks Goes k passes d e s call old mid More
+yet_comes {B} Asks Lacks Goes k passes d e s call was old mid only most at goes = (
   was,
   only ∙ sym (ap (λ (x : State B (Work B)). record old { volume = mid.volume; sessions = x }) (phase_yet s old.sessions (phase.Open call was) at)),
   most,
+  goes,
 )
 
 module _ {B D : Type 0} (c : Class B) (lawful : 4 ≤ c.rules.most → IsLawful c) (said : List ℕ → B) (f : Format B) (passes : ℕ → Contents → Bool) (d e : Device)
@@ -295,13 +296,14 @@ few_top d old page top few steady =
 
 -- What comes of a move that may ask for fewer records, and that is refused for want of pages in fewer cases.
 module _ {B D : Type 0} (k : Keys B) (passes : ℕ → Contents → Bool) (d e : Device) (s : ℕ) (call : Call B) (old new : Parts B D)
-    (Asks Asks' : ℕ → Type 0) (asks : (size : ℕ) → Asks size → Asks' size) (Lacks Lacks' : Type 0) (lacks : Lacks → Lacks') where
-  refused_more : (why : Refusal) → WriteBy Asks Lacks k passes d e s call old new (Replied (RefusedCall why))
-      → WriteBy Asks' Lacks' k passes d e s call old new (Replied (RefusedCall why))
+    (Asks Asks' : ℕ → Type 0) (asks : (size : ℕ) → Asks size → Asks' size) (Lacks Lacks' : Type 0) (lacks : Lacks → Lacks') (Goes Goes' : Device → Parts B D → Type 0) (goes : Goes e new → Goes' e new) where
+  refused_more : (why : Refusal) → WriteBy Asks Lacks Goes k passes d e s call old new (Replied (RefusedCall why))
+      → WriteBy Asks' Lacks' Goes' k passes d e s call old new (Replied (RefusedCall why))
   refused_more refusal.PagesFull comes = (lacks comes.0, comes.1)
   refused_more why comes = comes
 
-  pub comes_more : (o : Outcome B) → WriteBy Asks Lacks k passes d e s call old new o → WriteBy Asks' Lacks' k passes d e s call old new o
+  pub comes_more : (o : Outcome B) → WriteBy Asks Lacks Goes k passes d e s call old new o → WriteBy Asks' Lacks' Goes' k passes d e s call old new o
+  comes_more More comes = (comes.0, comes.1, comes.2, goes comes.3)
   comes_more (Replied (RefusedCall why)) comes = refused_more why comes
   comes_more (Help n) comes = ((comes.0.0, asks comes.0.0 comes.0.1, comes.0.2, comes.0.3), comes.1)
   comes_more o comes = comes
@@ -337,8 +339,12 @@ module _ {B D : Type 0} (k : Keys B) (f : Format B) (key : ℕ) (d : Device) (s 
     pub asks_split : (size : ℕ) → size ≡ SPLIT_RECORD → AsksRoom k f key d s (Insert entry) old size
     asks_split size is = asks_sweep size (inr is)
 
-    pub lacks_pages : LeftFew d old item.page → LacksPages f d s (Insert entry) old
-    lacks_pages few = record { entry = entry; inserts = refl; parent = parent; item = item; descends = at; full = full; few = few }
+    pub to_split : HasNoneToSweep k f d old item.page → IsToSplit k f d s (Insert entry) old
+    to_split none = record { entry = entry; inserts = refl; parent = parent; item = item; descends = at; full = full; none = none }
+
+    pub lacks_pages : HasNoneToSweep k f d old item.page → LeftFew d old item.page → LacksPages k f d s (Insert entry) old
+    lacks_pages none few =
+        record { splits = record { entry = entry; inserts = refl; parent = parent; item = item; descends = at; full = full; none = none }; few = few }
 
 -- No page is left, and the call is closed.
 module _ {B D : Type 0} (s : ℕ) (old mid new : Parts B D) (only : mid ≡ record old { volume = mid.volume })
@@ -348,11 +354,11 @@ module _ {B D : Type 0} (s : ℕ) (old mid new : Parts B D) (only : mid ≡ reco
       let is_end : new ≡ record old { volume = mid.volume; sessions = answered_state s old.sessions } = shut ∙ ap (λ (x : Parts B D). record x { sessions = answered_state s x.sessions }) only in
       subst (λ (y : Outcome B). P new y) (sym one) (subst (λ (x : Parts B D). P x (Replied (RefusedCall refusal.PagesFull))) (sym is_end) at_end)
 
-  pub full_comes : (Asks : ℕ → Type 0) (Lacks : Type 0) (k : Keys B) (passes : ℕ → Contents → Bool) (state : D → Device) (call : Call B) → mid.volume.most ≡ old.volume.most → mid.volume.log ≡ old.volume.log
+  pub full_comes : (Asks : ℕ → Type 0) (Lacks : Type 0) (Goes : Device → Parts B D → Type 0) (k : Keys B) (passes : ℕ → Contents → Bool) (state : D → Device) (call : Call B) → mid.volume.most ≡ old.volume.most → mid.volume.log ≡ old.volume.log
       → mid.volume.imaged ≡ old.volume.imaged
-      → Lacks → WriteBy Asks Lacks k passes (state old.volume.shelf.disk) (state new.volume.shelf.disk) s call old new o
-  full_comes Asks Lacks k passes state call most log imaged lacks =
-      full_is (λ x y. WriteBy Asks Lacks k passes (state old.volume.shelf.disk) (state x.volume.shelf.disk) s call old x y)
+      → Lacks → WriteBy Asks Lacks Goes k passes (state old.volume.shelf.disk) (state new.volume.shelf.disk) s call old new o
+  full_comes Asks Lacks Goes k passes state call most log imaged lacks =
+      full_is (λ x y. WriteBy Asks Lacks Goes k passes (state old.volume.shelf.disk) (state x.volume.shelf.disk) s call old x y)
       (lacks, as_brought old mid.volume (answered_state s old.sessions) log most imaged)
 
 -- A split that was made, or for which there was no place.

@@ -57,11 +57,11 @@ module _ {B D : Type 0} (k : Keys B) (known : Limits → Known (Entry B) (Page B
           let pages = on.pages in
           omega (arith, low, used, pages)
 
-    module _ (Asks : ℕ → Type 0) (Lacks Lacks' : Type 0) (lacks : Lacks → Lacks') where
-      abbrev Comes : Type 0 → Device → Parts B D → Parts B D → Outcome B → Type 0
-      Comes what from was new o = WriteBy Asks what k passes from e s (Insert entry) was new o
+    module _ (Asks : ℕ → Type 0) (Lacks Lacks' : Type 0) (lacks : Lacks → Lacks') (Goes Goes' : Device → Parts B D → Type 0) (goes : (x : Parts B D) → Goes e x → Goes' e x) where
+      abbrev Comes : Type 0 → (Device → Parts B D → Type 0) → Device → Parts B D → Parts B D → Outcome B → Type 0
+      Comes what does from was new o = WriteBy Asks what does k passes from e s (Insert entry) was new o
 
-      refused_then : (new : Parts B D) (why : Refusal) → Comes Lacks m mid new (Replied (reply.Refused why)) → Comes Lacks' d old new (Replied (reply.Refused why))
+      refused_then : (new : Parts B D) (why : Refusal) → Comes Lacks Goes m mid new (Replied (reply.Refused why)) → Comes Lacks' Goes' d old new (Replied (reply.Refused why))
       refused_then new refusal.Present is = is
       refused_then new refusal.Absent is = is
       refused_then new refusal.Memory is = (record { work = is.0.work; at = is.0.at; looks = is.0.looks }, is.1)
@@ -70,8 +70,8 @@ module _ {B D : Type 0} (k : Keys B) (known : Limits → Known (Entry B) (Page B
       refused_then new refusal.Damaged is = is
       refused_then new why is = absurd is
 
-      then_comes : (new : Parts B D) (o : Outcome B) → Comes Lacks m mid new o → Comes Lacks' d old new o
-      then_comes new More is = is
+      then_comes : (new : Parts B D) (o : Outcome B) → Comes Lacks Goes m mid new o → Comes Lacks' Goes' d old new o
+      then_comes new More is = (is.0, is.1, is.2, goes new is.3)
       then_comes new (Replied reply.Inserted) is = is
       then_comes new (Replied reply.Deleted) is = is
       then_comes new (Replied (reply.Refused why)) is = refused_then new why is
@@ -96,13 +96,13 @@ module _ {B D : Type 0} (k : Keys B) (known : Limits → Known (Entry B) (Page B
     brought = only ∙ as_brought old mid.volume old.sessions first.log first.most first.imaged
 
     -- what comes of it from there on is what comes of it
-    pub comes_then : (Asks : ℕ → Type 0) (Lacks Lacks' : Type 0) → (Lacks → Lacks') → (new : Parts B D) (o : Outcome B)
-        → WriteBy Asks Lacks k passes m e s (Insert entry) mid new o → WriteBy Asks Lacks' k passes d e s (Insert entry) old new o
-    comes_then Asks Lacks Lacks' lacks new o is =
+    pub comes_then : (Asks : ℕ → Type 0) (Lacks Lacks' : Type 0) → (Lacks → Lacks') → (Goes Goes' : Device → Parts B D → Type 0) → ((x : Parts B D) → Goes e x → Goes' e x) → (new : Parts B D) (o : Outcome B)
+        → WriteBy Asks Lacks Goes k passes m e s (Insert entry) mid new o → WriteBy Asks Lacks' Goes' k passes d e s (Insert entry) old new o
+    comes_then Asks Lacks Lacks' lacks Goes Goes' goes new o is =
         subst
         (λ (x : Parts B D). IsUnlogged known r f passes (begun old.volume size) d m old.volume x.volume
-        → WriteBy Asks Lacks k passes m e s (Insert entry) x new o → WriteBy Asks Lacks' k passes d e s (Insert entry) old new o)
-        (sym brought) (λ one is. then_comes mid.volume.shelf one Asks Lacks Lacks' lacks new o is) first is
+        → WriteBy Asks Lacks Goes k passes m e s (Insert entry) x new o → WriteBy Asks Lacks' Goes' k passes d e s (Insert entry) old new o)
+        (sym brought) (λ one is. then_comes mid.volume.shelf one Asks Lacks Lacks' lacks Goes Goes' goes new o is) first is
 
     -- no page has been taken
     pub few_then : (IsSteady d old.volume.shelf.frames → store_of f m.seen mid.volume.shelf ≡ store_of f d.seen old.volume.shelf)

@@ -146,7 +146,7 @@ module _ {B D : Type 0} (c : Class B) (r : Reading (Entry B) (Page B)) (f : Form
     delete_refused k key entry refusal.Absent comes events are led = (laws.FindsAbsent s entry, are, (refl, refl))
     delete_refused k key entry refusal.Memory comes events are led = (laws.Closes s (Delete entry) refusal.Memory, inl are, (refl, refl, refl))
     delete_refused k key entry refusal.PagesFull comes events are led =
-        let same : ◌≡◌ {A = Call B} (Delete entry) (Insert comes.0.entry) = comes.0.inserts in let no : ⊥ = cc in absurd no
+        let same : ◌≡◌ {A = Call B} (Delete entry) (Insert comes.0.splits.entry) = comes.0.splits.inserts in let no : ⊥ = cc in absurd no
     delete_refused k key entry refusal.Device comes events are led = (laws.RefusesCall s refusal.Device, inl are, (refl, refl, λ same. absurd (not_failed same)))
     delete_refused k key entry refusal.Damaged comes events are led = absurd (had_failed works (ap (λ (x : Parts B D). x.sessions.failed) comes) bodies i h events are led)
     delete_refused k key entry why comes events are led = absurd comes

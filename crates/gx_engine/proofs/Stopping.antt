@@ -40,10 +40,10 @@ use Rattle.gx_engine.proofs.LookMoves.{fails, waits}
 use Rattle.gx_engine.proofs.Serving.{StaysSettled, of_reads}
 
 -- What it comes to.
-module _ {B D : Type 0} (Asks : ℕ → Type 0) (Lacks : Type 0) (k : Keys B) (passes : ℕ → Contents → Bool) (state : D → Device) (old : Parts B D) (s : ℕ) (entry : Entry B) (w : Volume D)
+module _ {B D : Type 0} (Asks : ℕ → Type 0) (Lacks : Type 0) (Goes : Device → Parts B D → Type 0) (k : Keys B) (passes : ℕ → Contents → Bool) (state : D → Device) (old : Parts B D) (s : ℕ) (entry : Entry B) (w : Volume D)
     (most : w.most ≡ old.volume.most) (same_log : w.log ≡ old.volume.log) (imaged : w.imaged ≡ old.volume.imaged) where
   abbrev Comes : Parts B D → Outcome B → Type 0
-  Comes new o = WriteBy Asks Lacks k passes (state old.volume.shelf.disk) (state new.volume.shelf.disk) s (Insert entry) old new o
+  Comes new o = WriteBy Asks Lacks Goes k passes (state old.volume.shelf.disk) (state new.volume.shelf.disk) s (Insert entry) old new o
 
   pub stopped_comes : is_due old ≡ false → StampsStay old.volume.shelf w.shelf → (size : ℕ) → Asks size → size ≤ SPLIT_RECORD → (n : StoreFault) → faults.IsWhy passes (state old.volume.shelf.disk) (state w.shelf.disk) (begun old.volume size) w.shelf n
       → (new : Parts B D) (o : Outcome B) → IsRefused n (record old { volume = w }) new o → Comes new o

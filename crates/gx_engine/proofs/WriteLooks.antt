@@ -180,11 +180,11 @@ stop_reads passes d e s old new (Help n) comes = reads_of old new _ comes.1 refl
 stop_reads passes d e s old new other comes = absurd comes
 
 -- an insert whose look ended in the move, and that descends
-pub descends_comes : {B D : Type 0} (Asks : ℕ → Type 0) (Lacks : Type 0) (k : Keys B) (passes : ℕ → Contents → Bool) (d e : Device) (s : ℕ) (call : Call B) (work : Work B) (old mid new : Parts B D) → mid ≡ calling s call Rests (brought old mid)
-    → new ≡ calling s call work mid → WriteBy Asks Lacks k passes d e s call old new More × OnlyReads old new
-descends_comes {B} {D} Asks Lacks k passes d e s call work old mid new rest is =
+pub descends_comes : {B D : Type 0} (Asks : ℕ → Type 0) (Lacks : Type 0) (Goes : Device → Parts B D → Type 0) (k : Keys B) (passes : ℕ → Contents → Bool) (d e : Device) (s : ℕ) (call : Call B) (work : Work B) (old mid new : Parts B D) → mid ≡ calling s call Rests (brought old mid)
+    → new ≡ calling s call work mid → Goes e new → WriteBy Asks Lacks Goes k passes d e s call old new More × OnlyReads old new
+descends_comes {B} {D} Asks Lacks Goes k passes d e s call work old mid new rest is goes =
     let known : new ≡ calling s call work (brought old mid) = worked_so s call work old mid new rest is in
-    ((work, known ∙ sym (ap (λ (x : Parts B D). calling s call work (record old { volume = x.volume })) known), ap (λ (x : Parts B D). x.volume.most) known), reads_of old new _ known refl)
+    ((work, known ∙ sym (ap (λ (x : Parts B D). calling s call work (record old { volume = x.volume })) known), ap (λ (x : Parts B D). x.volume.most) known, goes), reads_of old new _ known refl)
 
 -- the same move, as its events
 pub write_so : {B D : Type 0} (c : Class B) (r : Reading (Entry B) (Page B)) (f : Format B) (passes : ℕ → Contents → Bool) (d e : Device) (s : ℕ) (call : Call B) (old new : Parts B D) (outcome : Outcome B)

@@ -31,6 +31,7 @@ use Rattle.gx_store.specs.declared.fault.StoreFault.{StoreFault}
 use Rattle.gx_store.specs.declared.fault.StoreFault.TheVariants as fault
 use Rattle.gx_store.specs.Faults as faults
 use Rattle.gx_store.specs.Standing.{store_of}
+use Rattle.gx_store.specs.State.{IsSteady}
 use Rattle.gx_class.specs.declared.class.TheConstants.{MAX_KEY}
 use Rattle.gx_record.specs.declared.sizes.TheConstants.{SPLIT_RECORD}
 use Rattle.gx_storage.specs.Bringing.{bringing}
@@ -53,6 +54,7 @@ use Rattle.gx_engine.specs.States.{Parts, is_due, runs}
 use Rattle.gx_engine.specs.Undoing.{PairIsSought}
 use Rattle.gx_engine.specs.Writes.{AsksRoom, IsDelayed, WriteComes, brought}
 use Rattle.gx_engine.proofs.Reading.{only_shelf}
+use Rattle.gx_engine.proofs.RoomMade.{same_used, seek_made}
 
 -- a call that writes is open, and writes its entry
 pub has_write : {B : Type 0} (entry : Entry B) (marked : Bool) (work : Work B) (p : Phase B (Work B)) → p ≡ phase.Open (write_call marked entry) work → HasWrite entry p
@@ -130,7 +132,8 @@ module _ {B D : Type 0} (old : Parts B D) (w : Volume D) (log : w.log ≡ old.vo
     damaged_comes new o one other = at new _ o _ one other (brought_with (failed_state old.sessions))
 
   -- What comes of a part that begins with them is what comes of the whole.
-  module _ (f : Format B) (IsKey : B → Type 0) (k : Keys B) (key : ℕ) (passes : ℕ → Contents → Bool) (stay : StampsStay old.volume.shelf w.shelf) (d e later : Device) (sooner : d.faults ≤ e.faults) (s : ℕ) (entry : Entry B) (leaf : ℕ) (marked : Bool)
+  module _ (f : Format B) (IsKey : B → Type 0) (k : Keys B) (key : ℕ) (passes : ℕ → Contents → Bool) (stay : StampsStay old.volume.shelf w.shelf) (d e later : Device) (sooner : d.faults ≤ e.faults)
+      (steady : IsSteady d old.volume.shelf.frames → IsSteady e w.shelf.frames) (used : w.shelf.used ≡ old.volume.shelf.used) (s : ℕ) (entry : Entry B) (leaf : ℕ) (marked : Bool)
       (new : Parts B D) where
     due_same : is_due mid ≡ is_due old
     due_same = ap (λ (g : Log). runs old.checkpoint || nat_le CHECKPOINT_AT g.used) log
@@ -199,7 +202,7 @@ module _ {B D : Type 0} (old : Parts B D) (w : Volume D) (log : w.log ≡ old.vo
     replied_on r comes = absurd comes
 
     pub comes_on : (o : Outcome B) → SeekComes f IsKey k key passes e later s entry leaf marked mid new o → SeekComes f IsKey k key passes d later s entry leaf marked old new o
-    comes_on More comes = (comes.0, comes.1 ∙ brought_on new _)
+    comes_on More comes = (comes.0, comes.1 ∙ brought_on new _, λ was. comes.2 (steady was) ∙ used)
     comes_on (Replied r) comes = replied_on r comes
     comes_on (Help n) comes = (delayed_on n comes.0, comes.1 ∙ brought_on new _)
     comes_on o comes = absurd comes
@@ -248,6 +251,7 @@ module _ {B D : Type 0} (f : Format B) (IsKey : B → Type 0) (k : Keys B) (key 
         Seeks comes.0,
         comes.1 ∙ sym (ap (λ (v : Volume D). calling s (write_call marked entry) (Seeks comes.0) (record old { volume = v })) same),
         ap (λ (v : Volume D). v.most) same,
+        seek_made k f d s (write_call marked entry) old e new comes.2 leaf at,
       )
   seek_write (Replied r) comes = replied_write r comes
   seek_write (Help n) comes = (delayed n comes.0, comes.1)
@@ -269,7 +273,11 @@ module _ {B D : Type 0} (f : Format B) (IsKey : B → Type 0) (k : Keys B) (pass
       by : (m : Bool) → marked ≡ m → SeekComes f IsKey k key passes d e s entry leaf marked old (its_end (Here slot before)) (Replied (written_reply m))
       by true is = (is, noted)
       by false is = (is, noted)
-  set_comes (Right next) set = (next, brought_with old w set.logged.log set.logged.most set.logged.imaged (with_phase_of s (phase.Open (write_call marked entry) (Seeks next)) old.sessions))
+  set_comes (Right next) set = (
+    next,
+    brought_with old w set.logged.log set.logged.most set.logged.imaged (with_phase_of s (phase.Open (write_call marked entry) (Seeks next)) old.sessions),
+    λ steady. same_used f d.seen e.seen old.volume.shelf w.shelf (set.sets steady).1,
+  )
 
 -- What was noted of a mark that was set, or not.
 module _ {B D : Type 0} (k : Keys B) (s : ℕ) (entry : Entry B) (leaf : ℕ) (marked : Bool) (sought : Sought) (old mid new : Parts B D) (only : mid ≡ record old { volume = mid.volume })

@@ -31,6 +31,7 @@ use Rattle.gx_phases.specs.States.{State, with_phase_of}
 use Rattle.gx_store.specs.declared.fault.StoreFault.{StoreFault}
 use Rattle.gx_store.specs.Faults as faults
 use Rattle.gx_store.specs.Standing.{store_of}
+use Rattle.gx_store.specs.State.{IsSteady}
 use Rattle.gx_record.specs.declared.sizes.TheConstants.{SPLIT_RECORD}
 use Rattle.gx_storage.specs.Bringing.{bringing}
 use Rattle.gx_storage.specs.Changes.{begun}
@@ -95,10 +96,11 @@ module _ {B : Type 0} (f : Format B) (IsKey : B → Type 0) (k : Keys B) (key : 
       ((n ≡ need.Checkpoint) × (is_due old ≡ true) × StampsStay old.volume.shelf new.volume.shelf × ((slot : ℕ) × IsSought f IsKey k e new.volume entry leaf (Here slot (not marked))))
       ⊎ ((size : ℕ) × ((size ≡ 0) ⊎ (size ≡ mark_room (is_imaged old.volume.imaged leaf) key)) × (size ≤ SPLIT_RECORD) × ((help : IsHelp passes d e (runs old.checkpoint) (begun old.volume size) new.volume.shelf n) × IsEarly help.fault (is_due old)))
 
-  -- The pair is sought further to the right, and nothing is logged; or its mark was set, and the write is noted; or it has the mark
+  -- The pair is sought further to the right, nothing is logged, and no page is taken; or its mark was set, and the write is noted; or it has the mark
   -- already, and nothing is logged; or the engine has failed; or another event has to come first, and the call is at what it was.
   abbrev pub SeekComes : {D : Type 0} → (ℕ → Contents → Bool) → Device → Device → ℕ → Entry B → ℕ → Bool → Parts B D → Parts B D → Outcome B → Type 0
-  SeekComes passes d e s entry leaf marked old new More = (next : ℕ) × (new ≡ calling s (write_call marked entry) (Seeks next) (brought old new))
+  SeekComes passes d e s entry leaf marked old new More =
+      (next : ℕ) × (new ≡ calling s (write_call marked entry) (Seeks next) (brought old new)) × (IsSteady d old.volume.shelf.frames → new.volume.shelf.used ≡ old.volume.shelf.used)
   SeekComes passes d e s entry leaf marked old new (Replied Inserted) = (marked ≡ false) × IsNoted k s entry leaf old new
   SeekComes passes d e s entry leaf marked old new (Replied Deleted) = (marked ≡ true) × IsNoted k s entry leaf old new
   SeekComes passes d e s entry leaf marked old new (Replied (RefusedCall Present)) =

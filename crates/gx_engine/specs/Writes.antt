@@ -1,5 +1,5 @@
 -- What a move of an insert or a delete comes to.
-use Rattle.std.specs.Prelude.{ℕ, ◌≡◌, ◌≤◌, ◌<◌, ◌+◌, ◌-◌, ◌==◌, ◌⊎◌, Bool, true, false, if◌then◌else◌, List, [], ◌∷◌, length}
+use Rattle.std.specs.Prelude.{ℕ, ◌≡◌, ◌≢◌, ◌≤◌, ◌<◌, ◌+◌, ◌-◌, ◌==◌, ◌⊎◌, Bool, true, false, if◌then◌else◌, List, [], ◌∷◌, length}
 use Rattle.gx_class.specs.declared.class.KeyClass.{Ghosts}
 use Rattle.gx_geom.specs.declared.refusal.Refusal.TheVariants.{Absent, Damaged as DamagedRefusal, Device as DeviceRefusal, Memory, PagesFull, Present}
 use Rattle.gx_machine.specs.declared.call.Call.{Call}
@@ -26,6 +26,8 @@ use Rattle.gx_phases.specs.States.{phase_at}
 use Rattle.gx_store.specs.Standing.{store_of}
 use Rattle.gx_store.specs.State.{IsSteady}
 use Rattle.gx_record.specs.declared.sizes.TheConstants.{SPLIT_RECORD}
+use Rattle.gx_tree.specs.Writing.{Swept}
+use Rattle.gx_storage.specs.Bringing.{has_removable}
 use Rattle.gx_storage.specs.Changes.{begun}
 use Rattle.gx_storage.specs.Imaged.{is_imaged}
 use Rattle.gx_storage.specs.Small.{add_room, mark_room, widen_room}
@@ -33,7 +35,7 @@ use Rattle.gx_engine.specs.declared.work.Work.{Work}
 use Rattle.gx_engine.specs.declared.work.Work.TheVariants.{Descends, Looks, Rests, Seeks}
 use Rattle.gx_engine.specs.Moves.{calling}
 use Rattle.gx_engine.specs.Refusals.{IsEarly, IsHelp, StampsStay}
-use Rattle.gx_engine.specs.Slots.{IsSweepRoom}
+use Rattle.gx_engine.specs.Slots.{IsSweepRoom, is_held, node_shown}
 use Rattle.gx_engine.specs.States.{Parts, is_due, runs}
 
 -- pages may have been brought: the log and all else is as it was
@@ -108,69 +110,101 @@ pub record AsksRoom {B D : Type 0} (k : Keys B) (f : Format B) (key : ℕ) (d : 
   pub at : phase_at (s - 1) e.sessions.phases ≡ phase.Open call work
   pub asks : AsksAt k f key d e work size
 
--- A session's insert has descended to a full node, whose split takes more pages than are left.
-pub record LacksPages {B D : Type 0} (f : Format B) (d : Device) (s : ℕ) (call : Call B) (e : Parts B D) : Type 0 where
+-- a page has nothing to sweep: it is no leaf, or a leaf with no marked pair but such as a session claims
+abbrev pub HasNoneToSweep : {B D : Type 0} → Keys B → Format B → Device → Parts B D → ℕ → Type 0
+HasNoneToSweep k f d e page = IsSteady d e.volume.shelf.frames → has_removable (is_held k e) (node_shown f d page e) ≡ false
+
+-- A session's insert has descended to a full node that has nothing to sweep, so that it is split.
+pub record IsToSplit {B D : Type 0} (k : Keys B) (f : Format B) (d : Device) (s : ℕ) (call : Call B) (e : Parts B D) : Type 0 where
   pub entry : Entry B
   pub inserts : call ≡ Insert entry
   pub parent : ℕ
   pub item : TraversalItem
   pub descends : phase_at (s - 1) e.sessions.phases ≡ phase.Open call (Descends parent item)
   pub full : IsFull f d e item.page
-  pub few : LeftFew d e item.page
+  pub none : HasNoneToSweep k f d e item.page
 
--- What a write's move comes to, by the sizes of records for which it may ask room, and by what is so where it is refused for want of
--- pages. The call goes on with other work; or its pair is written and noted; or an insert's stands live, or a delete's nowhere live, and the
+-- The split takes more pages than are left.
+pub record LacksPages {B D : Type 0} (k : Keys B) (f : Format B) (d : Device) (s : ℕ) (call : Call B) (e : Parts B D) : Type 0 where
+  pub splits : IsToSplit k f d s call e
+  pub few : LeftFew d e splits.item.page
+
+-- What can be swept of the leaf on a page is gone, and the call is at what it was.
+pub record IsOnlySwept {B D : Type 0} (k : Keys B) (f : Format B) (d e : Device) (page : ℕ) (old new : Parts B D) : Type 0 where
+  pub only : new ≡ record old { volume = new.volume }
+  pub swept : IsSteady d old.volume.shelf.frames → Swept (is_held k old) (store_of f d.seen old.volume.shelf) (store_of f e.seen new.volume.shelf) page true
+
+-- A page was not split since an item remembered it, and is a full leaf that has something to sweep.
+pub record IsToSweep {B D : Type 0} (k : Keys B) (f : Format B) (d : Device) (e : Parts B D) (item : TraversalItem) : Type 0 where
+  pub steady : IsSteady d e.volume.shelf.frames
+  pub since : (node_shown f d item.page e).nsn ≤ item.seen
+  pub full : e.volume.most ≤ size (node_shown f d item.page e)
+  pub some : has_removable (is_held k e) (node_shown f d item.page e) ≡ true
+
+-- A move that goes on makes room so. Pages are taken by the split of a full node that has nothing to sweep, and by nothing else. A full leaf
+-- that has something to sweep, and to which the call has descended, is swept, and no more is done.
+pub record MakesRoom {B D : Type 0} (k : Keys B) (f : Format B) (d : Device) (s : ℕ) (call : Call B) (old : Parts B D) (e : Device) (new : Parts B D) : Type 0 where
+  pub splits : IsSteady d old.volume.shelf.frames → new.volume.shelf.used ≢ old.volume.shelf.used → IsToSplit k f d s call old
+  pub sweeps : (parent : ℕ) (item : TraversalItem) → phase_at (s - 1) old.sessions.phases ≡ phase.Open call (Descends parent item)
+      → IsToSweep k f d old item → IsOnlySwept k f d e item.page old new
+
+-- What a write's move comes to, by the sizes of records for which it may ask room, by what is so where it is refused for want of pages, and
+-- by what it did where it goes on. The call goes on with other work; or its pair is written and noted; or an insert's stands live, or a delete's nowhere live, and the
 -- call is closed; or it is closed for want of memory in its look, or of pages for a split; or the engine has failed; or another event
 -- has to come first, and the call is at what it was.
-abbrev pub WriteBy : {B D : Type 0} → (ℕ → Type 0) → Type 0 → Keys B → (ℕ → Contents → Bool) → Device → Device → ℕ → Call B → Parts B D → Parts B D → Outcome B → Type 0
-WriteBy {B} Asks Lacks k passes d e s call old new More = (work : Work B) × (new ≡ calling s call work (record old { volume = new.volume })) × (new.volume.most ≡ old.volume.most)
-WriteBy {B} Asks Lacks k passes d e s call old new (Replied Inserted) =
+abbrev pub WriteBy : {B D : Type 0} → (ℕ → Type 0) → Type 0 → (Device → Parts B D → Type 0) → Keys B → (ℕ → Contents → Bool) → Device → Device → ℕ → Call B → Parts B D → Parts B D → Outcome B → Type 0
+WriteBy {B} Asks Lacks Goes k passes d e s call old new More =
+    (work : Work B) × (new ≡ calling s call work (record old { volume = new.volume })) × (new.volume.most ≡ old.volume.most) × Goes e new
+WriteBy {B} Asks Lacks Goes k passes d e s call old new (Replied Inserted) =
     (n : Note B) × (call ≡ Insert n.entry) × (new ≡ record old { volume = new.volume; sessions = written_state k s n old.sessions }) × (new.volume.most ≡ old.volume.most)
-WriteBy {B} Asks Lacks k passes d e s call old new (Replied Deleted) =
+WriteBy {B} Asks Lacks Goes k passes d e s call old new (Replied Deleted) =
     (n : Note B) × (call ≡ Delete n.entry) × (new ≡ record old { volume = new.volume; sessions = written_state k s n old.sessions }) × (new.volume.most ≡ old.volume.most)
-WriteBy {B} Asks Lacks k passes d e s call old new (Replied (RefusedCall Present)) =
+WriteBy {B} Asks Lacks Goes k passes d e s call old new (Replied (RefusedCall Present)) =
     (entry : Entry B) × (call ≡ Insert entry) × (new ≡ record (brought old new) { sessions = answered_state s old.sessions })
-WriteBy {B} Asks Lacks k passes d e s call old new (Replied (RefusedCall Absent)) =
+WriteBy {B} Asks Lacks Goes k passes d e s call old new (Replied (RefusedCall Absent)) =
     (entry : Entry B) × (call ≡ Delete entry) × (new ≡ record (brought old new) { sessions = answered_state s old.sessions })
-WriteBy Asks Lacks k passes d e s call old new (Replied (RefusedCall Memory)) =
+WriteBy Asks Lacks Goes k passes d e s call old new (Replied (RefusedCall Memory)) =
     IsAtLook s call old × (new ≡ record (brought old new) { sessions = answered_state s old.sessions })
-WriteBy Asks Lacks k passes d e s call old new (Replied (RefusedCall PagesFull)) =
+WriteBy Asks Lacks Goes k passes d e s call old new (Replied (RefusedCall PagesFull)) =
     Lacks × (new ≡ record (brought old new) { sessions = answered_state s old.sessions })
-WriteBy Asks Lacks k passes d e s call old new (Replied (RefusedCall DeviceRefusal)) = (d.faults < e.faults) × (new ≡ record (brought old new) { sessions = failed_state old.sessions })
-WriteBy Asks Lacks k passes d e s call old new (Replied (RefusedCall DamagedRefusal)) = new ≡ record (brought old new) { sessions = failed_state old.sessions }
-WriteBy Asks Lacks k passes d e s call old new (Help n) = IsDelayed Asks passes d e old new n × (new ≡ brought old new)
-WriteBy Asks Lacks k passes d e s call old new other = ⊥
+WriteBy Asks Lacks Goes k passes d e s call old new (Replied (RefusedCall DeviceRefusal)) = (d.faults < e.faults) × (new ≡ record (brought old new) { sessions = failed_state old.sessions })
+WriteBy Asks Lacks Goes k passes d e s call old new (Replied (RefusedCall DamagedRefusal)) = new ≡ record (brought old new) { sessions = failed_state old.sessions }
+WriteBy Asks Lacks Goes k passes d e s call old new (Help n) = IsDelayed Asks passes d e old new n × (new ≡ brought old new)
+WriteBy Asks Lacks Goes k passes d e s call old new other = ⊥
 
 -- The same of the work at hand.
 abbrev pub WriteComes : {B D : Type 0} → Keys B → Format B → (ℕ → Contents → Bool) → ℕ → Device → Device → ℕ → Call B → Parts B D → Parts B D → Outcome B → Type 0
 WriteComes k f passes key d e s call old new outcome =
-    WriteBy (AsksRoom k f key d s call old) (LacksPages f d s call old) k passes d e s call old new outcome
+    WriteBy (AsksRoom k f key d s call old) (LacksPages k f d s call old) (MakesRoom k f d s call old) k passes d e s call old new outcome
 
 -- The same over a class of keys, and devices that are seen so.
 module _ {C B D : Type 0} (shape : Members B) (class : Ghosts C B) (state : D → Device) (s : ℕ) (call : Call B) where
-  abbrev pub ComesBy : (ℕ → Type 0) → (Parts B D → Type 0) → Parts B D → Parts B D → Outcome B → Type 0
-  ComesBy Asks Lacks old new outcome =
-      WriteBy Asks (Lacks old) (keys_of shape) (is_node (format_of class)) (state old.volume.shelf.disk) (state new.volume.shelf.disk) s call old new outcome
+  abbrev pub ComesBy : (ℕ → Type 0) → (Parts B D → Type 0) → (Device → Parts B D → Type 0) → Parts B D → Parts B D → Outcome B → Type 0
+  ComesBy Asks Lacks Goes old new outcome =
+      WriteBy Asks (Lacks old) Goes (keys_of shape) (is_node (format_of class)) (state old.volume.shelf.disk) (state new.volume.shelf.disk) s call old new outcome
 
   abbrev pub WritesAs : Parts B D → Parts B D → Outcome B → Type 0
   WritesAs old new outcome =
       WriteComes (keys_of shape) (format_of class) (is_node (format_of class)) class.KEY (state old.volume.shelf.disk) (state new.volume.shelf.disk)
       s call old new outcome
 
-  -- a pair is added to the leaf on a page
+  -- a pair is added to the leaf on a page, which never goes on
   abbrev pub AddsAs : ℕ → Parts B D → Parts B D → Outcome B → Type 0
   AddsAs page old new outcome =
-      ComesBy (λ size. size ≡ add_room (is_imaged old.volume.imaged page) class.KEY) (λ e. ⊥) old new outcome
+      ComesBy (λ size. size ≡ add_room (is_imaged old.volume.imaged page) class.KEY) (λ e. ⊥) (λ e new. ⊥) old new outcome
 
-  -- a page is split, of which it isn't said that it is full
+  -- a page is split, of which it isn't said that it is full, nor that it has nothing to sweep
   abbrev pub SplitsAs : ℕ → Parts B D → Parts B D → Outcome B → Type 0
-  SplitsAs page old new outcome = ComesBy (λ size. size ≡ SPLIT_RECORD) (λ e. LeftFew (state e.volume.shelf.disk) e page) old new outcome
+  SplitsAs page old new outcome =
+      ComesBy (λ size. size ≡ SPLIT_RECORD) (λ e. LeftFew (state e.volume.shelf.disk) e page) (λ e new. Unit {0}) old new outcome
 
-  -- or swept
+  -- a page is swept, or has nothing to sweep and is split, of which it isn't said that it is full
   abbrev pub MakesRoomAs : ℕ → Parts B D → Parts B D → Outcome B → Type 0
   MakesRoomAs page old new outcome =
       ComesBy (AsksHere (keys_of shape) (format_of class) (state old.volume.shelf.disk) old page)
-      (λ e. LeftFew (state e.volume.shelf.disk) e page) old new outcome
+      (λ e. LeftFew (state e.volume.shelf.disk) e page × HasNoneToSweep (keys_of shape) (format_of class) (state e.volume.shelf.disk) e page)
+      (λ e new. IsOnlySwept (keys_of shape) (format_of class) (state old.volume.shelf.disk) e page old new
+      ⊎ HasNoneToSweep (keys_of shape) (format_of class) (state old.volume.shelf.disk) old page) old new outcome
 
 -- the index's event that it is
 abbrev pub write_events : {B : Type 0} → ℕ → Call B → Outcome B → List (Event B)

@@ -13,7 +13,7 @@ ghost use Rattle.gx_engine.specs.Holds.{MayHaveFound};
 ghost use Rattle.gx_engine.specs.Looks.{IsFirst, IsFirstUnless, look_events, work_before};
 ghost use Rattle.gx_engine.specs.Moves.{calling};
 ghost use Rattle.gx_engine.specs.Writes.{brought};
-ghost use Rattle.gx_storage.specs.Setting.{UnloggedAs, tree_at};
+ghost use Rattle.gx_storage.specs.Setting.{StaysAs, UnloggedAs, tree_at};
 ghost use Rattle.gx_engine.specs.Setting.{MovesAs, StopComesAs, phase_in};
 
 use crate::Engine;
@@ -64,6 +64,7 @@ impl<D: SectorDisk, K: ReadKeys + Probing> Engine<D, K> {
         ensures unlogged { OnOk result (UnloggedAs K.Key.Shape K.is_proper K.said K.KeyClass D.state
             (bringing self.old.volume) self.old.volume self.new.volume) }
         ensures rest { OnOk result (self.new ≡ brought self.old self.new) }
+        ensures stays { OnOk result (StaysAs K.KeyClass D.state self.old.volume.shelf self.new.volume.shelf) }
         ensures step { IfOk result (λ after. LookStep (tree_at K.KeyClass D.state self.new.volume.shelf)
             (wants K.passes wanted.now.keys wanted.now.row) (K.passes wanted.now.bounds) look.stack.items
             after.stack.items look.found.items after.found.items) }

@@ -39,7 +39,8 @@ pub record IsFrames (count : ℕ) : Type 0 where
   pub least : 16 ≤ count
   pub most : count ≤ FRAMES
 
--- Why there is none: too few frames or too many, which is tested first; or as a format was refused; or memory lacks.
+-- Why there is none: too few frames or too many, which is tested first; or why a format was refused; or memory is
+-- refused.
 abbrev pub WhyNone : {D : Type 0} → (D → Device) → Parameters → Contents → ℕ → D → D → Refusal → Type 0
 WhyNone state parameters root count old new why =
     ((why ≡ BadParameter) × (IsFrames count → ⊥) × (new ≡ old)) ⊎ ((why ≡ Memory) ⊎ Formats state parameters root old new (Err why))

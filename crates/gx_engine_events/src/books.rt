@@ -10,10 +10,10 @@ use gx_disk::SectorDisk;
 use gx_durable::ReadKeys;
 use gx_shared::{Book, Run};
 
-/// What a book over the engine keeps, whenever it is looked at, where devices of its kind keep what they are told:
+/// What a book over the engine keeps, whenever it is looked at, where devices of its kind keep what they acknowledge:
 /// its record replays, from the machine that the run names, as a machine that its engine is seen as; and whatever a
-/// crash may leave of the engine's device then stands for a set that this machine keeps, from the last durable
-/// commit's to the last one's; and each commit that the record acknowledges is durable.
+/// crash may leave of the engine's device then stands for a set that this machine keeps, from the last durable commit's
+/// to the last one's; and each commit that the record acknowledges is durable.
 pub fn outlives_a_crash<D: SectorDisk, K: ReadKeys + Probing, R: Run<K::Key>>(
     book: &Book<K::Key, EngineEvents<D, K>, R>,
 )

@@ -72,7 +72,7 @@ impl<D: SectorDisk, K: ReadKeys + Probing> Events<K::Key> for EngineEvents<D, K>
     ghost use Rattle.gx_engine_events.specs.Seen.{Sees};
     ghost use Rattle.gx_engine_events.specs.One.{one_seen};
 
-    // devices of its kind keep what they are told
+    // devices of its kind keep what they acknowledge
     ghost granted = { (d : D) → (D.state d).honest ≡ true };
 
     ghost sees = { λ e m. Sees K.Key.Shape K.is_proper K.said (format_of K.KeyClass) D.state e m };

@@ -50,12 +50,12 @@ pub fn a_hold_leaves_sets_of_the_machine<D: SectorDisk, K: ReadKeys>()
     a_class_is_lawful::<K>();
 }
 
-/// Over a device in memory nothing has to be granted: that such devices keep what they are told is proved.
+/// Over a device in memory nothing has to be assumed: that such devices keep what they acknowledge is proved.
 pub fn in_memory_all_is_granted<K: ReadKeys + Probing>()
     ensures { ⟦<EngineEvents<MemDisk, K> as Events<K::Key>>⟧.granted }
 {}
 
-/// So a book over one stands, with no premise.
+/// So a book over one keeps what it promises, with no premise.
 pub fn in_memory_a_book_stands<K: ReadKeys + Probing, R: Run<K::Key>>(
     book: &Book<K::Key, EngineEvents<MemDisk, K>, R>,
 )

@@ -2,7 +2,7 @@
 //! device that is formatted.
 //!
 //! It is seen as a set machine where it holds an index over its device that is seen as that machine. Which index that
-//! is, and how its log and its pages stand on the device, isn't stored: the indexes that one engine may hold are all
+//! is, and what of its log and its pages the device has, isn't stored: the indexes that one engine may hold are all
 //! seen as one machine.
 #![tactic(auto)]
 

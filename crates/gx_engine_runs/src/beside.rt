@@ -62,7 +62,7 @@ pub(crate) struct Ended {
     pub(crate) counts: Counts,
 }
 
-/// Whether an outcome tells of a device that failed.
+/// Whether an outcome says that the device failed.
 fn is_fault<B>(outcome: &Outcome<B>) -> bool {
     matches!(
         outcome,

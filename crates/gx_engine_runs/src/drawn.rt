@@ -1,4 +1,4 @@
-//! Runs of events that are drawn: of eight sessions, and the flusher's in any order between them.
+//! Runs of random events: of eight sessions, and the flusher's in any order between them.
 use crate::beside::{At, Beside, Went};
 use crate::fault::RunFault;
 use crate::keys::{Drawn, below};
@@ -12,7 +12,7 @@ const ROWS: usize = 300;
 /// How many events a session's call takes at most, once no other's comes between.
 const CALL_EVENTS: usize = 100_000;
 
-/// An entry: a row with a key that its number draws, so that rows come back.
+/// An entry: a row with a random key by its number, so that rows come back.
 fn draw_entry<K: Drawn>(draw: &mut Pcg32) -> Entry<K::Key> {
     let row = below(draw, ROWS) as u64;
     let mut keys = Pcg32::new(row, 7);
@@ -102,7 +102,7 @@ fn draw_event<K: Drawn>(beside: &Beside<K>, last: Went, draw: &mut Pcg32) -> Eve
     }
 }
 
-/// A session's open call goes on to its end, with the events that help it. Answers whether no call of the device
+/// A session's open call goes on to its end, with the events that help it. Returns whether no call of the device
 /// failed.
 pub(crate) fn finish<K: Drawn>(beside: &mut Beside<K>, session: u8) -> Result<bool, RunFault> {
     let mut next = Event::Move(session);
@@ -138,7 +138,7 @@ fn end_transaction<K: Drawn>(beside: &mut Beside<K>, session: u8) -> Result<bool
     }
 }
 
-/// Draws so many events, and then ends each session's transaction. Answers whether no call of the device failed.
+/// Makes so many random events, and then ends each session's transaction. Returns whether no call of the device failed.
 pub(crate) fn draw_run<K: Drawn>(
     beside: &mut Beside<K>,
     draw: &mut Pcg32,

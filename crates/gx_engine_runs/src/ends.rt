@@ -1,4 +1,4 @@
-//! How a run ends: all is settled, or a crash comes; and what stands on the device is read by its format alone.
+//! How a run ends: all is settled, or a crash comes; and the device is read by its format alone.
 ghost use Rattle.std.specs.Prelude.{◌≡◌, length, IfOk};
 
 use crate::beside::{At, Beside, Ended, Went};
@@ -67,7 +67,7 @@ impl Failing {
 pub(crate) struct End {
     /// Whether all calls of the device were made.
     pub(crate) is_whole: bool,
-    /// Whether what stands is the last commit that was acknowledged, or a later one.
+    /// Whether the device has the last commit that was acknowledged, or a later one.
     pub(crate) is_last: bool,
     pub(crate) counts: Counts,
 }
@@ -115,7 +115,7 @@ fn read_back(alloc: Global, disk: &mut MemDisk, class: u16) -> Result<Reading, R
     }
 }
 
-/// Makes an event over and over, until there is nothing to do. Answers whether no call of the device failed.
+/// Makes an event over and over, until there is nothing to do. Returns whether no call of the device failed.
 fn repeat<K: Drawn>(beside: &mut Beside<K>, event: Event<K::Key>) -> Result<bool, RunFault> {
     for _step in 0..STEPS {
         match beside.step(event)? {
@@ -127,7 +127,7 @@ fn repeat<K: Drawn>(beside: &mut Beside<K>, event: Event<K::Key>) -> Result<bool
     Err(RunFault::Event)
 }
 
-/// Settles what was logged. Answers whether no call of the device failed.
+/// Settles what was logged. Returns whether no call of the device failed.
 fn settle<K: Drawn>(beside: &mut Beside<K>) -> Result<bool, RunFault> {
     Ok(repeat(beside, Event::CheckpointStep)? && repeat(beside, Event::LogStep)?)
 }
@@ -171,7 +171,7 @@ fn refuses_all<K: Drawn>(beside: &mut Beside<K>) -> Result<(), RunFault> {
     Ok(())
 }
 
-/// What stands on the device is the set of a commit, from the last that was acknowledged to the last that was sealed.
+/// The device has the set of a commit, from the last that was acknowledged to the last that was sealed.
 fn judge<K: Drawn>(
     alloc: Global,
     beside: Beside<K>,
@@ -220,7 +220,7 @@ pub(crate) fn begin_run<K: Drawn>(
     }
 }
 
-/// Makes a run that is drawn, on a new index, up to its end or to a call that fails, and reads what then stands.
+/// Makes a random run, on a new index, up to its end or to a call that fails, and reads what the device then has.
 pub(crate) fn make_run<K: Drawn>(
     alloc: Global,
     mut beside: Beside<K>,

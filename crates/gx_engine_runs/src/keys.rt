@@ -1,4 +1,4 @@
-//! Keys that are drawn, of both classes.
+//! Random keys, of both classes.
 use gx_class::{Box2Class, IntervalClass, KeyClass, Probing};
 use gx_durable::ReadKeys;
 use gx_geom::{Box2, Interval};
@@ -20,7 +20,7 @@ fn corner(draw: &mut Pcg32, bound: usize) -> i32 {
     i32::try_from(below(draw, bound)).unwrap_or(0)
 }
 
-/// A class whose keys are drawn, and told as the plain reader tells them.
+/// A class with random keys, printed as the plain reader prints them.
 pub(crate) trait Drawn: ReadKeys + Probing {
     /// A small key on a grid.
     fn draw(draw: &mut Pcg32) -> Self::Key;

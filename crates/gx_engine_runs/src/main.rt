@@ -6,15 +6,15 @@
 //! an open call has left. `page PAGE` prints what a page has.
 //!
 //! `boxes` and `intervals`, with a seed, a number of events, the greatest number of entries a node and a number of
-//! frames, draw that many events of eight sessions and of a flusher, in any order, and end each session's transaction.
-//! Each reply is the plain index's; and what then stands on the device, read by its format alone, is a legal tree with
-//! the last set. With three numbers more, `fails` makes such a run of boxes for each of so many calls of the device,
-//! from a first one on by a stride, of which each fails once, made and not: from then on each event is refused. `stops`
-//! does so with a machine that stops at the call, and a crash by which what wasn't synced is old, is new, old and new
-//! in turn, or torn. What stands then is the set of a commit, from the last that was acknowledged to the last that was
-//! sealed.
+//! frames, make that many random events of eight sessions and of a flusher, in any order, and end each session's
+//! transaction. Each reply is the plain index's; and what the device then has, read by its format alone, is a legal
+//! tree with the last set. With three numbers more, `fails` makes such a run of boxes for each of so many calls of the
+//! device, from a first one on by a stride, of which each fails once, made and not: from then on each event is refused.
+//! `stops` does so with a machine that stops at the call, and a crash by which what wasn't synced is old, is new, old
+//! and new in turn, or torn. What stands then is the set of a commit, from the last that was acknowledged to the last
+//! that was sealed.
 //!
-//! An empty line, and one that begins with `#`, is printed as it stands. The program ends at the first difference, with
+//! An empty line, and one that begins with `#`, is printed unchanged. The program ends at the first difference, with
 //! status 1.
 #![tactic(auto)]
 

@@ -1,4 +1,4 @@
-//! Replies compared, and told in words.
+//! Replies compared, and printed in words.
 use gx_geom::Shape;
 use gx_machine::Reply;
 

@@ -38,7 +38,7 @@ AskRefused k s call (reply.Refused refusal.Failed) old new = (old.failed ≡ tru
 AskRefused k s call (reply.Refused refusal.HistoryFull) old new = (is_begin call ≡ true) × IsStep k old (RefusesAsk s call refusal.HistoryFull) new
 AskRefused k s call other old new = ⊥
 
--- a call may be closed for this: want of pages closes an insert, and want of memory a write or a search
+-- a call may be closed for this: an insert, where no page is left, and a write or a search, where memory is refused
 abbrev pub may_lack : {B : Type 0} → Refusal → Call B → Bool
 may_lack refusal.PagesFull (Insert entry) = true
 may_lack refusal.Memory (Insert entry) = true

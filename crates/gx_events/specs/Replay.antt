@@ -14,7 +14,7 @@ use Rattle.gx_machine.specs.Sessions.{is_unanswered}
 use Rattle.gx_machine.specs.Machine.{Machine, newest, session_at, ask, answer, durable, failed_machine}
 use Rattle.gx_machine.specs.Runs.{Asks, Answers, Seals, Closes, RefusesAsk, RefusesCall, IsStep}
 
--- Where a replay stands: at a machine; or a session has just asked there, and what comes next tells whether that ask was
+-- How far a replay is: at a machine; or a session has just asked there, and what comes next shows whether that ask was
 -- refused for a cause outside of the machine.
 pub data Point (B : Type 0) : Type 0 where
   At : (m : Machine B) → Point B

@@ -50,7 +50,8 @@ GoesOn s other = ⊥
 abbrev pub IsJust : {B : Type 0} → laws.Event B → List (laws.Event B) → Type 0
 IsJust event events = (events ≡ event ∷ []) ⊎ (events ≡ laws.Works ∷ event ∷ [])
 
--- A move ends its session's call, or goes on with it, or waits for another event; or it is refused for want of a session or of a call.
+-- A move ends its session's call, or goes on with it, or waits for another event; or it is refused because there is no
+-- such session or call.
 abbrev pub IsMove : {B : Type 0} → ℕ → Engine B → Outcome B → List (laws.Event B) → Type 0
 IsMove {B} s old (Replied r) events = (event : laws.Event B) × IsJust event events × IsEnd s old.failed r event
 IsMove {B} s old More events = (old.failed ≡ false) × ((event : laws.Event B) × (events ≡ event ∷ []) × GoesOn s event)

@@ -39,7 +39,7 @@ pub record HasLooked {B : Type 0} (k : Keys B) (query : Query B) (live : Entry B
   pub whole : (e : Entry B) → matches k query e ≡ true → live e ≡ true → has k e found ≡ true
 
 -- What a change of the tree does to its pairs: splits and widenings move them; a pair is added, live; the mark of an
--- entry's pair is set; marked pairs are swept, but for those of spared entries.
+-- entry's pair is set; marked pairs are swept, except for those of spared entries.
 pub data Change (B : Type 0) : Type 0 where
   Moves : Change B
   Adds : (e : Entry B) → Change B
@@ -50,7 +50,7 @@ pub data Change (B : Type 0) : Type 0 where
 abbrev pub is_claimed : {B : Type 0} → Keys B → Entry B → List (Slot B) → Bool
 is_claimed k e slots = list_any (λ slot. has k e (locks_held slot).claims) slots
 
--- a change of session s, told by locks alone: it adds and marks what s claims, and spares what any session claims
+-- a change of session s that only locks decide: it adds and marks what s claims, and spares what any session claims
 abbrev pub ToldByLocks : {B : Type 0} → Keys B → ℕ → List (Slot B) → Change B → Type 0
 ToldByLocks k s slots Moves = Unit {0}
 ToldByLocks k s slots (Adds e) = has k e (locks_held (slot_at s slots)).claims ≡ true
@@ -64,7 +64,7 @@ LeavesAlone test (Adds e) = test (record { entry = e; live = true }) ≡ false
 LeavesAlone test (Marks e) = (live : Bool) → test (record { entry = e; live = live }) ≡ false
 LeavesAlone {B} test (Sweeps spared) = (e : Entry B) → test (record { entry = e; live = false }) ≡ true → spared e ≡ true
 
--- a sweep is of nobody in particular: it may be one's own
+-- a sweep belongs to no session: it may be one's own
 abbrev pub is_sweep : {B : Type 0} → Change B → Bool
 is_sweep Moves = false
 is_sweep (Adds e) = false

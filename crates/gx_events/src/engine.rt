@@ -1,4 +1,4 @@
-//! What an engine owes to whoever runs its events.
+//! What an engine owes to the caller that runs its events.
 ghost use Rattle.std.specs.Prelude.{◌≡◌, ◌<◌, ℕ, Option, true};
 ghost use Rattle.gx_machine.specs.Keys.{keys_of};
 ghost use Rattle.gx_machine.specs.Machine.{Machine, newest};
@@ -16,9 +16,9 @@ use gx_geom::Shape;
 /// machine that the event and its outcome lead to. That machine says what was committed, under which numbers, up to
 /// which number commits are durable, what each session has open, and whether a fault has ended the engine.
 pub trait Events<B: Shape> {
-    /// What has to be granted before anything follows from the machine that an engine is seen as: what no program can
-    /// find out, as that the devices of an engine over pages keep what they are told.
-    /// An engine in memory needs nothing.
+    /// What has to be assumed before anything follows from the machine that an engine is seen as: what no program can
+    /// find out, for example that the devices of an engine over pages keep what they acknowledge. An engine in memory
+    /// needs nothing.
     ghost granted: { Type 0 };
 
     /// The machine that the engine is seen as.

@@ -1,4 +1,4 @@
-//! What holds of every engine whose events are as they are defined.
+//! What holds of every engine whose events keep their definitions.
 ghost use Rattle.std.specs.Prelude.{◌≡◌, ◌≢◌, ◌≤◌, ℕ, Bool, true, false, Option, None, Some, All};
 ghost use Rattle.std.specs.Prelude.{List, [], ◌∷◌, length, sum_by, if◌then◌else◌, is_some, replicate};
 ghost use Rattle.gx_geom.specs.declared.refusal.Refusal.TheVariants.{ClaimsFull};
@@ -94,8 +94,7 @@ pub fn events_of_others_leave_a_session<B>()
 {}
 
 /// A pair that another session claims isn't wanted, whatever its mark; and what is wanted and marked is claimed, so
-/// that no sweep takes it. So a tree change that is told
-/// by locks alone leaves alone what every other open call, and undo, wants.
+/// that no sweep takes it. So a tree change that only locks decide spares what every other open call, and undo, wants.
 pub fn locks_keep_what_is_wanted<B>()
     ensures claimed { (k : Keys B) → IsLawful k → (engine : Engine B) (a b : ℕ) (pair : Pair B) → IsSound k engine
         → a ≢ b

@@ -14,6 +14,6 @@ pub enum Event<B> {
     WritePage(u32),
     /// A checkpoint begins, or its next write or sync is made.
     CheckpointStep,
-    /// The marked pairs that nobody claims are taken from this leaf.
+    /// The marked pairs that no session claims are removed from this leaf.
     Sweep(u32),
 }

@@ -28,7 +28,7 @@ pub fn records_replay<B>()
     ensures empty { (k : Keys B) (start : Machine B) → ReplaysAs k start [] start }
 {}
 
-/// A search's answer may be given up for want of memory in place of being handed over: the machine is left alike.
+/// A search's answer may be replaced by a refusal for memory: the machine is the same after either.
 pub fn what_is_found_may_be_given_up<B>()
     ensures { (k : Keys B) (old new : Machine B) (s : ℕ) (entries : List (Entry B))
         → Happens k old (Move s) (Replied (Found entries)) new → Happens k old (Move s) (Replied (Refused Memory)) new }

@@ -15,7 +15,7 @@ use Rattle.gx_glog.specs.First.{open_gate_bytes, closed_gates_bytes, selector_by
 use Rattle.gx_glog.specs.Parameters.{parameters_bytes}
 use Rattle.gx_glog.specs.declared.parameters.Parameters.{Parameters}
 use Rattle.gx_glog.specs.declared.extent.Extent.TheVariants.{A}
-use Rattle.gx_format.specs.declared.fresh.TheConstants.{MIN_FANOUT, PAGE_2}
+use Rattle.gx_format.specs.declared.fresh.TheConstants.{PAGE_2}
 use Rattle.gx_format.specs.Calls.{Call, Write, Sync, HasRun, HasFailed}
 use Rattle.gx_format.specs.Fresh.{magic_bytes, HasMagic, IsLaid, IsFresh}
 
@@ -38,7 +38,7 @@ naming = Write 0 1 (magic_bytes ++ replicate 504 0) ∷ Sync ∷ []
 abbrev pub formatting : Parameters → Contents → List Call
 formatting parameters root = clearing ++ (laying parameters root ++ naming)
 
--- one of the images of the device as it was, but for sector 0
+-- one of the images of the device before, except for sector 0
 pub record IsOldBeside (old : disk.Device) (image : List ℕ) : Type 0 where
   pub size : length image ≡ length old.seen
   pub same : (s : ℕ) → 1 ≤ s → old.pending s ≡ false → sector_of image s ≡ sector_of old.seen s
@@ -51,11 +51,12 @@ IsUnnamed image = HasMagic image → ⊥
 abbrev pub IsUnnamedOrFresh : Parameters → Contents → List ℕ → Type 0
 IsUnnamedOrFresh parameters root image = HasMagic image → IsFresh parameters root image
 
--- what a crash at any moment of a format may leave: of what is told to be an index, an image of before but for sector 0, or the fresh one
+-- what a crash at any moment of a format may leave: if it has the magic, an image of before except for sector 0, or the
+-- fresh one
 abbrev pub IsOldOrFresh : disk.Device → Parameters → Contents → List ℕ → Type 0
 IsOldOrFresh old parameters root image = HasMagic image → IsOldBeside old image ⊎ IsFresh parameters root image
 
--- nothing stands between the magic and what it names: beyond sector 0 all is laid down and settled
+-- only the magic is missing: beyond sector 0 all is laid down and settled
 pub record IsLaidDown (parameters : Parameters) (root : Contents) (d : disk.Device) : Type 0 where
   pub laid : IsLaid parameters root d.seen
   pub settled : (s : ℕ) → 1 ≤ s → d.pending s ≡ false
@@ -69,7 +70,7 @@ pub record IsCleared (d : disk.Device) : Type 0 where
 pub record AreInRange (pages most : ℕ) : Type 0 where
   pub least_pages : MIN_PAGES ≤ pages
   pub most_pages : pages ≤ MAX_PAGES
-  pub least_entries : MIN_FANOUT ≤ most
+  pub least_entries : 4 ≤ most
   pub most_entries : most ≤ MAX_ENTRIES
 
 -- how many sectors an index of so many pages takes

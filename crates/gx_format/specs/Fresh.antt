@@ -18,7 +18,7 @@ use Rattle.gx_node.specs.Entries.{child_bytes}
 abbrev pub magic_bytes : List ℕ
 magic_bytes = 0x47 ∷ 0x49 ∷ 0x53 ∷ 0x54 ∷ 0x52 ∷ 0x54 ∷ 0x30 ∷ 0x31 ∷ []
 
--- it is told to be an index by the first eight bytes: no other byte of sector 0 is read
+-- the first eight bytes say that it is an index: no other byte of sector 0 is read
 abbrev pub HasMagic : List ℕ → Type 0
 HasMagic image = take 8 (sector_of image 0) ≡ magic_bytes
 

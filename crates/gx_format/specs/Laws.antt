@@ -11,7 +11,7 @@ use Rattle.gx_format.specs.Calls.{Runs}
 use Rattle.gx_format.specs.Fresh.{IsFresh}
 use Rattle.gx_format.specs.Formatting.{clearing, laying, naming, formatting, IsOldBeside, IsUnnamed, IsUnnamedOrFresh, IsOldOrFresh, IsCleared, IsLaidDown}
 
--- in the first write and its sync each image is one of before but for sector 0, and then the device has no index
+-- in the first write and its sync each image is one of before except for sector 0, and then the device has no index
 abbrev pub ClearingLeavesOld : (D : Type 0) → (D → disk.Device) → Type 0
 ClearingLeavesOld D state = (old new : D) (result : Result (Unit {0}) Refusal) → (state old).honest ≡ true → 1 ≤ (state old).sectors → Runs state clearing old new result
     → Leaves (IsOldBeside (state old)) (state old) (state new) × (result ≡ Ok tt → IsCleared (state new))
@@ -28,7 +28,8 @@ NamingLeavesFresh D state = (parameters : Parameters) (root : Contents) (old new
     → 1 ≤ (state old).sectors → IsLaidDown parameters root (state old) → Runs state naming old new result
     → Leaves (IsUnnamedOrFresh parameters root) (state old) (state new) × (result ≡ Ok tt → IsFresh parameters root (state new).seen × IsSettled (state new))
 
--- so at each moment of a format, and where a call of it fails, each image is one of before but for sector 0, no index, or the fresh one
+-- so at each moment of a format, and where a call of it fails, each image is one of before except for sector 0, no
+-- index, or the fresh one
 abbrev pub FormattingLeavesOldOrFresh : (D : Type 0) → (D → disk.Device) → Type 0
 FormattingLeavesOldOrFresh D state = (parameters : Parameters) (root : Contents) (old new : D) (result : Result (Unit {0}) Refusal) → (state old).honest ≡ true
     → MIN_SECTORS ≤ (state old).sectors → Runs state (formatting parameters root) old new result

@@ -167,8 +167,8 @@ fn make<D: SectorDisk>(
 /// a node at most, 4 to 100. What the device held is gone.
 ///
 /// It makes fourteen calls of the device, in the order of `formatting`. On an honest device, at each moment of them,
-/// also where one fails, each image is one of before but for its first sector, or isn't told to be an index, or is the
-/// fresh one; at `Ok` the device reads as the fresh one, and all of it is settled.
+/// also where one fails, each image is one of before except for its first sector, or has no magic, or is the fresh one;
+/// at `Ok` the device reads as the fresh one, and all of it is settled.
 ///
 /// Refused, in this order: with `BadParameter` where a number is out of range; with `TooSmall` where the device has
 /// fewer sectors than [`sectors_for`] says; with `Memory` where there is none for a page; until here no call was made.

@@ -57,7 +57,7 @@ is_later (rec.Add tx row key leaf) = true
 is_later (rec.Widen page slot key) = true
 is_later (rec.Sweep page slots) = true
 
--- whether a record of this kind may stand in this part of a log
+-- whether a record of this kind may be in this part of a log
 abbrev pub may_stand : Part → Rec → Bool
 may_stand Start x = is_counters x
 may_stand Head x = is_noting x
@@ -95,7 +95,8 @@ breaks_next k r (rec.Sweep page slots) s rule = false
 abbrev pub BreaksWrite : {E P : Type 0} → (E → E → Ordering) → Known E P → Touch E → Kept E → LogRule → Type 0
 BreaksWrite cmp k t s rule = ((rule ≡ NoKey) × (k.is_entry t.entry ≡ false)) ⊎ (breaks_write cmp t s rule ≡ true)
 
--- A record breaks this rule: it is of a kind that may not stand there, or its key is none of the class, or what it says may not come next.
+-- A record breaks this rule: it is of a kind that may not be there, or its key is none of the class, or what it says
+-- may not come next.
 abbrev pub RecordBreaks : {E P : Type 0} → Part → Known E P → Reading E P → Rec → Kept E → LogRule → Type 0
 RecordBreaks part k r x s rule =
     ((rule ≡ Misplaced) × (may_stand part x ≡ false)) ⊎ (((rule ≡ NoKey) × (is_of_class k r x ≡ false)) ⊎ (breaks_next k r x s rule ≡ true))
@@ -120,18 +121,19 @@ pub record RecordAt {E P : Type 0} (part : Part) (k : Known E P) (r : Reading E 
   pub begins : BeginsWith r.key rest one size
   pub breaks : RecordIsBroken part k r one s rule
 
--- The front of these bytes breaks the rule: no record stands there, or they end where the counters are wanted, or a record does.
+-- The front of these bytes breaks the rule: it is no record, or the bytes end where the counters have to be, or the
+-- record breaks it.
 abbrev pub FrontBreaks : {E P : Type 0} → Part → Known E P → Reading E P → List ℕ → Gathered E → LogRule → Type 0
 FrontBreaks part k r rest s rule =
     ((rule ≡ Spelling) × (0 < length rest) × ((x : Rec) (n : ℕ) → BeginsWith r.key rest x n → ⊥))
     ⊎ (((rule ≡ NoCounters) × (part ≡ Start) × (rest ≡ [])) ⊎ RecordAt part k r rest s rule)
 
--- where the record behind these stands
+-- the part of the log of the record behind these
 abbrev pub part_after : {E P : Type 0} → Part → List (Record E P) → Part
 part_after part [] = part
 part_after part (x ∷ records) = part_after (part_behind part) records
 
--- Of these bytes so many are whole records that may come next, and what stands behind them breaks the rule.
+-- Of these bytes so many are whole records that may come next, and what follows them breaks the rule.
 pub record IsBrokenAt {E P : Type 0} (part : Part) (k : Known E P) (r : Reading E P) (log : List (Record E P)) (bytes : List ℕ) (at : ℕ) (rule : LogRule) : Type 0 where
   pub front : List ℕ
   pub rest : List ℕ

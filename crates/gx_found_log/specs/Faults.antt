@@ -1,4 +1,4 @@
--- The refusal that stands for why a log isn't read back.
+-- The refusal by why a log isn't read back.
 use Rattle.std.specs.Prelude.{Result, Ok, Err}
 use Rattle.gx_geom.specs.declared.refusal.Refusal.{Refusal}
 use Rattle.gx_geom.specs.declared.refusal.Refusal.TheVariants as refusals

@@ -83,7 +83,7 @@ ExtentRead k r seen extent old (Ok n) new = ReadSoFar k r seen extent 0 old → 
 ExtentRead k r seen extent old (Err Damaged) new = ReadSoFar k r seen extent 0 old → AreUndamaged k r seen extent (open_run seen extent 0 PLACES) → ⊥
 ExtentRead k r seen extent old (Err refusal) new = Unit {0}
 
--- The log of an image is found: it is undamaged, what is kept is what its records tell, and of each page what it gives.
+-- The log of an image is found: it is undamaged, what is kept is what its records say, and of each page what it gives.
 pub record IsFound {E P : Type 0} (k : Known E P) (r : Reading E P) (seen : List ℕ) (found : FoundLog E) : Type 0 where
   pub extent : found.extent ≡ selected_of seen
   pub bodies : found.bodies ≡ opened seen
@@ -97,7 +97,7 @@ LogRead k r seen (Ok found) = IsFound k r seen found
 LogRead k r seen (Err Damaged) = HasUndamaged k r seen → ⊥
 LogRead k r seen (Err refusal) = Unit {0}
 
--- how many faults of the device a reading tells of
+-- how many faults of the device a reading's result means
 abbrev pub FaultsTold : {T : Type 0} → (before now : ℕ) → Result T Refusal → Type 0
 FaultsTold before now (Ok x) = now ≡ before
 FaultsTold before now (Err Device) = now ≡ before + 1
@@ -105,7 +105,8 @@ FaultsTold before now (Err Damaged) = now ≡ before
 FaultsTold before now (Err Memory) = now ≡ before
 FaultsTold before now (Err refusal) = ⊥
 
--- A reading makes no write and no sync. It is refused by the device's fault, because of damage, or for want of memory.
+-- A reading makes no write and no sync. It is refused by the device's fault, because of damage, or because memory is
+-- refused.
 pub record ReadsAlone {T : Type 0} (old new : disk.Device) (result : Result T Refusal) : Type 0 where
   pub sectors : new.sectors ≡ old.sectors
   pub honest : new.honest ≡ old.honest

@@ -1,4 +1,4 @@
--- A log that was read and redone goes on where it stands.
+-- A log that was read and redone goes on there.
 use Rattle.std.specs.Prelude.{◌≡◌, true, List, Ok}
 use Rattle.gx_geom.specs.declared.refusal.Refusal.{Refusal}
 use Rattle.gx_disk.specs.Device.{Device, IsSettled}
@@ -24,8 +24,8 @@ pub record IsSameDevice (old new : Device) : Type 0 where
   pub sectors : new.sectors ≡ old.sectors
   pub honest : new.honest ≡ old.honest
 
--- What is known of the device that a log which was read goes on from: its bodies stand there, over pages that are good for them and are
--- all written, and no later gate is open. These are the premises of `FoundIsUp` and `FoundRuns`.
+-- What is known of the device that a log which was read goes on from: the device has its bodies, over pages that are
+-- good for them and are all written, and no later gate is open. These are the premises of `FoundIsUp` and `FoundRuns`.
 pub record MayGoOn {E P : Type 0} (k : Known E P) (r : Reading E P) (d : Device) (bodies : List (List (Record E P))) (log : FoundLog E) : Type 0 where
   pub found : IsFoundGood k r d.sectors d.seen d.pending bodies
   pub closed : HasNoLater d.seen d.pending

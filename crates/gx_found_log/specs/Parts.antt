@@ -8,7 +8,7 @@ use Rattle.gx_recovery.specs.Damage.{is_head, follow, IsLog}
 use Rattle.gx_found_log.specs.declared.part.Part.{Part}
 use Rattle.gx_found_log.specs.declared.part.Part.TheVariants.{Start, Head, Later}
 
--- where the record behind one of that part stands, as long as the body goes on
+-- the part of the record behind one of that part, as long as the body goes on
 abbrev pub part_behind : Part → Part
 part_behind Start = Head
 part_behind Head = Head

@@ -63,9 +63,9 @@ pub record IsRedone {E P : Type 0} (k : Known E P) (r : Reading E P) (d e : Devi
 abbrev pub IsUngiven : {E P : Type 0} → List (Record E P) → ℕ → Type 0
 IsUngiven log s = (p : ℕ) → given p log ≢ None → IsOutside (first_of p) PAGE_SECTORS s
 
--- At each moment of a redo, also where a call fails, what a crash may leave has the log that was found, and after it the same pages.
--- Where these are good for it and can be read, and the device says what is known of it, it stands for the set that the log as it was found
--- keeps. Of all sectors only those of pages that the log gives are written.
+-- At each moment of a redo, also where a call fails, what a crash may leave has the log that was found, and after it
+-- the same pages. Where these are good for it and can be read, and the device says what is known of it, it stands for
+-- the set of the log that was found. Of all sectors only those of pages that the log gives are written.
 pub record Redone {T R E P : Type 0} (k : Known E P) (r : Reading E P) (d e : Device) (bodies : List (List (Record E P))) (result : Result T R) : Type 0 where
   pub leaves : Leaves (HasSamePages k r d.seen (records_of bodies)) d e
   pub stands : head_in d.seen ≡ k.head → AreGood k r (area_of r k.pages d.seen) (records_of bodies)

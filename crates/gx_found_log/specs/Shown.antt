@@ -1,4 +1,4 @@
--- That what is told of a damaged log is true of the device's bytes.
+-- What is said of a damaged log is true of the device's bytes.
 use Rattle.std.specs.Prelude.{◌≡◌, ℕ, ◌<◌, ◌≤◌, ◌⊎◌, true, false, List}
 use Rattle.gx_glog.specs.declared.extent.Extent.{Extent}
 use Rattle.gx_glog.specs.Layout.{selected_of, is_open, body_of, size_in, records_in}
@@ -30,7 +30,7 @@ pub record IsBrokenIn {E P : Type 0} (k : Known E P) (r : Reading E P) (seen : L
 abbrev pub BodyBreaks : {E P : Type 0} → Known E P → Reading E P → List ℕ → Extent → (i at : ℕ) → LogRule → Type 0
 BodyBreaks k r seen extent i at rule = ((rule ≡ BodySize) × (at ≡ 0) × (IsSize (size_in (body_of seen extent i)) → ⊥)) ⊎ IsBrokenIn k r seen extent i at rule
 
--- what is told of a place of an extent, of which all before it are read
+-- what is said of a place of an extent, of which all before it are read
 abbrev pub PlaceShows : {E P : Type 0} → Known E P → Reading E P → List ℕ → Extent → ℕ → Gathered E → LogFault → Type 0
 PlaceShows k r seen extent i old Memory = Unit {0}
 PlaceShows k r seen extent i old Device = Unit {0}
@@ -44,7 +44,7 @@ pub record IsDamage {E P : Type 0} (k : Known E P) (r : Reading E P) (seen : Lis
   pub breaks : ((damage.rule ≡ FirstGate) × (damage.body ≡ 0) × (damage.at ≡ 0) × (is_open seen extent 0 ≡ false))
       ⊎ ((is_open seen extent damage.body ≡ true) × BodyBreaks k r seen extent damage.body damage.at damage.rule)
 
--- what is told of an extent, and of the log of an image
+-- what is said of an extent, and of the log of an image
 abbrev pub ExtentShows : {E P : Type 0} → Known E P → Reading E P → List ℕ → Extent → LogFault → Type 0
 ExtentShows k r seen extent Memory = Unit {0}
 ExtentShows k r seen extent Device = Unit {0}

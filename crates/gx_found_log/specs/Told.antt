@@ -1,4 +1,4 @@
--- A record as its bytes say it, told to an analysis; and the bytes of a body.
+-- A record, by its bytes, that an analysis takes; and the bytes of a body.
 use Rattle.std.specs.Prelude.{◌≡◌, ℕ, Bool, true, false, Option, None, Some, List, [], ◌∷◌, ◌++◌, map, drop, Result, Ok, Err}
 use Rattle.gx_geom.specs.declared.refusal.Refusal.{Refusal}
 use Rattle.gx_geom.specs.declared.refusal.Refusal.TheVariants.{Damaged}
@@ -40,11 +40,12 @@ closings (rec.Sweep page slots) = 0
 abbrev pub touched : {E : Type 0} → ℕ → E → Bool → ℕ → Touch E
 touched tx entry before leaf = record { transaction = tx; entry = entry; before = before; leaf = leaf }
 
--- a write of an entry of the class, told
+-- a write of an entry of the class, taken
 abbrev pub TakesWrite : {E : Type 0} → (E → E → Ordering) → Touch E → Kept E → Result (Unit {0}) LogRule → Kept E → Type 0
 TakesWrite cmp t old result new = Takes (may_write cmp t old) (with_touch cmp t old) old (refused result) new
 
--- A record may come next, as far as what it says of its page fits, and what it tells is kept; or it is damage, and may not come.
+-- A record may come next, if what it says of its page fits, and what it says is kept; or it is damage, and may not
+-- come.
 abbrev pub Told : {E P : Type 0} → Part → Known E P → List (Record E P) → Record E P → Result (Unit {0}) Refusal → Kept E → Type 0
 Told part k log r (Ok done) new = (may_go_on part k log (r ∷ []) ≡ page_fits k log r) × IsKept k (log ++ r ∷ []) new
 Told part k log r (Err refusal) new = (may_go_on part k log (r ∷ []) ≡ false) × (refusal ≡ Damaged)
@@ -53,7 +54,8 @@ Told part k log r (Err refusal) new = (may_go_on part k log (r ∷ []) ≡ false
 abbrev pub RecordTold : {E P : Type 0} → Part → Known E P → Reading E P → Rec → Kept E → Result (Unit {0}) Refusal → Kept E → Type 0
 RecordTold {E} {P} part k r x old result new = (log : List (Record E P)) → IsBegun part k log → IsKept k log old → Told part k log (record_read r x) result new
 
--- What is gathered of a log: what its records tell, and of each page what it gives; and how many entries a node may have.
+-- What is gathered of a log: what its records say, and of each page what it gives; and how many entries a node may
+-- have.
 pub record IsGathered {E P : Type 0} (k : Known E P) (r : Reading E P) (log : List (Record E P)) (s : Gathered E) : Type 0 where
   pub kept : IsKept k log s.analysis
   pub given : IsGiven r s.given log
@@ -100,7 +102,7 @@ abbrev pub ReadsOn : {E P : Type 0} → (part now_at : Part) → Known E P → R
 ReadsOn {E} {P} part now_at k r bytes rest old now =
     (result : Result (Unit {0}) Refusal) (new : Gathered E) → BytesTold now_at k r rest now result new → BytesTold part k r bytes old result new
 
--- the first record of these bytes told, and how many bytes it has; or the damage that all of them are
+-- the first record of these bytes, taken, and how many bytes it has; or the damage that all of them are
 abbrev pub FirstTold : {E P : Type 0} → Part → Known E P → Reading E P → List ℕ → Gathered E → Result ℕ Refusal → Gathered E → Type 0
 FirstTold part k r bytes old (Ok n) new = ReadsOn part (part_behind part) k r bytes (drop n bytes) old new
 FirstTold part k r bytes old (Err refusal) new = BytesTold part k r bytes old (Err refusal) new

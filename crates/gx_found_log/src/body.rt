@@ -14,7 +14,7 @@ use crate::{Gathered, Misfit, Part, Readable};
 use gx_record::Record;
 use gx_recovery::LogRule;
 
-/// Reads the record at the front of the bytes and gathers it. Answers how many bytes it has.
+/// Reads the record at the front of the bytes and gathers it. Returns how many bytes it has.
 fn on_first<M: Readable>(
     part: Part,
     gathered: &mut Gathered<M::Entry>,

@@ -1,5 +1,5 @@
 //! The key classes, read of bytes.
-ghost use Rattle.std.specs.Prelude.{◌≡◌, ◌≤◌, true, IfErr};
+ghost use Rattle.std.specs.Prelude.{◌≡◌, ◌≢◌, ◌≤◌, true, IfErr};
 ghost use Rattle.gx_node.specs.declared.items.TheConstants.{MAX_ENTRIES};
 ghost use Rattle.gx_disk.specs.declared.layout.TheConstants.{PAGES_AT};
 ghost use Rattle.gx_disk.specs.Looks.{Looks};
@@ -9,7 +9,7 @@ ghost use Rattle.gx_found_log.specs.Found.{LogRead, ReadsAlone};
 ghost use Rattle.gx_found_log.specs.Faults.{refusing};
 ghost use Rattle.gx_found_log.specs.Shown.{LogShows};
 
-use crate::{FoundLog, LogFault, Readable, Small, examine_log, read_log};
+use crate::{FoundLog, LogFault, LogRoom, Readable, Small, examine_log, read_log};
 use gx_class::KeyClass;
 use gx_disk::SectorDisk;
 use gx_durable::{OfClass, ReadKeys};
@@ -17,7 +17,6 @@ use gx_geom::Refusal;
 use gx_machine::Entry;
 use gx_node::small::{add_pair, mark_pair, remove_slots, set_key};
 use gx_page::Page;
-use std::alloc::Global;
 
 impl<K: ReadKeys> Readable for OfClass<K> {
     ghost use Rattle.gx_durable.proofs.Used.{known_lawful};
@@ -49,7 +48,7 @@ impl<K: ReadKeys> Readable for OfClass<K> {
 
 /// Reads the log of a device of so many pages and entries in a node, whose keys are of a class, as [`read_log`].
 pub fn read_class_log<K: ReadKeys, D: SectorDisk>(
-    alloc: Global,
+    room: LogRoom<Entry<K::Key>>,
     disk: &mut D,
     pages: u32,
     most: u16,
@@ -60,13 +59,14 @@ pub fn read_class_log<K: ReadKeys, D: SectorDisk>(
     ensures looks { (D.state disk.old).honest ≡ true → Looks (D.state disk.old) (D.state disk.new) }
     ensures log { (D.state disk.old).honest ≡ true → (d : Limits) → d.pages ≡ pages → d.most ≡ most
         → LogRead (known_at K.Key.Shape K.is_proper d) (reading_by K.said K.KeyClass) (D.state disk.old).seen result }
+    ensures memory { IfErr result (λ why. why ≢ Refusal.Memory) }
 {
-    read_log::<OfClass<K>, D>(alloc, disk, pages, most)
+    read_log::<OfClass<K>, D>(room, disk, pages, most)
 }
 
 /// Reads the log of a device of so many pages and entries in a node, whose keys are of a class, as [`examine_log`].
 pub fn examine_class_log<K: ReadKeys, D: SectorDisk>(
-    alloc: Global,
+    room: LogRoom<Entry<K::Key>>,
     disk: &mut D,
     pages: u32,
     most: u16,
@@ -81,6 +81,7 @@ pub fn examine_class_log<K: ReadKeys, D: SectorDisk>(
     ensures shows { (D.state disk.old).honest ≡ true → (d : Limits) → d.pages ≡ pages → d.most ≡ most
         → IfErr result (λ fault. LogShows (known_at K.Key.Shape K.is_proper d) (reading_by K.said K.KeyClass)
         (D.state disk.old).seen fault) }
+    ensures memory { IfErr result (λ fault. fault ≢ LogFault.Memory) }
 {
-    examine_log::<OfClass<K>, D>(alloc, disk, pages, most)
+    examine_log::<OfClass<K>, D>(room, disk, pages, most)
 }

@@ -10,7 +10,7 @@ use std::fmt;
 /// What is wrong with the bytes of a body.
 #[derive(Clone, Copy)]
 pub struct Misfit {
-    /// How many bytes of whole records stand before it.
+    /// How many bytes of whole records come before it.
     pub at: usize,
     /// The rule that is broken there.
     pub rule: LogRule,
@@ -32,7 +32,7 @@ pub struct LogDamage {
     pub extent: Extent,
     /// The place of the body in it, 0 to 31. All before it are whole.
     pub body: u8,
-    /// How many bytes of whole records stand before the damage in this body.
+    /// How many bytes of whole records come before the damage in this body.
     pub at: usize,
     /// The rule that is broken there.
     pub rule: LogRule,
@@ -44,7 +44,7 @@ impl fmt::Display for LogDamage {
 
     ghost output = { λ damage. Some (damage_text damage) };
 
-    /// A line for a person, without its end.
+    /// A line for the user, without its end.
     fn fmt<W: fmt::Write>(&self, f: &mut fmt::Formatter<W>) -> fmt::Result {
         let (body, at, rule) = (self.body, self.at, self.rule);
         match self.extent {

@@ -1,5 +1,5 @@
 //! The log of a device, read back from the bodies behind its leading open gates.
-ghost use Rattle.std.specs.Prelude.{◌≡◌, ◌+◌, ◌*◌, ◌<◌, ◌≤◌, ◌⊎◌, true, false};
+ghost use Rattle.std.specs.Prelude.{◌≡◌, ◌≢◌, ◌+◌, ◌*◌, ◌<◌, ◌≤◌, ◌⊎◌, true, false};
 ghost use Rattle.std.specs.Prelude.{length, take, drop, IfOk, IfErr, Err};
 ghost use Rattle.gx_record.specs.declared.sizes.TheConstants.{END_RECORD};
 ghost use Rattle.gx_disk.specs.declared.layout.TheConstants.{PAGES_AT};
@@ -12,21 +12,20 @@ ghost use Rattle.gx_found_log.specs.declared.given.TheConstants.{MOST_IN_BODY};
 ghost use Rattle.gx_found_log.specs.Faults.{refusal_of, refusing};
 ghost use Rattle.gx_found_log.specs.Shown.{PlaceShows, ExtentShows, LogShows};
 
-use crate::{Gathered, Given, LogDamage, LogFault, Part, Readable, on_body};
+use crate::{Gathered, Given, LogDamage, LogFault, LogRoom, Part, Readable, on_body};
 use gx_disk::SectorDisk;
 use gx_geom::Refusal;
 use gx_glog::{BODY_ROOM, BODY_SIZE, Extent, PLACES, read_extent, selected};
 use gx_recovery::{Analysis, LogRule};
-use std::alloc::{AllocError, Global};
 
-/// A log as it is found on a device, undamaged.
+/// An undamaged log that was found on a device.
 #[derive(Drop)]
 pub struct FoundLog<E> {
     /// The extent that is selected.
     pub extent: Extent,
     /// How many of its gates are open in a row from the first on, 1 to 32.
     pub bodies: u8,
-    /// What the records of their bodies tell.
+    /// What the records of their bodies say.
     pub analysis: Analysis<E>,
     /// The pages that they give.
     pub given: Given,
@@ -71,7 +70,7 @@ fn body_fault(refusal: Refusal, extent: Extent, i: u8) -> LogFault
     }
 }
 
-/// Reads the body of a place and gathers it. Answers whether its gate is open.
+/// Reads the body of a place and gathers it. Returns whether its gate is open.
 fn on_place<M: Readable, D: SectorDisk>(
     disk: &mut D,
     extent: Extent,
@@ -95,6 +94,7 @@ where
         → PlaceRead (M.known d) M.reading (D.state disk.old).seen extent i gathered.old (refusing result) gathered.new }
     ensures shows { (D.state disk.old).honest ≡ true → (d : Limits) → (M.known d).cmp ≡ M.Entry.Ord.cmp
         → IfErr result (λ fault. PlaceShows (M.known d) M.reading (D.state disk.old).seen extent i gathered.old fault) }
+    ensures memory { IfErr result (λ fault. fault ≢ LogFault.Memory) }
 {
     match read_extent(disk, extent, i, body) {
         Ok(Some(size)) => match on_body::<M>(part_at(i), gathered, records(body, size)) {
@@ -134,7 +134,7 @@ fn some_bodies(extent: Extent, i: u8) -> Result<u8, LogFault>
     }
 }
 
-/// Reads the bodies behind an extent's leading open gates and gathers them. Answers how many there are.
+/// Reads the bodies behind an extent's leading open gates and gathers them. Returns how many there are.
 fn on_extent<M: Readable, D: SectorDisk>(
     disk: &mut D,
     extent: Extent,
@@ -154,6 +154,7 @@ where
     ensures shows { (D.state disk.old).honest ≡ true → (d : Limits) → (M.known d).cmp ≡ M.Entry.Ord.cmp
         → found.ReadSoFar (M.known d) M.reading (D.state disk.old).seen extent 0 gathered.old
         → IfErr result (λ fault. ExtentShows (M.known d) M.reading (D.state disk.old).seen extent fault) }
+    ensures memory { IfErr result (λ fault. fault ≢ LogFault.Memory) }
 {
     let mut i: u8 = 0;
     while i < PLACES {
@@ -185,6 +186,7 @@ where
     ensures shows { (D.state disk.old).honest ≡ true → (d : Limits) → (M.known d).cmp ≡ M.Entry.Ord.cmp
         → HasLimits (M.known d) gathered
         → IfErr result (λ fault. LogShows (M.known d) M.reading (D.state disk.old).seen fault) }
+    ensures memory { IfErr result (λ fault. fault ≢ LogFault.Memory) }
 {
     match selected(disk) {
         Ok(extent) => match on_extent::<M, D>(disk, extent, &mut gathered, body) {
@@ -200,17 +202,10 @@ where
     }
 }
 
-/// A buffer for a body.
-fn room(alloc: Global) -> Result<Vec<u8>, AllocError>
-    ensures { IfOk result (λ bytes. length bytes.items ≡ BODY_SIZE) }
-{
-    vec![in alloc; 0; BODY_SIZE]
-}
-
 /// Reads the log of a device of so many pages, and entries in a node, as [`read_log`] does. Of a log that is damaged it
-/// tells where, and which rule is broken there: what it tells is true of the device's bytes.
+/// returns where, and which rule is broken there; both are true of the device's bytes. It takes no memory.
 pub fn examine_log<M: Readable, D: SectorDisk>(
-    alloc: Global,
+    room: LogRoom<M::Entry>,
     disk: &mut D,
     pages: u32,
     most: u16,
@@ -227,24 +222,20 @@ where
     ensures shows { (D.state disk.old).honest ≡ true → (d : Limits) → (M.known d).cmp ≡ M.Entry.Ord.cmp
         → (M.known d).pages ≡ pages → (M.known d).most ≡ most
         → IfErr result (λ fault. LogShows (M.known d) M.reading (D.state disk.old).seen fault) }
+    ensures memory { IfErr result (λ fault. fault ≢ LogFault.Memory) }
 {
-    match room(alloc) {
-        Ok(mut body) => match Gathered::new(alloc, pages, usize::from(most)) {
-            Ok(gathered) => read_selected::<M, D>(disk, gathered, &mut body),
-            Err(_) => Err(LogFault::Memory),
-        },
-        Err(_) => Err(LogFault::Memory),
-    }
+    let (mut gathered, mut body) = room.parts();
+    gathered.set_limits(pages, usize::from(most));
+    read_selected::<M, D>(disk, gathered, &mut body)
 }
 
 /// Reads the log of a device of so many pages, and entries in a node: the bodies behind the leading open gates of the
 /// selected extent; no gate behind the first closed one is read. `Damaged` exactly where these bodies aren't whole ones
-/// whose records are an undamaged log, of entries of the class. Refused too by the device's fault (`Device`) and for
-/// want of memory (`Memory`, before the first read: 1.9 MB, and 32 KiB more while it reads). It makes no write. Each
-/// body is read once, for what it tells and for the pages that it gives. [`examine_log`] tells of a damaged log what is
-/// wrong.
+/// whose records are an undamaged log, of entries of the class. Refused too by the device's fault (`Device`), and for
+/// nothing else: all memory is in the room that it is given. It makes no write. Each body is read once, for what it
+/// says and for the pages that it gives. [`examine_log`] says what is wrong with a damaged log.
 pub fn read_log<M: Readable, D: SectorDisk>(
-    alloc: Global,
+    room: LogRoom<M::Entry>,
     disk: &mut D,
     pages: u32,
     most: u16,
@@ -258,8 +249,9 @@ where
     ensures log { (D.state disk.old).honest ≡ true → (d : Limits) → (M.known d).cmp ≡ M.Entry.Ord.cmp
         → (M.known d).pages ≡ pages → (M.known d).most ≡ most
         → LogRead (M.known d) M.reading (D.state disk.old).seen result }
+    ensures memory { IfErr result (λ why. why ≢ Refusal.Memory) }
 {
-    match examine_log::<M, D>(alloc, disk, pages, most) {
+    match examine_log::<M, D>(room, disk, pages, most) {
         Ok(found) => Ok(found),
         Err(fault) => Err(fault.refusal()),
     }

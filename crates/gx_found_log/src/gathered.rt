@@ -1,13 +1,13 @@
-//! What is gathered of a log while its records are read, each told to an analysis and to the table of images.
-ghost use Rattle.std.specs.Prelude.{◌≡◌, ◌+◌, ◌≤◌, [], length, IfOk, IfErr};
+//! What is gathered of a log while its records are read: an analysis and the table of images take each record.
+ghost use Rattle.std.specs.Prelude.{◌≡◌, ◌+◌, ◌≤◌, length, IfOk, IfErr};
 ghost use Rattle.gx_record.specs.Format.{IsRecord};
 ghost use Rattle.gx_record.specs.Seen.{rec_of};
-ghost use Rattle.gx_recovery.specs.Analysis.{unread};
 ghost use Rattle.gx_recovery.specs.Known.{Limits};
 ghost use Rattle.gx_recovery.specs.Broken.{refused};
 ghost use Rattle.gx_recovery.specs.declared.closed.TheConstants.{CLOSINGS};
 ghost use Rattle.gx_found_log.specs.declared.given.TheConstants.{MOST_GIVEN};
 ghost use Rattle.gx_found_log.specs.Broken.{RecordIsBroken};
+ghost use Rattle.gx_found_log.specs.Found.{IsUnread};
 ghost use Rattle.gx_found_log.specs.Given.{images_of};
 ghost use Rattle.gx_found_log.specs.Small.{small_of as small_in};
 ghost use Rattle.gx_found_log.specs.Told.{closings, KeepsSaid, RecordGathered};
@@ -22,7 +22,7 @@ use gx_record::Record;
 use gx_recovery::{Analysis, LogRule};
 use std::alloc::Global;
 
-/// What the records of a log tell so far, and the pages that they give.
+/// What the records of a log say so far, and the pages that they give.
 #[derive(Drop)]
 pub struct Gathered<E> {
     pub(crate) analysis: Analysis<E>,
@@ -31,22 +31,30 @@ pub struct Gathered<E> {
 }
 
 impl<E: Copy + Ord> Gathered<E> {
-    /// Of no record as yet, for a device of so many pages, and entries in a node. Refused where memory is (`Memory`).
-    pub(crate) fn new(alloc: Global, pages: u32, most: usize) -> Result<Self, Refusal>
-        requires { most ≤ MAX_ENTRIES }
-        ensures analysis { IfOk result (λ g. g.analysis ≡ record { told = unread; closed = []; pages = pages }) }
-        ensures given { IfOk result (λ g. g.given ≡ []) }
-        ensures most { IfOk result (λ g. g.scratch.0 ≡ most) }
+    /// Of no record as yet. Refused where memory is (`Memory`).
+    pub(crate) fn new(alloc: Global) -> Result<Self, Refusal>
+        ensures unread { IfOk result IsUnread }
         ensures refusal { IfErr result (λ refusal. refusal ≡ Refusal.Memory) }
     {
-        let analysis = Analysis::new(alloc, pages)?;
+        let analysis = Analysis::new(alloc, 0)?;
         let given = Given::new(alloc)?;
-        let scratch = Scratch::new(alloc, most)?;
+        let scratch = Scratch::new(alloc, 0)?;
         Ok(Gathered {
             analysis,
             given,
             scratch,
         })
+    }
+
+    /// The same for a device of so many pages, and entries in a node.
+    pub(crate) fn set_limits(&mut self, pages: u32, most: usize)
+        requires { most ≤ MAX_ENTRIES }
+        ensures analysis { self.new.analysis ≡ record self.old.analysis { pages = pages } }
+        ensures given { self.new.given ≡ self.old.given }
+        ensures most { self.new.scratch.0 ≡ most }
+    {
+        self.analysis.set_pages(pages);
+        self.scratch.set_most(most);
     }
 }
 
@@ -75,7 +83,7 @@ where
     }
 }
 
-/// Gathers a record that stands in this part of a log.
+/// Gathers a record of this part of a log.
 pub(crate) fn gather<M: Readable>(
     part: Part,
     gathered: &mut Gathered<M::Entry>,

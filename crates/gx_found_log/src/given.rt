@@ -44,7 +44,7 @@ impl Model for Given {
         × AllByRecursion HasImage g.pages.items };
 }
 
-/// Where a page stands, if it does.
+/// The place of a page, if it has one.
 fn place(page: u32, pages: &[Imaged]) -> Option<usize>
     ensures place { MatchOption result
         ((image : List ℕ) → with_image (page, image) pages.now ≡ pages.now ++ (page, image) ∷ [])

@@ -1,4 +1,4 @@
-//! One record of a log's first body, told to an analysis.
+//! One record of a log's first body, taken by an analysis.
 ghost use Rattle.std.specs.Prelude.{◌≡◌, IfErr};
 ghost use Rattle.gx_record.specs.Format.{IsRecord};
 ghost use Rattle.gx_record.specs.Seen.{rec_of};

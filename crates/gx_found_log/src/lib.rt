@@ -1,5 +1,5 @@
-//! The log that is found on a device, read back: from its bytes to what its records tell.
-//! A log that is damaged is refused.
+//! The log that is found on a device, read back: from its bytes to what its records say. A log that is damaged is
+//! refused.
 //!
 //! Its redo: the last image that it has of each page is laid on that page.
 #![tactic(auto)]
@@ -20,6 +20,7 @@ mod readable;
 mod record;
 mod redoing;
 mod restart;
+mod room;
 mod scratch;
 mod small;
 
@@ -34,5 +35,6 @@ pub use part::Part;
 pub use readable::Readable;
 pub use redoing::redo;
 pub use restart::redo_log;
+pub use room::LogRoom;
 pub use scratch::Scratch;
 pub use small::Small;

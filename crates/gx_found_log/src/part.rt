@@ -6,7 +6,7 @@ ghost use Rattle.gx_found_log.specs.Parts.{part_behind, ended};
 use crate::Misfit;
 use gx_recovery::LogRule;
 
-/// Where a record of a log stands, by what may stand there.
+/// The part of a log where a record is, by what may be there.
 #[derive(Clone, Copy)]
 pub enum Part {
     /// At the start of the first body: the counters.
@@ -18,7 +18,7 @@ pub enum Part {
 }
 
 impl Part {
-    /// Where the record behind it stands, in the same body.
+    /// The part of the record behind it, in the same body.
     pub(crate) fn behind(self) -> Part
         ensures { result ≡ part_behind self }
     {

@@ -1,4 +1,4 @@
-//! What a restart asks of whoever knows the keys.
+//! What reading a log asks of a class of keys.
 ghost use Rattle.std.specs.Prelude.{◌≡◌, ◌≤◌, ℕ, List, length, is_some, IfSome};
 ghost use Rattle.std.specs.Bool.{OnTrue};
 ghost use Rattle.gx_node.specs.declared.items.TheConstants.{MAX_ENTRIES};
@@ -35,7 +35,7 @@ pub trait Readable: Spelled {
     /// What is known of entries is lawful.
     ghost lawful: { (d : Limits) → IsLawful (Self.known d) };
 
-    /// An image has as its own number the one that stands in it.
+    /// An image has as its own number the one that its bytes have.
     ghost own: { (d : Limits) (page : ℕ) (image : List ℕ) → IsImageOf page image
         → (Self.known d).own (Self.reading.content image) ≡ page };
 }

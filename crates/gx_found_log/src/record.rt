@@ -1,4 +1,4 @@
-//! One record of a log, told to an analysis.
+//! One record of a log, taken by an analysis.
 ghost use Rattle.std.specs.Prelude.{◌≡◌, ◌+◌, ◌<◌, ◌≤◌, true, false, length, is_some, Err, IfErr, IfSome};
 ghost use Rattle.gx_record.specs.Format.{IsRecord};
 ghost use Rattle.gx_record.specs.Seen.{is_marked, rec_of, images};
@@ -142,7 +142,7 @@ where
     }
 }
 
-/// Tells a record that stands in this part of a log.
+/// Takes a record of this part of a log.
 pub(crate) fn on_record<M: Readable>(
     part: Part,
     analysis: &mut Analysis<M::Entry>,

@@ -34,9 +34,9 @@ fn lay_all<D: SectorDisk>(disk: &mut D, given: &Given) -> Result<(), Refusal>
 ///
 /// Of an honest device with a log that has passed its tests (`IsFoundOn`), of which these are the pages: at each
 /// moment, also where a call fails, what a crash may leave has the same log, and after it the same pages; where these
-/// are good for it, it stands for the set that the log as it was found keeps. Once it succeeds each page is as the log
-/// leaves it, and all is settled. So the log that starts behind its bodies has all pages written,
-/// and is up to its turn where they are good for it.
+/// are good for it, it stands for the set of the log that was found. Once it succeeds each page is as the log leaves
+/// it, and all is settled. So the log that starts behind its bodies has all pages written, and is up to its turn where
+/// they are good for it.
 ///
 /// Public source: the redo pass of ARIES (Mohan et al. 1992), with whole pages.
 pub fn redo<M: Spelled, D: SectorDisk>(disk: &mut D, given: &Given) -> Result<(), Refusal>

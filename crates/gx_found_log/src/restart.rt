@@ -1,5 +1,5 @@
 //! The redo of a log that was read.
-ghost use Rattle.std.specs.Prelude.{◌≡◌};
+ghost use Rattle.std.specs.Prelude.{◌≡◌, ◌≢◌, IfErr};
 ghost use Rattle.gx_disk.specs.Device.{SameDevice};
 ghost use Rattle.gx_durable.specs.Area.{HasPages};
 ghost use Rattle.gx_found_log.specs.Found.{FaultsTold};
@@ -45,6 +45,7 @@ where
     ensures faults { FaultsTold (D.state disk.old).faults (D.state disk.new).faults result }
     ensures redoes { (l : Limits) → (M.known l).pages ≡ pages
         → RedoesFound (M.known l) M.reading found.now (D.state disk.old) (D.state disk.new) result }
+    ensures memory { IfErr result (λ why. why ≢ Refusal.Memory) }
 {
     if !are_on_device(&found.given, pages) {
         return Err(Refusal::Damaged);

@@ -44,6 +44,14 @@ impl Scratch {
         }
     }
 
+    /// For nodes that may have so many entries, whatever it was for.
+    pub(crate) fn set_most(&mut self, most: usize)
+        requires { most ≤ MAX_ENTRIES }
+        ensures { self.new ≡ (most, self.old.1) }
+    {
+        self.most = most;
+    }
+
     /// Loads an image and makes a change of it, where it fits.
     pub(crate) fn change<M: Readable>(&mut self, image: &[u8], small: &Small<'_>) -> bool
         requires { IsImage image.now }

@@ -1,2 +1,3 @@
+pub mod World
 pub mod Storms
 pub mod Endings

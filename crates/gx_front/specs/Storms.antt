@@ -11,6 +11,7 @@ use Rattle.gx_engine.specs.States.{Parts}
 use Rattle.gx_engine_events.specs.New.{IsNew}
 use Rattle.gx_commands.specs.Scripts.{TellsFault}
 use Rattle.gx_commands.specs.Streams.{Outputs, Prints, TakesNoMore, TellsPerson}
+use Rattle.gx_script.specs.declared.fault.ScriptFault.TheVariants.{Write}
 use Rattle.gx_script.specs.Writes.{IsCut}
 use Rattle.gx_commands.specs.Refusing.{Refuses}
 use Rattle.gx_storm.specs.Verdicts.{EndsStorm}
@@ -26,19 +27,19 @@ sound_line calls = codes "storm ok calls " ++ (decimal calls ++ (10 ∷ []))
 abbrev pub differs_line : ℕ → List ℕ
 differs_line place = codes "storm mismatch at " ++ (decimal place ++ (10 ∷ []))
 
--- That it is sound is told: its line was written; or a front of it, where the writer takes no more, of which a person
+-- That it is sound is told: its line was written; or a front of it, where the writer takes no more, of which the user
 -- is told.
 abbrev pub TellsSound : ℕ → Outputs → Outputs → ℕ → Type 0
 TellsSound calls old new status =
     ((status ≡ 0) × (Appends old.replies.bytes new.replies.bytes (sound_line calls) × (new.person ≡ old.person)))
     ⊎ ((status ≡ 1) × (IsCut old.replies.bytes new.replies.bytes (sound_line calls)
-    × (TakesNoMore new.replies × TellsFault new.replies.kind old.person new.person)))
+    × (TakesNoMore new.replies × TellsFault Write new.replies.kind old.person new.person)))
 
--- what a person is told of it
+-- what the user is told of it
 abbrev pub differs_sentence : List ℕ
 differs_sentence = codes "a reply isn't the one that the plain index gives"
 
--- a place is told, and a person what it is
+-- a place is told, and the user what it is
 pub record TellsPlace (place : ℕ) (old new : Outputs) (status : ℕ) : Type 0 where
   pub status_is : status ≡ 1
   pub told : Prints (differs_line place) old.replies new.replies
@@ -59,7 +60,7 @@ pub record IsFresh (events : MemoryEvents) (e : Parts Rectangle MemDisk) : Type 
   pub new : IsNew 4096 8 64 e
   pub seen : events.sees e fresh_machine
 
--- A storm over such an index was judged, which is told. Nothing has to be granted of a device in memory.
+-- A storm over such an index was judged, which is reported. Nothing has to be granted of a device in memory.
 pub record WasJudged (k : Keys Rectangle) (events : MemoryEvents) (storm : Storm) (old new : Outputs)
     (status : ℕ) : Type 0 where
   pub index : Parts Rectangle MemDisk
@@ -70,7 +71,7 @@ pub record WasJudged (k : Keys Rectangle) (events : MemoryEvents) (storm : Storm
   pub ends : EndsStorm k events (events.sees index) storm said after
   pub told : TellsVerdict storm said old new status
 
--- how a storm may end: memory lacks for it, or the device fails for want of it, which is told; or it is judged
+-- how a storm may end: memory lacks for it, or the device fails for lack of it, which is reported; or it is judged
 abbrev pub EndsStormed : Keys Rectangle → MemoryEvents → Storm → Outputs → Outputs → ℕ → Type 0
 EndsStormed k events storm old new status =
     Refuses refusal.Memory old new status ⊎ (Refuses refusal.Device old new status ⊎ WasJudged k events storm old new status)

@@ -1,13 +1,12 @@
 //! The program `gist`.
 #![tactic(auto)]
 
-mod files;
 mod program;
 mod storms;
 #[cfg(test)]
 mod tests;
 
-use gx_commands::Noted;
+use gx_commands::{Noted, Opener};
 pub use program::gist;
 use std::process::ExitCode;
 
@@ -15,8 +14,9 @@ fn main(rt: HostRuntime) -> ExitCode {
     let mut input = Noted::new(rt.stdin());
     let mut output = Noted::new(rt.stdout());
     let mut faults = Noted::new(rt.stderr());
-    let status = match gx_words::given(&rt) {
+    let status = match gx_words::given(&mut gx_words::Source::new(&rt), rt.alloc()) {
         Ok(given) => gist(
+            &mut Opener::new(&rt),
             &rt,
             rt.alloc(),
             Ok(given.as_slice()),
@@ -24,7 +24,8 @@ fn main(rt: HostRuntime) -> ExitCode {
             &mut output,
             &mut faults,
         ),
-        Err(fault) => gist::<_, String, _, _, _>(
+        Err(fault) => gist::<_, _, String, _, _, _>(
+            &mut Opener::new(&rt),
             &rt,
             rt.alloc(),
             Err(fault),

@@ -118,7 +118,7 @@ fn fresh(alloc: Global) -> Result<EngineEvents<MemDisk, Box2Class>, Refusal>
 /// Runs a storm over a new index in memory, tells what is said of it, and returns the status.
 ///
 /// The status is 0 where the storm is sound, and its line was written. It is 1 where the plain index replies
-/// otherwise; where a call was refused for a fault or a full record, and for want of memory, which writes
+/// otherwise; where a call was refused for a fault or a full record, and for lack of memory, which writes
 /// `refused N text`; and where the line couldn't be written.
 pub(crate) fn tell_storm<T: Threads + Wait + Sync, W: Write, E: Write>(
     rt: &T,

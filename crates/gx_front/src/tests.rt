@@ -1,12 +1,12 @@
 //! The program's words and statuses.
 
+mod words;
+
 use super::*;
 use gx_disk::FileDisk;
-use gx_words::{AskedCommand, WordsFault, given, read};
-use std::env::FillError;
+use gx_words::{AskedCommand, WordsFault, read};
 use std::fs::{self, File, Files};
 use std::process::Abort;
-use std::rt::Env;
 use std::sync::Wait;
 use std::thread::Threads;
 
@@ -107,7 +107,16 @@ fn ends<T: Abort + AllocGlobal + Files<File = File> + Threads + Wait + Sync>(
     let mut reader = Noted::new(b"1 BEGIN\n".as_slice());
     let mut writer = Noted::new(room.as_mut_slice());
     let mut faults = Noted::new(text.as_mut_slice());
-    let given = gist(rt, rt.alloc(), words, &mut reader, &mut writer, &mut faults);
+    let mut opener = Opener::new(rt);
+    let given = gist(
+        &mut opener,
+        rt,
+        rt.alloc(),
+        words,
+        &mut reader,
+        &mut writer,
+        &mut faults,
+    );
     assert!(rt; given == status && room.starts_with(replies) && is_told == (text != [0]));
 }
 
@@ -172,57 +181,6 @@ fn no_file(rt: HostRuntime) {
     );
 }
 
-// The words that a process was started with.
-#[derive(Clone, Copy)]
-struct Started(&'static [&'static str]);
-
-impl Env for Started {
-    fn arg(&self, place: usize, room: &mut [u8]) -> Result<usize, FillError> {
-        let word = self.0.get(place).ok_or(FillError::NotPresent)?.as_bytes();
-        if room.len() < word.len() {
-            return Err(FillError::TooLong);
-        }
-        room[..word.len()].copy_from_slice(word);
-        Ok(word.len())
-    }
-
-    fn var(&self, _name: &str, _room: &mut [u8]) -> Result<usize, FillError> {
-        Err(FillError::NotPresent)
-    }
-
-    fn var_at(&self, _place: usize, _room: &mut [u8]) -> Result<usize, FillError> {
-        Err(FillError::NotPresent)
-    }
-}
-
-const EXACT: &str = "0123456789012345678901234567890123456789012345678901234567890123";
-
-const LONGER: &str =
-    "01234567890123456789012345678901234567890123456789012345678901234567890123456789012345678901234567890123456789012345678901234567890";
-
-const STARTS: [&[&str]; 3] = [
-    &[],
-    &["gist", "", EXACT, LONGER, "k\u{fc}rzer", "--", "7"],
-    &["gist", LONGER],
-];
-
-// Each word is given, whole and in its place: none, an empty one, one as long as the first room for it, and longer
-// ones.
-#[test]
-fn words_are_given_whole(rt: HostRuntime) {
-    for words in STARTS {
-        match given(&(Started(words), rt.alloc())) {
-            Ok(all) => {
-                assert!(rt; all.len() == words.len());
-                for (word, wanted) in all.as_slice().iter().zip(words) {
-                    assert!(rt; word.as_str() == *wanted);
-                }
-            }
-            Err(_) => assert!(rt; false),
-        }
-    }
-}
-
 // A call of the program, and all that it has to do: its status, and its whole text on both outputs.
 #[derive(Clone, Copy)]
 struct Case {
@@ -248,7 +206,7 @@ const fn done(
     }
 }
 
-// A call that is refused, which a line to the reader and one to a person tell.
+// A call that is refused, which a line among the replies and one to the user tell.
 const fn refused(
     words: &'static [&'static str],
     replies: &'static [u8],
@@ -272,8 +230,16 @@ fn carries_out<T: Abort + AllocGlobal + Files<File = File> + Threads + Wait + Sy
     let mut reader = Noted::new(case.script);
     let mut writer = Noted::new(Vec::new(rt.alloc()));
     let mut faults = Noted::new(Vec::new(rt.alloc()));
-    let words = Ok(case.words);
-    let status = gist(rt, rt.alloc(), words, &mut reader, &mut writer, &mut faults);
+    let mut opener = Opener::new(rt);
+    let status = gist(
+        &mut opener,
+        rt,
+        rt.alloc(),
+        Ok(case.words),
+        &mut reader,
+        &mut writer,
+        &mut faults,
+    );
     assert_eq!(rt; status, case.status);
     assert!(rt; writer.inner.as_slice() == case.replies && faults.inner.as_slice() == case.told);
 }
@@ -376,7 +342,7 @@ fn files_that_hold_no_index(rt: HostRuntime) {
     );
     let _ = fs::remove_file(&rt, "used");
 
-    let absent: &[u8] = b"gist: absent: it isn't there, or can't be opened\n";
+    let absent: &[u8] = b"gist: absent: no such file or directory\n";
     carries_out(&rt, &refused(&["gist", "run", "absent"], NO_DEVICE, absent));
     carries_out(
         &rt,
@@ -385,7 +351,7 @@ fn files_that_hold_no_index(rt: HostRuntime) {
     assert!(rt; matches!(fs::exists(&rt, "absent"), Ok(false)));
 
     let _ = fs::write(&rt, "short", [0u8; 1000].as_slice());
-    let small: &[u8] = b"gist: the device is too small for the index\n";
+    let small: &[u8] = b"gist: the file is shorter than any index, or was cut\n";
     carries_out(
         &rt,
         &refused(&["gist", "run", "short"], b"refused 17 too small\n", small),

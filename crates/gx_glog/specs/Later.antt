@@ -34,8 +34,9 @@ ClosesGatesFrom from extent old new result = Writes (gates_of extent + from) (PL
 abbrev pub IsBesideLater : Extent → ℕ → ℕ → Type 0
 IsBesideLater extent n s = (s ≤ gates_of extent + n) ⊎ (gates_of extent + PLACES ≤ s)
 
--- An image has the log that is seen: the same extent is selected, as many gates in a row are open, over the same bodies. Only gates behind
--- place n of an extent may differ; so the selector, all bodies and all pages are as they are seen.
+-- An image has the log that is seen: the same extent is selected, as many gates in a row are open, over the same
+-- bodies. Only gates behind place n of an extent may differ; so the selector, all bodies and all pages are those that
+-- are seen.
 pub record KeepsRun (extent : Extent) (n : ℕ) (seen image : List ℕ) : Type 0 where
   pub size : length image ≡ length seen
   pub others : (s : ℕ) → IsBesideLater extent n s → sector_of image s ≡ sector_of seen s

@@ -14,6 +14,6 @@ pub record Fit (p : Parameters) : Type 0 where
   pub most : p.most < 2 ^ 16
   pub class : p.class < 2 ^ 16
 
--- the bytes tell which parameters they are
+-- the bytes say which parameters they are
 abbrev pub BytesTellParameters : Type 0
 BytesTellParameters = (p q : Parameters) → Fit p → Fit q → parameters_bytes p ≡ parameters_bytes q → p ≡ q

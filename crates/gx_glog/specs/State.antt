@@ -11,7 +11,7 @@ use Rattle.gx_glog.specs.declared.stage.Turn.TheVariants as turn
 use Rattle.gx_glog.specs.Layout.{other_of}
 use Rattle.gx_glog.specs.Tails.{sectors_of, tail_of, unknown_tails, widened, trimmed, AreTails}
 
--- Lists of records are told as the bytes of their spellings.
+-- Lists of records are given as the bytes of their spellings.
 pub record Log : Type 0 where
   -- the selected extent
   pub extent : Extent
@@ -30,8 +30,8 @@ pub record Log : Type 0 where
   -- for each place of both extents, the sector of it from which on it reads zero
   pub tails : List ℕ
 
--- a log that starts behind so many batches of an extent: what stands behind their records isn't known, nor what the
--- other places have
+-- a log that starts behind so many batches of an extent: the bytes behind their records aren't known, nor those of the
+-- other places
 abbrev pub starting : Extent → ℕ → Log
 starting extent n =
     record {
@@ -120,7 +120,7 @@ GoesFrom GateSync old new result = Made old new result
 abbrev pub Goes : Log → Log → Result Stage Refusal → Type 0
 Goes old new result = GoesFrom old.stage old new result
 
--- how many device calls an answer stands for
+-- how many device calls a result means
 abbrev pub calls_of : Result Stage Refusal → ℕ
 calls_of (Ok Idle) = 0
 calls_of (Ok Body) = 1

@@ -35,7 +35,7 @@ abbrev pub CallFor : {T : Type 0} → Stage → Log → disk.Device → disk.Dev
 CallFor stage log before now result =
     Calls stage log.extent log.gated (tail_of log.tails log.extent log.gated) log.flight before now result
 
--- the device call that an answer tells of: the one that was made, or the one that failed and is still due
+-- the device call that a result means: the one that was made, or the one that failed and is still due
 abbrev pub CallOf : Log → disk.Device → disk.Device → Result Stage Refusal → Type 0
 CallOf new before now (Ok stage) = CallFor stage new before now (Ok stage)
 CallOf new before now (Err refusal) = CallFor {T = Stage} new.stage new before now (Err refusal)

@@ -22,8 +22,8 @@ use Rattle.gx_glog.specs.Standing.{On, MayTurn, gated_of, ShowsIn}
 use Rattle.gx_glog.specs.Steps.{Calls}
 use Rattle.gx_glog.specs.Tails.{tail_of}
 
--- The record's bytes come behind those of the head, whose place is 0. There is no room for it where they don't fit, nor while a turn is under
--- way, whose head was told, and nothing then changes.
+-- The record's bytes come behind those of the head, whose place is 0. There is no room for it where they don't fit, nor
+-- while a turn is under way, whose head is complete, and nothing then changes.
 abbrev pub PutsFirst : List ℕ → Log → Log → Appended → Type 0
 PutsFirst bytes old new (At place) = (length old.flight + length bytes ≤ BODY_ROOM) × (place ≡ 0) × (new ≡ record old { flight = old.flight ++ bytes }) × (old.turn ≡ turn.Closed)
 PutsFirst bytes old new NoRoom = ((BODY_ROOM < length old.flight + length bytes) ⊎ (1 ≤ turning old.turn)) × (new ≡ old)

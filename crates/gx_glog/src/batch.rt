@@ -28,7 +28,7 @@ pub fn open_gate() -> [u8; SECTOR_SIZE]
     bytes
 }
 
-// Writes the first so many sectors of the body of place k, and answers which call it was.
+// Writes the first so many sectors of the body of place k, and returns which call it was.
 pub(crate) fn write_body<D: SectorDisk, S: Copy>(
     disk: &mut D,
     extent: Extent,
@@ -54,7 +54,7 @@ pub(crate) fn write_body<D: SectorDisk, S: Copy>(
     Ok(answer)
 }
 
-// Writes the open gate of place k, and answers which call it was.
+// Writes the open gate of place k, and returns which call it was.
 pub(crate) fn write_gate<D: SectorDisk, S: Copy>(
     disk: &mut D,
     extent: Extent,
@@ -123,7 +123,7 @@ impl Glog {
         }
     }
 
-    // Makes the device call that is due, and answers which one it was. The body is written up to its place's tail.
+    // Makes the device call that is due, and returns which one it was. The body is written up to its place's tail.
     fn call<D: SectorDisk>(&self, disk: &mut D) -> Result<Stage, Refusal>
         requires flying { in_flight self.now.stage ≡ 1 }
         requires device { PAGES_AT ≤ (D.state disk.old).sectors }
@@ -165,7 +165,7 @@ impl Glog {
 
     /// Makes the next device call of the batch in flight, or of a new one with all that fills: body, sync, gate, sync.
     /// Of the body it writes as many sectors as its records take, or as may be other than zero there, if these are
-    /// more; so the place reads as the whole body. Answers which call it was, and Idle where nothing is logged and none
+    /// more; so the place reads as the whole body. Returns which call it was, and Idle where nothing is logged and none
     /// was made. Refused where the device call fails (`Device`); it is then still due.
     pub fn log_step<D: SectorDisk>(&mut self, disk: &mut D) -> Result<Stage, Refusal>
         requires { PAGES_AT ≤ (D.state disk.old).sectors }

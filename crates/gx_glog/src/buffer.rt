@@ -16,7 +16,7 @@ use gx_record::Record;
 use std::alloc::{AllocError, Global};
 use std::marker::Model;
 
-// How many bytes stand before the records.
+// How many bytes come before the records.
 const SIZE_BYTES: usize = 4;
 
 /// The records of a batch: their size, their bytes, and zeros up to the body's end.
@@ -47,7 +47,7 @@ fn zeros(alloc: Global, size: usize) -> Result<Vec<u8>, AllocError>
     Ok(bytes)
 }
 
-// Writes a record's spelling from a place on, and answers its size. None where there is no room for it.
+// Writes a record's spelling from a place on, and returns its size. None where there is no room for it.
 #[tactic(auto, using(crate::proofs::Fills::put_tail), unfolding(gx_disk::specs::Sectors::put))]
 fn put_at(buffer: &mut Vec<u8>, end: usize, logged: &Record<'_>) -> Option<usize>
     requires in_range { IsInRange (rec_of logged.now) }

@@ -84,7 +84,7 @@ pub fn selected<D: SectorDisk>(disk: &mut D) -> Result<Extent, Refusal>
 }
 
 impl Extent {
-    /// The sector of its first gate; the others stand behind it.
+    /// The sector of its first gate; the others follow.
     pub fn gates(self) -> u64
         ensures { result ≡ gates_of self }
     {
@@ -125,7 +125,7 @@ impl Extent {
         }
     }
 
-    /// The first sector of its first body, which has 64; the others stand behind it.
+    /// The first sector of its first body, which has 64; the others follow.
     pub fn bodies(self) -> u64
         ensures { result ≡ bodies_of self }
     {
@@ -185,7 +185,7 @@ fn read_body<D: SectorDisk>(
     Ok(())
 }
 
-/// Reads the body of place i of an extent, and answers how many bytes of records it has, from 1 to 32,764.
+/// Reads the body of place i of an extent, and returns how many bytes of records it has, from 1 to 32,764.
 /// None where the gate is closed.
 /// Refused where a read fails (`Device`), and where the number is out of range (`Damaged`).
 #[tactic(auto, using(gx_disk::proofs::Looking::looks_joined))]

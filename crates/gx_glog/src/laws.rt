@@ -60,7 +60,7 @@ pub fn first_log()
     ensures images { ImagesHaveTheFirstLog }
 {}
 
-/// The bytes of a device's parameters tell which they are, and stand in sector 1.
+/// The bytes of a device's parameters say which they are, and are in sector 1.
 pub fn parameters()
     ensures told { BytesTellParameters }
     ensures sector { PARAMETERS ≡ 1 }

@@ -39,7 +39,7 @@ pub fn closed_gates() -> [u8; GATES_SIZE]
     zeroed()
 }
 
-/// The selector's sector, as it is written to select an extent.
+/// The selector's sector that selects an extent.
 pub fn selecting(extent: Extent) -> [u8; SECTOR_SIZE]
     ensures selector { IsSelector extent result }
     ensures bytes { result ≡ selector_bytes extent }
@@ -130,7 +130,7 @@ impl Glog {
         }
     }
 
-    // Makes the turn's device call that is due, and answers which one it was.
+    // Makes the turn's device call that is due, and returns which one it was.
     fn call_turn<D: SectorDisk>(&self, disk: &mut D) -> Result<Turn, Refusal>
         requires device { PAGES_AT ≤ (D.state disk.old).sectors }
         ensures counts { Counts 1 (D.state disk.old) (D.state disk.new) result }
@@ -153,7 +153,7 @@ impl Glog {
     }
 
     /// Makes the next device call of the turn to the other extent, whose body 0 gets what was put first: its gates
-    /// closed, its body, sync, its gate, sync, the selector, sync. Answers which call it was; after `Done` the other
+    /// closed, its body, sync, its gate, sync, the selector, sync. Returns which call it was; after `Done` the other
     /// extent is selected, and one place of it is used.
     /// Refused where the device call fails (`Device`); it is then still due.
     pub fn turn_step<D: SectorDisk>(&mut self, disk: &mut D) -> Result<Turn, Refusal>

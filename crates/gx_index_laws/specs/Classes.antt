@@ -12,7 +12,7 @@ use Rattle.gx_events.specs.Wants as wants
 use Rattle.gx_recovery.specs.Known as known
 use Rattle.gx_recovery.specs.Known.{Known}
 
--- A class of keys on a device: its keys as the machine knows them; what the tree is told of them, with so many entries a
+-- A class of keys on a device: its keys as the machine knows them; what the tree knows of them, with so many entries a
 -- node; which keys are of the class; how many pages the device has, and what is read of its first two sectors.
 pub record Class (B : Type 0) : Type 0 where
   pub keys : Keys B
@@ -51,11 +51,11 @@ is_of c e x = is_entry c.rules e.row e.key x
 abbrev pub is_live_of : {B : Type 0} → Class B → Entry B → Pair B → Bool
 is_live_of c e x = is_of c e x && not x.marked
 
--- an entry is live where a pair of it stands unmarked
+-- an entry is live where a pair of it is unmarked
 unfoldable pub is_live : {B : Type 0} → Class B → Tree B → Entry B → Bool
 is_live c t e = nat_lt 0 (standing (is_live_of c e) t)
 
--- What a log is told of entries and pages: live, sound and placed are said by the tree.
+-- What a log knows of entries and pages: the tree decides what is live, sound and placed.
 abbrev pub known_of : {B : Type 0} → Class B → Known (Entry B) (Page B)
 known_of c = record {
   cmp = entry_cmp c.keys;

@@ -1,4 +1,4 @@
--- What an unanswered call has left: a number that each of its own moves lowers.
+-- What an unanswered call has left: a number that each move of the call lowers.
 use Rattle.std.specs.Prelude.{ℕ, ◌+◌, ◌-◌, ◌*◌, Bool, not, ◌&&◌, is_some, None, Some, List}
 use Rattle.gx_machine.specs.declared.entry.Entry.{Entry}
 use Rattle.gx_machine.specs.Keys.{Keys}

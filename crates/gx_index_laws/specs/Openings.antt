@@ -1,4 +1,4 @@
--- An index that is opened over what a crash left: the page area and the log as they are found, and a session for each
+-- An index that is opened over what a crash left: the page area and the log that are found, and a session for each
 -- transaction that was cut off, to undo it.
 use Rattle.std.specs.Prelude.{◌≡◌, ◌≤◌, Bool, true, All, ℕ, zero, suc, ◌-◌, not, ◌||◌, ◌==◌, if◌then◌else◌, false, map, List, [], ◌∷◌}
 use Rattle.std.specs.List.{list_any, slice_index_or, filter}

@@ -37,8 +37,8 @@ pub record IsHad {B : Type 0} (s : State B) (t : ℕ) : Type 0 where
   pub busy : is_busy (slot_at session s.slots) ≡ true
   pub has : s.transaction session ≡ t
 
--- Sessions and the log tell of the same transactions: each session's is its own, and one that is open in the log and has
--- touched an entry is some session's.
+-- Sessions and the log have the same transactions: each session has another one, and one that is open in the log and
+-- has touched an entry is some session's.
 pub record IsTied {B : Type 0} (c : Class B) (s : State B) : Type 0 where
   pub each : (a : ℕ) → is_busy (slot_at a s.slots) ≡ true → HasTransaction c s a
   pub own : (a b : ℕ) → is_busy (slot_at a s.slots) ≡ true → is_busy (slot_at b s.slots) ≡ true → s.transaction a ≡ s.transaction b → a ≡ b
@@ -62,7 +62,7 @@ pub record IsWhole {B : Type 0} (c : Class B) (s : State B) : Type 0 where
   -- each session's work is right, and so is what aborts have restored
   pub works : (a : ℕ) → DoesWork c (tree_now c s) (slot_at a s.slots) (s.work a)
   pub restored : (a : ℕ) → AreRestored c.keys (engine_of c s).live (slot_at a s.slots) (s.restored a)
-  -- sessions and the log tell of the same transactions, and the next one's number covers the log's
+  -- sessions and the log have the same transactions, and the next one's number covers the log's
   pub tied : IsTied c s
   pub next : (analysis (known_of c) (all_records s.log)).next ≤ s.next
   -- the kept sets are the log's

@@ -205,7 +205,7 @@ state_30 = slotted 2 (Working searching [] None) Rests state_29
 abbrev pub lost : State ℕ
 lost = record state_30 { log = begun state_30.log }
 
--- The opening over the page area as it is, with that batch read; its undo, whose records are gated.
+-- The opening over that page area, with that batch read; its undo, whose records are gated.
 abbrev pub found_log : List (Record (Entry ℕ) (Page ℕ))
 found_log = lost.log.gated ++ lost.log.flight
 

@@ -29,8 +29,8 @@ wants_pair c slot x = slot_wants c.keys slot (pair_of x)
 abbrev pub CameFrom : {B : Type 0} → Tree B → ℕ → ℕ → Type 0
 CameFrom t parent page = ((parent ≡ 0) × (page ≡ 1)) ⊎ (Used t parent × (0 < (t.node parent).level))
 
--- a descent is an open insert's, and nothing that it wants stands: its look has ended with nothing found; and it came from
--- another page, if any, which is above a leaf
+-- a descent is an open insert's, and nothing that it wants is in the tree: its look has ended with nothing found; and
+-- it came from another page, if any, which is above a leaf
 pub record DescendsFor {B : Type 0} (c : Class B) (t : Tree B) (slot : Slot B) (e : Entry B) (parent : ℕ) (item : TraversalItem) : Type 0 where
   pub call : open_call slot ≡ Some (Insert e)
   pub looked : IsLook t (wants_pair c slot) [] []
@@ -38,7 +38,7 @@ pub record DescendsFor {B : Type 0} (c : Class B) (t : Tree B) (slot : Slot B) (
   pub apart : parent ≢ item.page
   pub came : CameFrom t parent item.page
 
--- the pair that is sought is wanted, live or not, and stands in the leaf or to the right of it
+-- the pair that is sought is wanted, live or not, and is in the leaf or to the right of it
 pub record SeeksFor {B : Type 0} (c : Class B) (t : Tree B) (slot : Slot B) (e : Entry B) (leaf : ℕ) : Type 0 where
   pub wanted : (live : Bool) → slot_wants c.keys slot (record { entry = e; live = live }) ≡ true
   pub seek : IsSeek c.rules t leaf e.row e.key

@@ -42,8 +42,8 @@ pub fn a_call_opens<B>()
         (first_work (tree_now c old) call) old) }
 {}
 
-/// An ask that is refused leaves an index as it is: for want of a lock, of a transaction or of a session, or since no
-/// number is left for a transaction that would begin.
+/// An ask that is refused doesn't change an index: no lock, transaction or session for it, or no number for a
+/// transaction that would begin.
 pub fn a_refused_ask_changes_nothing<B>()
     ensures refused { (c : Class B) → IsLawful c → (old : State B) → IsWhole c old → old.failed ≡ false
         → (s : ℕ) (call : Call B) (why : Refusal)

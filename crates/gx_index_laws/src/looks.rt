@@ -34,17 +34,17 @@ pub fn a_look_goes_on<B>()
         (found_with (tree_now c old) (wants_pair c (slot_at s old.slots)) item found)) old) }
 {}
 
-/// A session's work may become any that is right of the tree as it is: a descent goes down or begins again, a seek goes
-/// to the right, and what the session is at is given up.
+/// A session's work may become any that is right of the tree: a descent goes down or begins again, a seek goes to the
+/// right, and what the session is at is given up.
 pub fn work_turns<B>()
     ensures { (c : Class B) → IsLawful c → (old : State B) → IsWhole c old → (s : ℕ) (work : Work B)
         → DoesWork c (tree_now c old) (slot_at s old.slots) work → Happens c old Works (with_work s work old) }
 {}
 
 /// What a look turns into, so that `work_turns` may take it. Where an insert's look has ended with nothing found, it is
-/// a descent from the root; no pair of the entry stands then, and none comes to stand while the descent is at work.
-/// Where a wanted pair stands in a leaf, it is a seek of that pair;
-/// and a seek whose pair isn't in its leaf goes to the right.
+/// a descent from the root; no pair of the entry is in the tree then, and none comes while the descent is at work.
+/// Where a leaf has a wanted pair, it is a seek of that pair; and a seek whose pair isn't in its leaf goes to the
+/// right.
 pub fn a_look_turns_into_a_descent_or_a_seek<B>()
     ensures descends { (c : Class B) → IsLawful c → (old : State B) → IsWhole c old → (s : ℕ) (e : Entry B)
         → old.work s ≡ Looks [] [] → open_call (slot_at s old.slots) ≡ Some (Insert e)
@@ -77,8 +77,8 @@ pub fn a_descent_goes_on<B>()
         (Descends e item.page (record { page = x; seen = (tree_now c old).counter })) }
 {}
 
-/// An undo's seek of an entry that it has noted begins with its note's leaf, as the log tells it: each noted entry is
-/// among what the transaction has touched, and stands on that touch's leaf or to the right of it.
+/// An undo's seek of an entry that it has noted begins with its note's leaf, as the log says it: each noted entry is
+/// among what the transaction has touched, and is on that touch's leaf or to the right of it.
 pub fn an_undo_seeks_from_its_notes_leaf<B>()
     ensures touched { (c : Class B) → IsLawful c → (old : State B) → IsWhole c old
         → (s : ℕ) (locks : Locks B) (notes : List (Note B))
@@ -92,7 +92,7 @@ pub fn an_undo_seeks_from_its_notes_leaf<B>()
         → DoesWork c (tree_now c old) (slot_at s old.slots) (Seeks x.entry x.leaf) }
 {}
 
-/// What a session seeks stands in the tree, one pair of it: no seek is in vain, an undo's neither.
+/// What a session seeks is in the tree, one pair of it: no seek is in vain, not even an undo's.
 pub fn what_is_sought_stands<B>()
     ensures { (c : Class B) → IsLawful c → (old : State B) → IsWhole c old → (s : ℕ) (e : Entry B) (leaf : ℕ)
         → old.work s ≡ Seeks e leaf
@@ -135,7 +135,7 @@ pub fn nothing_live_is_absent<B>()
         → Happens c old (FindsAbsent s e) (slotted s (Working locks notes None) Rests old) }
 {}
 
-/// An open call may be closed unanswered where pages or memory lack, whatever its session is at.
+/// An open call may be closed unanswered where no page or no memory is left, whatever its session is at.
 pub fn calls_are_closed<B>()
     ensures { (c : Class B) → IsLawful c → (old : State B) → IsWhole c old → old.failed ≡ false
         → (s : ℕ) (locks : Locks B) (notes : List (Note B))

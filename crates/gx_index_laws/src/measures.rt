@@ -1,4 +1,4 @@
-//! How far an unanswered call still is from its end: a number below 2^39, which each of its own moves lowers.
+//! How far an unanswered call still is from its end: a number below 2^39, which each move of the call lowers.
 ghost use Rattle.std.specs.Prelude.{◌≡◌, ◌≢◌, ◌≤◌, ◌<◌, ◌+◌, ◌^◌, ℕ, Bool, true};
 ghost use Rattle.std.specs.Prelude.{false, Some, None, List, [], ◌∷◌, length};
 ghost use Rattle.gx_machine.specs.declared.entry.Entry.{Entry};
@@ -180,8 +180,8 @@ pub fn what_frees_no_claim_leaves_no_more<B>()
         → work_left c (slotted s slot work old) a ≤ work_left c old a }
 {}
 
-/// A commit or an end of another session raises what a session's call has left by so many at most as it frees claims:
-/// of each entry that was claimed one pair stands, which may be swept then.
+/// A commit or an end of another session raises what a session's call has left by at most as many as it frees claims:
+/// each entry that was claimed has one pair, which may be swept then.
 pub fn what_is_freed_is_all_that_comes<B>()
     ensures commits { (c : Class B) → IsLawful c → (old : State B) → IsWhole c old → (s a : ℕ) → a ≢ s
         → is_session s ≡ true → (slot : Slot B) (work : Work B)

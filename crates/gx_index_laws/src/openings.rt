@@ -24,9 +24,9 @@ ghost use Rattle.gx_index_laws.specs.Happening.{Happens, AreHappening};
 ghost use Rattle.gx_index_laws.specs.Openings.{losers_of, found_state, is_fault, Try};
 ghost use Rattle.gx_index_laws.specs.Openings.{GoesOpening, AreRestarts, IsKeptBy};
 
-/// An index that is found over a log that is undamaged, and pages that are good for it, is whole: the pages and the log
-/// as they are, and a session for each transaction that was cut off, which undoes it. What stood is what the log stands
-/// for, and it is seen as the machine with that set whose sessions abort. That set is all that its log keeps, under the
+/// An index that is found over a log that is undamaged, and pages that are good for it, is whole: these pages and this
+/// log, and a session for each transaction that was cut off, which undoes it. What stood is what the log stands for,
+/// and it is seen as the machine with that set whose sessions abort. That set is all that its log keeps, under the
 /// log's number, and it is durable. The next transaction's number is any that covers the log's.
 pub fn a_found_index_is_whole<B>()
     ensures whole { (c : Class B) → IsLawful c → (next : ℕ) (area : ℕ → Page B) (log : List (Record (Entry B) (Page B)))
@@ -57,7 +57,7 @@ pub fn a_found_index_is_whole<B>()
 {}
 
 /// What is live in a tree can be listed: the entries of its unmarked pairs, in order and without repeats. So can what a
-/// log stands for, over whatever pages: the set over which an index is opened is always there.
+/// log stands for, over whatever pages: the set over which an index is opened always exists.
 pub fn what_a_log_stands_for_can_be_listed<B>()
     ensures live { (c : Class B) → IsLawful c → (t : Tree B)
         → IsSetOf c.keys (is_live c t)

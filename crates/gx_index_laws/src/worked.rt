@@ -1,4 +1,4 @@
-//! The laws at work on a list of events that was worked out by hand, so that none holds for want of a case.
+//! The laws at work on a list of events that was worked out by hand, so that none holds only because it has no case.
 ghost use Rattle.std.specs.Prelude.{◌≡◌, ◌<◌, Some, true, false, replicate, [], ◌∷◌, length};
 ghost use Rattle.gx_machine.specs.declared.limits.TheConstants.{SESSIONS};
 ghost use Rattle.gx_machine.specs.declared.call.Call.TheVariants.{Search};

@@ -16,8 +16,8 @@ ghost use Rattle.gx_index_laws.specs.States.{State, Rests, tree_now};
 ghost use Rattle.gx_index_laws.specs.Whole.{IsWhole};
 ghost use Rattle.gx_index_laws.specs.Happening.{Comes, with_record, slotted, with_restored, write_of};
 
-/// An insert adds its pair to a leaf, where none stood: a write that finds its entry absent and leaves it live, with
-/// the note that it wasn't, unless the transaction has noted it before.
+/// An insert adds its pair to a leaf, where the tree had none: a write that finds its entry absent and leaves it live,
+/// with the note that it wasn't, unless the transaction has noted it before.
 pub fn an_insert_adds_its_pair<B>()
     ensures { (c : Class B) → IsLawful c → (old : State B) → IsWhole c old → old.failed ≡ false
         → (s : ℕ) (locks : Locks B) (notes then_notes : List (Note B))

@@ -1,4 +1,4 @@
-//! Commands over devices in memory: the status, what is written, what is read, and whether a person is told.
+//! Commands over devices in memory: the status, what is written, what is read, and whether the user gets a message.
 
 use gx_class::Box2Class;
 use gx_commands::{Noted, dump_over, format_over, run_over};
@@ -44,7 +44,8 @@ impl<D: SectorDisk> SectorDisk for Counted<D> {
     }
 }
 
-// What became of a command: its status, what was written, how many bytes weren't read, and whether a person was told.
+// What became of a command: its status, what was written, how many bytes weren't read, and whether the user got a
+// message.
 #[derive(Drop)]
 struct Ended {
     status: u8,
@@ -54,13 +55,14 @@ struct Ended {
 }
 
 impl Ended {
-    // Whether it is this status, and this text was written and no more. A person is told where the status isn't 0.
+    // Whether it is this status, and this text was written and no more. The user gets a message where the status isn't
+    // 0.
     fn is(&self, status: u8, text: &[u8]) -> bool {
         self.status == status && self.is_told == (status != 0) && self.written.as_slice() == text
     }
 }
 
-// A script is run over a device with so many frames. The device, as it is left.
+// Runs a script over a device with so many frames. Returns the device.
 fn run<D: SectorDisk + Drop>(alloc: Global, disk: D, frames: usize, script: &[u8]) -> (D, Ended) {
     let mut reader = Noted::new(script);
     let mut writer = Noted::new(Vec::new(alloc));
@@ -102,7 +104,7 @@ fn format(alloc: Global, disk: &mut MemDisk, pages: u32, most: u16) -> Ended {
     }
 }
 
-// The tree of a device's index is told. The device, as it is left.
+// Dumps the tree of a device's index. Returns the device.
 fn dump(alloc: Global, disk: MemDisk) -> (MemDisk, Ended) {
     let mut writer = Noted::new(Vec::new(alloc));
     let mut faults = Noted::new(Vec::new(alloc));
@@ -132,7 +134,7 @@ fn fresh(alloc: Global) -> Option<MemDisk> {
     }
 }
 
-// A script over this device is done, and gives these replies. The device, as it is left.
+// A script over this device is done, and gives these replies. Returns the device.
 fn gives<T: Abort + AllocGlobal>(rt: &T, disk: MemDisk, script: &[u8], replies: &[u8]) -> MemDisk {
     let (disk, ended) = run(rt.alloc(), disk, 16, script);
     assert!(rt; ended.is(0, replies));

@@ -19,7 +19,7 @@ pub(crate) fn written(alloc: Global, script: &[u8]) -> Option<MemDisk> {
     Some(index.into_engine().into_disk())
 }
 
-// Writes what is told of it once it is opened again over these bytes: with what end.
+// Writes its dump once it is opened again over these bytes: with what end.
 fn dump_opened(alloc: Global, script: &[u8], text: &mut [u8]) -> Option<Result<(), DumpFault>> {
     let mut index = index_over(alloc, written(alloc, script)?)?;
     let mut writer = text;
@@ -48,7 +48,7 @@ fn aborted(rt: HostRuntime) {
     );
 }
 
-/// A full leaf of pairs that nobody claims is swept for one more.
+/// A full leaf of pairs that no session claims is swept for one more.
 pub(crate) const SWEPT: &[u8] =
     b"1 BEGIN\n1 INSERT 1 0 0 1 1\n1 INSERT 2 0 2 1 3\n1 INSERT 3 10 0 11 1\n1 INSERT 4 10 2 11 3\n1 COMMIT\n1 BEGIN\n1 DELETE 1 0 0 1 1\n1 DELETE 2 0 2 1 3\n1 DELETE 3 10 0 11 1\n1 DELETE 4 10 2 11 3\n1 COMMIT\n1 BEGIN\n1 INSERT 5 0 4 1 5\n1 COMMIT\n";
 

@@ -8,7 +8,7 @@ use gx_restart::Index;
 use std::alloc::Global;
 use std::process::Abort;
 
-// A row with a box of its own.
+// A row with another box.
 fn entry(row: u8) -> Option<Entry<Box2>> {
     let corner = i32::from(row);
     let key = Box2::new(corner, corner, corner, corner).ok()?;

@@ -1,4 +1,4 @@
-//! Rows of trees, and what is told of each: that it is legal, or the rule that is broken and the page.
+//! Rows of trees, and what is returned of each: that it is legal, or the rule that is broken and the page.
 mod built;
 mod told;
 
@@ -9,7 +9,7 @@ use std::test::Fail;
 use told::Told::{Broken, Legal};
 use told::{Told, told_of, told_of_note};
 
-/// How many splits were made, the pages, and what is told.
+/// How many splits were made, the pages, and what is returned.
 type Row = (u64, &'static [Node<'static>], Told);
 
 /// Two leaves of two rows each, below the root.
@@ -177,7 +177,7 @@ const ROWS: [Row; 20] = [
     ),
 ];
 
-/// Notes of pairs of the two leaves, and what is told of each.
+/// Notes of pairs of the two leaves, and what is returned of each.
 const NOTES: [((u64, (i32, i32, i32, i32), u32), Told); 5] = [
     ((1, (1, 0, 1, 1), 2), Legal),
     ((3, (3, 0, 3, 1), 3), Legal),
@@ -188,7 +188,7 @@ const NOTES: [((u64, (i32, i32, i32, i32), u32), Told); 5] = [
     ((5, (3, 0, 3, 1), 2), Broken(2, Rule::PairOutOfPlace)),
 ];
 
-/// Fails unless this is told of a tree in memory and of the same on a device.
+/// Fails unless this is returned of a tree in memory and of the same on a device.
 fn check_row<R: Abort + AllocGlobal>(rt: &R, row: &Row) -> Result<(), Fail> {
     let (counter, nodes, wanted) = row;
     let in_memory = told_of(rt, &mut in_memory(rt, *counter, nodes)?);

@@ -1,4 +1,4 @@
-//! Tests by public calls of what an index in a file stands on: a store of pages, the test of a tree, an engine's
+//! Tests by public calls of the layers of an index in a file: a store of pages, the test of a tree, an engine's
 //! sessions, openings, scripts and dumps over a device, and the program's commands.
 #![tactic(auto)]
 

@@ -37,7 +37,7 @@ fn formatted(alloc: Global) -> Option<Device> {
     Some(disk)
 }
 
-// A row at a point of its own.
+// A row at another point.
 fn entry(row: u8) -> Entry<Box2> {
     Entry {
         row: u64::from(row),
@@ -101,7 +101,7 @@ fn flush(engine: &mut Working, plain: &mut Plain) -> Option<()> {
 }
 
 // Commits one row in place of another, the first under the number 4, until a checkpoint begins with the write of a
-// page. Answers the last number.
+// page. Returns the last number.
 fn commit_on(engine: &mut Working, plain: &mut Plain) -> Option<u64> {
     for row in 7..31u8 {
         replace(engine, plain, row)?;
@@ -149,7 +149,7 @@ fn is_set(found: &[Entry<Box2>], number: u64) -> bool {
     }
 }
 
-// Whether an engine stands at this number, and a lone session finds its set.
+// Whether an engine is at this number, and a lone session finds its set.
 fn stands(engine: &mut Working, plain: &mut Plain, number: u64) -> Option<bool> {
     let commits = engine.commits();
     let everything = Box2::new(0, 0, 255, 0).ok()?;
@@ -162,7 +162,7 @@ fn stands(engine: &mut Working, plain: &mut Plain, number: u64) -> Option<bool> 
     }
 }
 
-// The life up to the checkpoint's write of the selector. Answers the number of the last commit.
+// The life up to the checkpoint's write of the selector. Returns the number of the last commit.
 fn begin_life(engine: &mut Working, plain: &mut Plain) -> Option<u64> {
     let is_new = stands(engine, plain, 0)?;
     let is_split = split(engine, plain)?;

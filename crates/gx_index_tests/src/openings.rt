@@ -73,7 +73,7 @@ fn changed(alloc: Global, kept: Entry<Box2>, lost: Entry<Box2>) -> Option<MemDis
     if done.is_some() { Some(disk) } else { None }
 }
 
-// What was committed stands after two openings, and what was cut off does not.
+// What was committed is there after two openings, and what was cut off isn't.
 fn cut_off(alloc: Global) -> Option<MemDisk> {
     let (kept, lost) = (entry(7, 0)?, entry(8, 1)?);
     let again = opened(alloc, changed(alloc, kept, lost)?, kept)?;

@@ -1,11 +1,11 @@
-//! The plain command: scripts from a reader to a writer: the status, the replies, and what is told.
+//! The plain command: scripts from a reader to a writer: the status, the replies, and the messages.
 
 use gx_commands::{Noted, run_script};
 use std::alloc::Global;
 use std::io::{self, ErrorKind, Read, Write};
 use std::process::Abort;
 
-// The status, the replies with zeros behind them, and whether something was told.
+// The status, the replies with zeros behind them, and whether there was a message.
 fn run(alloc: Global, script: &[u8]) -> (u8, [u8; 64], bool) {
     let mut replies = [0u8; 64];
     let mut told = [0u8; 1];
@@ -55,7 +55,7 @@ impl Write for Fails {
     }
 }
 
-// A script from this reader to this writer is stopped, and this line is told of it.
+// A script from this reader to this writer is stopped, with this line as its message.
 fn stops<T: Abort + AllocGlobal, R: Read + Drop, W: Write + Drop>(
     rt: &T,
     reader: R,
@@ -73,8 +73,8 @@ fn stops<T: Abort + AllocGlobal, R: Read + Drop, W: Write + Drop>(
     assert!(rt; status == 1 && told.starts_with(line));
 }
 
-// What stopped a script is told in one line, but for a reader of its replies that left. Where the replies' first bytes
-// have no room, the line says no more than that.
+// What stopped a script is reported in one line, except where the reader of its replies has left. Where the replies'
+// first bytes have no room, the line says no more than that.
 #[test]
 fn faults_are_told(rt: HostRuntime) {
     let script = b"1 BEGIN\n".as_slice();
@@ -89,7 +89,7 @@ fn faults_are_told(rt: HostRuntime) {
         &rt,
         script,
         Fails(ErrorKind::StorageFull),
-        b"gist: a reply can't be written: no storage space\n\0",
+        b"gist: a reply can't be written: no space left on device\n\0",
     );
     stops(&rt, script, Fails(ErrorKind::BrokenPipe), b"\0");
     stops(

@@ -15,7 +15,7 @@ use Rattle.gx_legality.specs.declared.fault.Rule.{Rule}
 use Rattle.gx_legality.specs.declared.fault.Rule.TheVariants.{SplitsOutnumberPages, RootIsLeaf, TooManyEntries, NoChild, SequenceNumber, ChildPage, ChildLevel, Bound, NamedTwice, NotNamed, Chain, OffTheChain, PairTwice, PairOutOfPlace}
 use Rattle.gx_legality.specs.Breaks.{Breaks}
 use Rattle.gx_legality.specs.Nodes.{FitsAlone, FitsBelow, FailsBelow}
-use Rattle.gx_legality.specs.Owner.{OnlyReads, WasHeld, IsWhy, IsFound}
+use Rattle.gx_legality.specs.Owner.{OnlyReads, WasHeld, IsWhy, IsWhyBehind, IsFound}
 use Rattle.gx_legality.proofs.Slots.{each_below, below_next}
 
 module _ {P B : Type 0} {steady : P → Type 0} {store : P → Store B} {since : P → P → ℕ → Type 0} where
@@ -55,10 +55,17 @@ module _ {P B : Type 0} {steady : P → Type 0} {store : P → Store B} {since :
 
 module _ {P F : Type 0} where
   pub why_later : (why : P → P → F → Type 0) (a b c : P) (e : LegalityFault F) → IsWhyLater why a b → IsWhy (why b c) e → IsWhy (why a c) e
-  why_later why a b c Memory later is = tt
+  why_later why a b c Memory later is = is
   why_later why a b c (Pages fault) later is = later c fault is
   why_later why a b c (Broken page rule) later is = tt
   why_later why a b c Unsteady later is = tt
+
+  -- behind the memory that is taken
+  pub why_behind : (old new : P) (why : F → Type 0) (e : LegalityFault F) → IsWhy why e → IsWhyBehind old new why e
+  why_behind old new why Memory is = absurd is
+  why_behind old new why (Pages fault) is = is
+  why_behind old new why (Broken page rule) is = tt
+  why_behind old new why Unsteady is = tt
 
 module _ {B : Type 0} where
   pub node_level : (f : Format B) (page : Contents) → (node_of f page).level ≡ page.level

@@ -10,7 +10,7 @@ abbrev pub Leads : {K : Type 0} → Tree K → ℕ → List ℕ → ℕ → Type
 Leads t a [] p = a ≡ p
 Leads t a (q ∷ qs) p = (a ≡ q) × Used t q × ((t.node q).level ≡ 0) × Leads t (t.node q).right qs p
 
--- what stands in this slot of a list is so
+-- this holds of the element in this slot of a list
 abbrev pub IsAtSlot : {X : Type 0} → (X → Type 0) → ℕ → List X → Type 0
 IsAtSlot {X} Q slot xs = (x : X) × (slice_get xs slot ≡ Some x) × Q x
 

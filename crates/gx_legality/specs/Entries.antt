@@ -13,6 +13,6 @@ abbrev pub entries_on : {B : Type 0} → Tree B → List ℕ → List (Entry B)
 entries_on t [] = []
 entries_on t (q ∷ qs) = map entry_of (t.node q).pairs ++ entries_on t qs
 
--- an entry stands twice on the chain, which begins at page 2
+-- an entry is twice on the chain, which begins at page 2
 abbrev pub IsPairTwice : {B : Type 0} → (Entry B → Entry B → Ordering) → List (Entry B) → ℕ → Rule → Type 0
 IsPairTwice cmp all p rule = (rule ≡ PairTwice) × (p ≡ 2) × StandsTwice cmp all

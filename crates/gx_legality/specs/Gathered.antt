@@ -7,7 +7,7 @@ use Rattle.gx_node.specs.Lists.{Each, how_many}
 use Rattle.gx_legality.specs.declared.gather.Pass.{Pass}
 use Rattle.gx_legality.specs.declared.gather.Pass.TheVariants.{Twice, Again, Done}
 
--- how often this stands in a list
+-- how often a list has this
 abbrev pub count : {E : Type 0} → (E → E → Ordering) → E → List E → ℕ
 count cmp e xs = how_many (λ x. is_eq (cmp x e)) xs
 
@@ -26,7 +26,7 @@ abbrev pub Ascends : {E : Type 0} → (E → E → Ordering) → List E → Type
 Ascends cmp [] = Unit {0}
 Ascends cmp (x ∷ xs) = Each (λ y. cmp x y ≡ Less) xs × Ascends cmp xs
 
--- something stands twice
+-- something is there twice
 abbrev pub StandsTwice : {E : Type 0} → (E → E → Ordering) → List E → Type 0
 StandsTwice {E} cmp xs = (e : E) × (2 ≤ count cmp e xs)
 
@@ -50,7 +50,7 @@ pub record Halves {E : Type 0} (cmp : E → E → Ordering) (old new : List E) (
   pub upto : (e : E) → 0 < count cmp e new → IsUpTo cmp (Some b) e
   pub bound : 0 < count cmp b old
 
--- none of what comes after the first bound, and no later than the second, stands twice
+-- nothing that comes after the first bound, and no later than the second, is there twice
 abbrev pub OnceBetween : {E : Type 0} → (E → E → Ordering) → Option E → Option E → List E → Type 0
 OnceBetween {E} cmp above top all = (e : E) → IsAfter cmp above e → IsUpTo cmp top e → count cmp e all ≤ 1
 
@@ -70,7 +70,8 @@ abbrev pub below : {E : Type 0} → (E → E → Ordering) → Option E → List
 below cmp None xs = 0
 below cmp (Some a) xs = how_many (λ x. not (is_gt (cmp x a))) xs
 
--- so many passes were made over all: what isn't after the bound stands at most once, and each pass has raised the bound
+-- so many passes were made over all: what isn't after the bound is there at most once, and each pass has raised the
+-- bound
 pub record Tested {E : Type 0} (cmp : E → E → Ordering) (g : Gathered E) (all : List E) (passes : ℕ) : Type 0 where
   pub fresh : g ≡ gathered_above g.half g.above
   pub once : (e : E) → (IsAfter cmp g.above e → ⊥) → count cmp e all ≤ 1

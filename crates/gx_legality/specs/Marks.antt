@@ -28,13 +28,13 @@ IsTwice t marks node q rule = (rule ≡ NamedTwice) × (2 ≤ q) × (q ≤ t.use
 abbrev pub named_by : {K : Type 0} → Tree K → ℕ → ℕ → ℕ
 named_by t q n = total (λ p. times q (child_pages (t.node p))) n
 
--- each page but the root is named once, and the leaves stand on their chain, each once
+-- each page but the root is named once, and the leaves are on their chain, each once
 pub record HasShape {K : Type 0} (t : Tree K) : Type 0 where
   pub parent : (q : ℕ) → 2 ≤ q → q ≤ t.used → parents t q ≡ 1
   pub chain : Linked t 2 (leaves t)
   pub once : (q : ℕ) → Used t q → (t.node q).level ≡ 0 → times q (leaves t) ≡ 1
 
--- the tree is legal, but that a pair may stand twice
+-- the tree is legal, except that a pair may be there twice
 pub record IsLegalButPairs {K : Type 0} (r : Rules K) (t : Tree K) : Type 0 where
   pub pages : (p : ℕ) → Used t p → NodeFits r t (t.node p)
   pub root : 0 < (t.node 1).level

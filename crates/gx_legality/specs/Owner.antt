@@ -1,5 +1,5 @@
 -- What a test leaves of its pages' owner, and why it was refused.
-use Rattle.std.specs.Prelude.{ℕ, IfErr, Result}
+use Rattle.std.specs.Prelude.{◌≡◌, ℕ, IfErr, Result}
 use Rattle.gx_node.specs.Owner.{KeepsSince}
 use Rattle.gx_node.specs.Store.{Store, Stays, tree_of}
 use Rattle.gx_node.specs.Trees.{Rules, Tree, Used}
@@ -20,12 +20,19 @@ pub record WasHeld {P B : Type 0} (steady : P → Type 0) (store : P → Store B
   pub reads : OnlyReads steady store since old moment
   pub is : held moment page
 
--- a test that pages were refused for says why
+-- a test that takes no memory says why it was refused, where pages were
 abbrev pub IsWhy : {F : Type 0} → (F → Type 0) → LegalityFault F → Type 0
 IsWhy why (Pages fault) = why fault
-IsWhy why Memory = Unit {0}
+IsWhy why Memory = ⊥
 IsWhy why (Broken page rule) = Unit {0}
 IsWhy why Unsteady = Unit {0}
+
+-- one that takes memory first does too: it is refused memory before any page is read
+abbrev pub IsWhyBehind : {P F : Type 0} → P → P → (F → Type 0) → LegalityFault F → Type 0
+IsWhyBehind old new why (Pages fault) = why fault
+IsWhyBehind old new why Memory = new ≡ old
+IsWhyBehind old new why (Broken page rule) = Unit {0}
+IsWhyBehind old new why Unsteady = Unit {0}
 
 -- what a test says of pages that show the same each time: what it names is so
 abbrev pub IsFound : {F : Type 0} → (ℕ → Rule → Type 0) → LegalityFault F → Type 0

@@ -15,7 +15,7 @@ use Rattle.gx_legality.specs.declared.notes.NotedPair.{NotedPair}
 use Rattle.gx_legality.specs.declared.notes.NoteStage.{NoteStage}
 use Rattle.gx_legality.specs.declared.notes.NoteStage.TheVariants.{Ahead, Reached, Found}
 
--- a note's pair stands in its leaf, or to the right of it
+-- a note's pair is in its leaf, or to the right of it
 abbrev pub IsPlaced : {B : Type 0} → Rules B → Tree B → NotedPair (Entry B) → Type 0
 IsPlaced r t n = IsSeek r t n.leaf n.entry.row n.entry.key
 

@@ -1,4 +1,4 @@
-//! The leaves stand on the chain of rightlinks, each once.
+//! The leaves are on the chain of rightlinks, each once.
 ghost use Rattle.std.specs.Prelude.{◌≡◌, ℕ, ◌+◌, ◌^◌, ◌<◌, ◌≤◌, ◌⊎◌, ◌==◌, List, None};
 ghost use Rattle.std.specs.Prelude.{Some, OnOk, IfErr, MatchOption, length, slice_index_or};
 ghost use Rattle.gx_node.specs.Legal.{Linked};

@@ -1,4 +1,6 @@
 //! Why a tree didn't pass.
+ghost use Rattle.std.specs.Prelude.{◌≡◌, ◌≤◌, ◌++◌, decimal, length, IfSome, MatchOption};
+ghost use Rattle.gx_legality.specs.Texts.{text_of};
 
 use std::fmt;
 
@@ -29,50 +31,64 @@ pub enum Rule {
     Chain,
     /// Each leaf is on this chain.
     OffTheChain,
-    /// No pair stands twice.
+    /// No pair is there twice.
     PairTwice,
-    /// A pair that an open transaction touched stands in its leaf, or to the right of it.
+    /// A pair that an open transaction touched is in its leaf, or to the right of it.
     PairOutOfPlace,
+}
+
+impl Rule {
+    /// How it is broken, in plain words; where a slot is named, those before it, the slot, and those behind it.
+    pub fn words(self) -> (&'static str, Option<(usize, &'static str)>)
+        ensures words { MatchOption result.1 (text_of self ≡ result.0.now)
+            (λ rest. text_of self ≡ result.0.now ++ (decimal rest.0 ++ rest.1.now)) }
+        ensures front { length result.0.now ≤ 80 }
+        ensures back { IfSome result.1 (λ rest. length rest.1.now ≤ 80) }
+    {
+        match self {
+            Rule::SplitsOutnumberPages => ("more splits are counted than pages", None),
+            Rule::RootIsLeaf => ("the root is a leaf", None),
+            Rule::TooManyEntries => ("the node has more entries than it has room for", None),
+            Rule::NoChild => ("a node above the leaves has no child", None),
+            Rule::SequenceNumber => ("the sequence number is above the counter of splits", None),
+            Rule::ChildPage(slot) => (
+                "the child in slot ",
+                Some((slot, " is the root, or not in use")),
+            ),
+            Rule::ChildLevel(slot) => (
+                "the child in slot ",
+                Some((slot, " is not one level lower")),
+            ),
+            Rule::Bound(slot) => (
+                "the bound in slot ",
+                Some((slot, " does not cover a key of its child")),
+            ),
+            Rule::NamedTwice => ("two entries name the page", None),
+            Rule::NotNamed => ("no entry names the page", None),
+            Rule::Chain => (
+                "rightlinks lead to a page that is no leaf in use, or was passed",
+                None,
+            ),
+            Rule::OffTheChain => ("the leaf is not on the chain of leaves", None),
+            Rule::PairTwice => ("a pair stands twice", None),
+            Rule::PairOutOfPlace => (
+                "a pair of an open transaction is not in its leaf, nor to the right",
+                None,
+            ),
+        }
+    }
 }
 
 impl fmt::Display for Rule {
     ghost use Rattle.std.specs.Prelude.{Some};
-    ghost use Rattle.gx_legality.specs.Texts.{text_of};
 
     ghost output = { λ rule. Some (text_of rule) };
 
     /// How it is broken, in plain words.
     fn fmt<W: fmt::Write>(&self, f: &mut fmt::Formatter<W>) -> fmt::Result {
-        match self {
-            Rule::SplitsOutnumberPages => f.write_str("more splits are counted than pages"),
-            Rule::RootIsLeaf => f.write_str("the root is a leaf"),
-            Rule::TooManyEntries => f.write_str("the node has more entries than it has room for"),
-            Rule::NoChild => f.write_str("a node above the leaves has no child"),
-            Rule::SequenceNumber => f.write_str(
-                "the sequence number is above the counter of splits",
-            ),
-            Rule::ChildPage(slot) => {
-                write!(f, "the child in slot {slot} is the root, or not in use")
-            }
-            Rule::ChildLevel(slot) => {
-                write!(f, "the child in slot {slot} is not one level lower")
-            }
-            Rule::Bound(slot) => {
-                write!(
-                    f,
-                    "the bound in slot {slot} does not cover a key of its child"
-                )
-            }
-            Rule::NamedTwice => f.write_str("two entries name the page"),
-            Rule::NotNamed => f.write_str("no entry names the page"),
-            Rule::Chain => f.write_str(
-                "rightlinks lead to a page that is no leaf in use, or was passed",
-            ),
-            Rule::OffTheChain => f.write_str("the leaf is not on the chain of leaves"),
-            Rule::PairTwice => f.write_str("a pair stands twice"),
-            Rule::PairOutOfPlace => f.write_str(
-                "a pair of an open transaction is not in its leaf, nor to the right",
-            ),
+        match self.words() {
+            (text, None) => f.write_str(text),
+            (front, Some((slot, back))) => write!(f, "{front}{slot}{back}"),
         }
     }
 }

@@ -32,11 +32,11 @@ impl<E: Ord + Copy> Model for Gather<E> {
 
 /// What a pass comes to.
 pub(crate) enum Pass {
-    /// Something stands twice.
+    /// Something is there twice.
     Twice,
-    /// Nothing up to a new bound stands twice.
+    /// Nothing up to a new bound is there twice.
     Again,
-    /// Nothing stands twice.
+    /// Nothing is there twice.
     Done,
 }
 
@@ -67,7 +67,7 @@ fn put_in_order<E: Ord + Copy>(items: &mut Vec<E>) -> bool
     ascends(items.as_slice())
 }
 
-/// Keeps so many of the least, and says the greatest of them. `None` where something stands twice.
+/// Keeps so many of the least, and returns the greatest of them. `None` where something is there twice.
 fn halve<E: Ord + Copy>(items: &mut Vec<E>, half: usize) -> Option<E>
     requires some { 0 < half }
     requires enough { half ≤ length items.old.items }

@@ -13,7 +13,7 @@ ghost use Rattle.gx_legality.specs.Gathered.{Ascends, gathered_above};
 ghost use Rattle.gx_legality.specs.Placing.{BreaksOrLeavesOut, IsPlaced, noted, stage_at};
 ghost use Rattle.gx_legality.specs.declared.notes.NoteStage.TheVariants.{Ahead};
 ghost use Rattle.gx_legality.specs.Marks.{AreLinks, HasShape, IsLegalButPairs, marked};
-ghost use Rattle.gx_legality.specs.Owner.{OnlyReads, IsWhy, IsFound, TellsBreak, WereHeld};
+ghost use Rattle.gx_legality.specs.Owner.{OnlyReads, IsWhy, IsWhyBehind, IsFound, TellsBreak, WereHeld};
 
 use crate::chain::test_chain;
 use crate::fault::{LegalityFault, Rule};
@@ -44,7 +44,7 @@ fn blank_links(alloc: Global, used: u32) -> Result<Vec<Option<u32>>, AllocError>
     vec![in alloc; None; used as usize + 1]
 }
 
-/// Tests that each page but the root is named just once, and that the leaves stand on their chain, each once.
+/// Tests that each page but the root is named just once, and that the leaves are on their chain, each once.
 fn test_links<K: KeyClass>(
     marks: &[bool],
     links: &[Option<u32>],
@@ -97,8 +97,8 @@ fn test_root<K: KeyClass, P: Pages<K>>(
     Ok(())
 }
 
-/// Tests all but that no pair stands twice.
-/// There are two marks and a rightlink for each page and for page 0, none of them set.
+/// Tests all but that no pair is there twice. There are two marks and a rightlink for each page and for page 0, none of
+/// them set.
 fn test_shape<K: KeyClass, P: Pages<K>>(
     pages: &mut P,
     most: u16,
@@ -132,7 +132,7 @@ fn test_shape<K: KeyClass, P: Pages<K>>(
     }
 }
 
-/// Tests that no pair stands twice, and that each note's pair is in its place, in a tree that is legal otherwise. No
+/// Tests that no pair is there twice, and that each note's pair is in its place, in a tree that is legal otherwise. No
 /// stage has come to its leaf before.
 fn test_leaves<K: KeyClass, P: Pages<K>>(
     pages: &mut P,
@@ -165,14 +165,13 @@ fn test_leaves<K: KeyClass, P: Pages<K>>(
 
 /// Tests that the tree is legal, where a node has at most `most` entries: the number of splits and the root, then
 /// `test_nodes`, `test_named`, `test_chain` and `test_pairs`, whose buffer has room for twice `half` pairs. And tests
-/// that the pair of each note stands in the note's leaf or to the right of it on the chain: the first pass over the
-/// leaves comes to the notes too, and looks each pair up among them by halves. Notes are of pairs that open
-/// transactions touched, in order by row and key, and no pair has two (`are_in_order`). Two pages at most are held at a
-/// time, and each page was held once.
+/// that the pair of each note is in the note's leaf or to the right of it on the chain: the first pass over the leaves
+/// comes to the notes too, and looks each pair up among them by halves. Notes are of pairs that open transactions
+/// touched, in order by row and key, and no pair has two (`are_in_order`). Two pages at most are held at a time, and
+/// each page was held once.
 ///
 /// Refused with `Memory` before any page is brought, with `Pages`, and with `Broken`: with `PairOutOfPlace` only in a
-/// legal tree, at the leaf of a note whose pair stands elsewhere or nowhere.
-/// With `Unsteady` only on a device that lies.
+/// legal tree, at the leaf of a note whose pair is elsewhere or nowhere. With `Unsteady` only on a device that lies.
 pub fn test_tree<K: KeyClass, P: Pages<K>>(
     alloc: Global,
     pages: &mut P,
@@ -184,7 +183,7 @@ pub fn test_tree<K: KeyClass, P: Pages<K>>(
     requires few { half < 2 ^ 40 }
     requires in_order { Ascends (entry_cmp (keys_of K.Key.Shape)) (noted notes.now) }
     ensures reads { OnlyReads P.steady P.store P.since pages.old pages.new }
-    ensures why { IfErr result (IsWhy (P.why pages.old pages.new)) }
+    ensures why { IfErr result (IsWhyBehind pages.old pages.new (P.why pages.old pages.new)) }
     ensures later { OnOk result (IsWhyLater P.why pages.old pages.new) }
     ensures held { OnOk result (WereHeld P.steady P.store P.since P.held pages.old) }
     ensures legal { P.steady pages.old → OnOk result (Legal (rules_of K.Key.Shape most) (tree_of (P.store pages.old))) }

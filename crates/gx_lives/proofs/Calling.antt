@@ -1,5 +1,5 @@
 -- What those who call an index do, as turns of its life.
-use Rattle.std.proofs.Common.{◌≡◌, sym, ap, refl, inl, inr, subst, ℕ, ◌+◌, Bool, true, false, List, [], ◌∷◌, ◌++◌, length, Option}
+use Rattle.std.proofs.Common.{◌≡◌, ◌∙◌, ap, refl, inl, inr, ℕ, ◌+◌, Bool, true, false, List, [], ◌∷◌, ◌++◌, length, Option}
 use Rattle.std.specs.Prelude.{Result, Ok, Err}
 use Rattle.gx_geom.specs.Rectangles.{Rectangle}
 use Rattle.gx_geom.specs.declared.refusal.Refusal.{Refusal}
@@ -18,15 +18,16 @@ use Rattle.gx_machine.specs.declared.item.Item.{Item}
 use Rattle.gx_machine.specs.declared.reply.Reply.{Reply}
 use Rattle.gx_machine.specs.Keys.{Members}
 use Rattle.gx_restart.specs.Called.{CallsBy, CallsIndex}
+use Rattle.gx_engine.specs.Repeated.{last_of}
 use Rattle.gx_restart.specs.Settled.{IsExhausted, Settles, SettlesBy, SettlesOn}
 use Rattle.gx_restart.specs.States.{State}
 use Rattle.gx_script.specs.declared.fault.ScriptFault.{ScriptFault}
 use Rattle.gx_script.specs.declared.fault.ScriptFault.TheVariants.{Read, Write}
 use Rattle.gx_script.specs.declared.line.Line.{Line}
 use Rattle.gx_script.specs.declared.line.Line.TheVariants.{Asks, Bad, Blank, Reversed}
-use Rattle.gx_script.specs.Scripts.{IsDone, IsScript, IsStopped, IsTold, asked}
+use Rattle.gx_script.specs.Scripts.{IsDone, IsScript, IsStopped, IsTold, asked, asked_as}
 use Rattle.gx_shared.specs.Books.{IsMade, is_made, is_turned_away, is_unrecorded}
-use Rattle.gx_lives.specs.Calling.{IsAnswered, IsOneEvent, LivesBy, LivesOn, turns_of}
+use Rattle.gx_lives.specs.Calling.{AreLines, IsAnswered, IsCalled, IsExhausting, IsLine, IsOneEvent, IsSettled, IsSettling, LivesBy, LivesOn, turns_of}
 use Rattle.gx_lives.specs.Lives.{Lives, Works}
 
 module _ {C B D : Type 0} (shape : Members B) (proper : B → Bool) (said : List ℕ → B) (class : Ghosts C B) (code : ℕ) (state : D → Device) where
@@ -52,9 +53,6 @@ module _ {C B D : Type 0} (shape : Members B) (proper : B → Bool) (said : List
   both_made : (old middle new : Parts B D) → HasMade old middle → HasMade middle new → HasMade old new
   both_made old middle new one other = record { steps = one.steps ++ other.steps; made = made_joined makes one.steps other.steps old middle new one.made other.made }
 
-  one_made : (old new : Parts B D) (event : Event B) (outcome : Outcome B) → makes old event outcome new → HasMade old new
-  one_made old new event outcome made = record { steps = (event, outcome) ∷ []; made = (new, made, refl) }
-
   lives_on : (old new : Parts B D) → HasMade old new → LivesOn shape proper said class code state old new
   lives_on old new has = lives_by (λ steps. Unit {0}) old new has.steps tt has.made
 
@@ -68,26 +66,50 @@ module _ {C B D : Type 0} (shape : Members B) (proper : B → Bool) (said : List
   call_by false old s call reply new (inl driven) = record { steps = driven.0.steps; made = driven.0.made }
   call_by false old s call reply new (inr given) = record { steps = given.0.1.steps; made = given.0.1.made }
 
-  pub called : (old new : State B D) (s : ℕ) (call : Call B) (reply : Reply B) → CallsIndex makes old s call reply new → LivesOn shape proper said class code state old.engine new.engine
-  called old new s call reply calls = lives_on old.engine new.engine (call_by old.ended old s call reply new calls)
+  -- events of which this holds led from one engine to another
+  abbrev MadeBy : (List (Event B × Outcome B) → Type 0) → Parts B D → Parts B D → Type 0
+  MadeBy AreSo old new = (steps : List (Event B × Outcome B)) × AreSo steps × AreMade makes old steps new
 
-  -- a settling
-  exhausted : (event : Event B) (old : Parts B D) (result : Result (Unit {0}) Refusal) (new : Parts B D) → IsExhausted makes event old result new → HasMade old new
-  exhausted event old result new is =
-      both_made old is.middle new (record { steps = is.before.steps; made = is.before.made }) (one_made is.middle new event _ is.last_made)
+  lives_so : (AreSo : List (Event B × Outcome B) → Type 0) (old new : Parts B D) → MadeBy AreSo old new → LivesBy shape proper said class code state AreSo old new
+  lives_so AreSo old new made = lives_by AreSo old new made.0 made.1 made.2
 
-  settles_on : (old : Parts B D) (result : Result (Unit {0}) Refusal) (new : Parts B D) → SettlesOn makes old result new → HasMade old new
-  settles_on old (Ok done) new (middle, first, next) = both_made old middle new (exhausted CheckpointStep old (Ok done) middle first) (exhausted LogStep middle (Ok done) new next)
-  settles_on old (Err why) new (inl first) = exhausted CheckpointStep old (Err why) new first
-  settles_on old (Err why) new (inr (middle, first, next)) =
-      both_made old middle new (exhausted CheckpointStep old (Ok tt) middle first) (exhausted LogStep middle (Err why) new next)
+  -- a call's events are those of its reply
+  call_so : (ended : Bool) (old : State B D) → old.ended ≡ ended → (s : ℕ) (call : Call B) (reply : Reply B) (new : State B D) → CallsBy makes ended old s call reply new
+      → MadeBy (λ steps. IsCalled ended s call reply steps new.ended) old.engine new.engine
+  call_so true old is s call reply new same = ([], (refl, same.0, ap (λ (i : State B D). i.ended) same.1 ∙ is), ap (λ (i : State B D). i.engine) same.1)
+  call_so false old is s call reply new (inl driven) = (driven.0.steps, inl (driven.0.driven, driven.1), driven.0.made)
+  call_so false old is s call reply new (inr given) = (given.0.1.steps, inr (given.0.0, given.0.1.driven, given.1, given.2), given.0.1.made)
 
-  settles_by : (ended : Bool) (old : State B D) (result : Result (Unit {0}) Refusal) (new : State B D) → SettlesBy makes ended old result new → HasMade old.engine new.engine
-  settles_by true old result new same = none_made old.engine new.engine (ap (λ (i : State B D). i.engine) same.1)
-  settles_by false old result new on = settles_on old.engine result new.engine on.0
+  pub called_so : (old new : State B D) (s : ℕ) (call : Call B) (reply : Reply B) → CallsIndex makes old s call reply new
+      → LivesBy shape proper said class code state (λ steps. IsCalled old.ended s call reply steps new.ended) old.engine new.engine
+  called_so old new s call reply calls = lives_so (λ steps. IsCalled old.ended s call reply steps new.ended) old.engine new.engine (call_so old.ended old refl s call reply new calls)
 
-  pub settled : (old new : State B D) (result : Result (Unit {0}) Refusal) → Settles makes old result new → LivesOn shape proper said class code state old.engine new.engine
-  settled old new result settles = lives_on old.engine new.engine (settles_by old.ended old result new settles)
+  -- a settling's are the checkpoint's steps, and then the log's
+  exhausted_so : (event : Event B) (old : Parts B D) (result : Result (Unit {0}) Refusal) (new : Parts B D) → IsExhausted makes event old result new
+      → MadeBy (IsExhausting event result) old new
+  exhausted_so event old result new is =
+      let last : List (Event B × Outcome B) = (event, last_of result) ∷ [] in
+      (is.before.steps ++ last, (is.before.steps, is.before.again, refl), made_joined makes is.before.steps last old is.middle new is.before.made (new, is.last_made, refl))
+
+  settling_so : (old : Parts B D) (result : Result (Unit {0}) Refusal) (new : Parts B D) → SettlesOn makes old result new → MadeBy (IsSettling result) old new
+  settling_so old (Ok done) new (middle, first, next) =
+      let a = exhausted_so CheckpointStep old (Ok done) middle first in
+      let b = exhausted_so LogStep middle (Ok done) new next in
+      (a.0 ++ b.0, (a.0, b.0, a.1, b.1, refl), made_joined makes a.0 b.0 old middle new a.2 b.2)
+  settling_so old (Err why) new (inl first) = let a = exhausted_so CheckpointStep old (Err why) new first in (a.0, inl a.1, a.2)
+  settling_so old (Err why) new (inr (middle, first, next)) =
+      let a = exhausted_so CheckpointStep old (Ok tt) middle first in
+      let b = exhausted_so LogStep middle (Err why) new next in
+      (a.0 ++ b.0, inr (a.0, b.0, a.1, b.1, refl), made_joined makes a.0 b.0 old middle new a.2 b.2)
+
+  pub settle_so : (ended : Bool) (old : State B D) (result : Result (Unit {0}) Refusal) (new : State B D) → SettlesBy makes ended old result new
+      → MadeBy (IsSettled ended result) old.engine new.engine
+  settle_so true old result new same = ([], (refl, same.0), ap (λ (i : State B D). i.engine) same.1)
+  settle_so false old result new on = settling_so old.engine result new.engine on.0
+
+  pub settled_so : (old new : State B D) (result : Result (Unit {0}) Refusal) → Settles makes old result new
+      → LivesBy shape proper said class code state (IsSettled old.ended result) old.engine new.engine
+  settled_so old new result settles = lives_so (IsSettled old.ended result) old.engine new.engine (settle_so old.ended old result new settles)
 
   -- a hold of a book
   pub held : (old new : Parts B D × List (Item B)) (event : Event B) (outcome : Outcome B) → IsMade makes old event outcome new
@@ -133,3 +155,38 @@ module _ {C D : Type 0} (shape : Members Rectangle) (proper : Rectangle → Bool
       → LivesOn shape proper said class code state old.engine new.engine
   script_stopped had left held_so holds old new fault stopped =
       lives_on shape proper said class code state old.engine new.engine (stopped_made had left held_so holds old new fault stopped)
+
+  -- a script's events are those of its calls' replies, line by line
+  abbrev LinesBy : (List (Event Rectangle × Outcome Rectangle) → Type 0) → State Rectangle D → State Rectangle D → Type 0
+  LinesBy AreSo old new = MadeBy shape proper said class code state AreSo old.engine new.engine
+
+  none_so : (AreSo : List (Event Rectangle × Outcome Rectangle) → Type 0) (old new : State Rectangle D) → new ≡ old → AreSo [] → LinesBy AreSo old new
+  none_so AreSo old new same so = ([], so, ap (λ (i : State Rectangle D). i.engine) same)
+
+  line_so : (n : ℕ) (line : Line) (old new : State Rectangle D) (text : List ℕ) → IsTold Asked n line old text new → LinesBy (λ steps. IsLine n line text old.ended steps new.ended) old new
+  line_so n Blank old new text told =
+      none_so (λ steps. IsLine n Blank text old.ended steps new.ended) old new told.1 (told.0, refl, ap (λ (i : State Rectangle D). i.ended) told.1)
+  line_so n Bad old new text told =
+      none_so (λ steps. IsLine n Bad text old.ended steps new.ended) old new told.1 (told.0, refl, ap (λ (i : State Rectangle D). i.ended) told.1)
+  line_so n (Reversed session) old new text told =
+      none_so (λ steps. IsLine n (Reversed session) text old.ended steps new.ended) old new told.1 (told.0, refl, ap (λ (i : State Rectangle D). i.ended) told.1)
+  line_so n (Asks session call) old new text told =
+      let made = call_so shape proper said class code state old.ended old refl (asked_as session) call told.0 new told.1 in
+      (made.0, (told.0, made.1, told.2), made.2)
+
+  pub lines_so : (n : ℕ) (lines : List Line) (old new : State Rectangle D) (text : List ℕ) → IsScript Asked n lines old text new
+      → LinesBy (λ steps. AreLines n lines text old.ended steps new.ended) old new
+  lines_so n [] old new text ran =
+      none_so (λ steps. AreLines n [] text old.ended steps new.ended) old new ran.1 (ran.0, refl, ap (λ (i : State Rectangle D). i.ended) ran.1)
+  lines_so n (line ∷ more) old new text (first, rest, middle, told, others, parts) =
+      let a = line_so n line old middle first told in
+      let b = lines_so (n + 1) more middle new rest others in (
+        a.0 ++ b.0,
+        (first, rest, a.0, b.0, middle.ended, a.1, b.1, parts, refl),
+        made_joined (Makes shape proper said class state) a.0 b.0 old.engine middle.engine new.engine a.2 b.2,
+      )
+
+  pub script_so : (n : ℕ) (lines : List Line) (old new : State Rectangle D) (text : List ℕ) → IsScript Asked n lines old text new
+      → LivesBy shape proper said class code state (λ steps. AreLines n lines text old.ended steps new.ended) old.engine new.engine
+  script_so n lines old new text ran =
+      lives_so shape proper said class code state (λ steps. AreLines n lines text old.ended steps new.ended) old.engine new.engine (lines_so n lines old new text ran)

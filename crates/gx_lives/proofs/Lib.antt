@@ -4,6 +4,11 @@ pub mod Images
 pub mod Lived
 pub mod OneRun
 pub mod Told
+pub mod Serially
+pub mod Kept
+pub mod Unchanged
+pub mod Later
 pub mod Beginning
 pub mod Narrow
 pub mod Undamaged
+pub mod OverDevices

@@ -105,7 +105,7 @@ module _ {B : Type 0} (k : Keys B) where
   event CheckpointStep outcome old new h = sync outcome old new h
   event (Sweep page) outcome old new h = work outcome old new h
 
-  turn_told : (turn : Turn B) (old new : Machine B) → IsOf k old turn new → Run old new (TellsTurn turn)
+  pub turn_told : (turn : Turn B) (old new : Machine B) → IsOf k old turn new → Run old new (TellsTurn turn)
   turn_told (life.Happens e outcome) old new h = event e outcome old new h
   turn_told life.Crashes old new same = none old new (TellsTurn life.Crashes) refl same
   turn_told life.GivesUp old new same = none old new (TellsTurn life.GivesUp) refl same

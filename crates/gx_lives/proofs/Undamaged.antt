@@ -1,5 +1,5 @@
 -- An opening in a life finds no damage.
-use Rattle.std.proofs.Common.{◌≡◌, inl, inr, refl, subst, ℕ, ◌≤◌, Bool, List, Result, Ok, Err, arith}
+use Rattle.std.proofs.Common.{◌≡◌, ◌⊎◌, inl, inr, refl, subst, ℕ, ◌≤◌, Bool, List, Result, Ok, Err, arith}
 use Rattle.std.specs.Prelude.{IfErr}
 use Rattle.gx_geom.specs.declared.refusal.Refusal.{Refusal}
 use Rattle.gx_geom.specs.declared.refusal.Refusal.TheVariants as refusal
@@ -24,7 +24,7 @@ use Rattle.gx_machine.specs.Keys.{Members}
 use Rattle.gx_machine.specs.Machine.{Machine}
 use Rattle.gx_node.specs.Reading.{Format, format_of, is_node}
 use Rattle.gx_restart.specs.Beginning.{HasFailed}
-use Rattle.gx_restart.specs.Opened.{IsRefused}
+use Rattle.gx_restart.specs.Opened.{IsStopped}
 use Rattle.gx_opening.specs.Formatted.{IsAllowed, MaySettle}
 use Rattle.gx_opening.specs.Laid.{IsLaid}
 use Rattle.gx_opening.specs.Sound.{AreSound}
@@ -121,10 +121,7 @@ module _ {C B D : Type 0} (shape : Members B) (proper : B → Bool) (said : List
     not_unlaid : IsUnlaid shape proper said f code d why → HasFailed why
     not_unlaid un = elim un.cause [
       | inl device ↦ inl device
-      | inr others ↦ elim others [
-        | inl memory ↦ inr memory
-        | inr damaged ↦ absurd (subst Unlaid (same_saying un.parameters un.formatted) un.damaged damaged log_is)
-      ]
+      | inr damaged ↦ absurd (subst Unlaid (same_saying un.parameters un.formatted) un.damaged damaged log_is)
     ]
 
     module _ (e : Device) where
@@ -167,15 +164,23 @@ module _ {C B D : Type 0} (shape : Members B) (proper : B → Bool) (said : List
     not_settled refusal.NoCall none = absurd none
     not_settled refusal.HistoryFull none = absurd none
 
+    abbrev Refused : (same : Type 0) → Device → Refusal → Type 0
+    Refused same e why =
+        MaySettle code d.sectors d.seen (Err why)
+        ⊎ (IsUnlaid shape proper said f code d why ⊎ (IsUnsound shape proper said f code d e why ⊎ (IsStopped shape proper said f state code d why ⊎ ((why ≡ refusal.Memory) × same))))
+
     -- So an opening is refused only as a failed call or as refused memory.
-    pub only_fails : (e : Device) (why : Refusal) → IsRefused shape proper said f state code d e why → HasFailed why
-    only_fails e why refused = elim refused [
+    pub only_fails : (same : Type 0) (e : Device) (why : Refusal) → Refused same e why → HasFailed why
+    only_fails same e why refused = elim refused [
       | inl settled ↦ not_settled why settled
       | inr others ↦ elim others [
         | inl unlaid ↦ not_unlaid code formatted why unlaid
         | inr more ↦ elim more [
           | inl unsound ↦ not_unsound code formatted why e unsound
-          | inr stopped ↦ stopped.cause
+          | inr last ↦ elim last [
+            | inl stopped ↦ stopped.cause
+            | inr room ↦ inr room.0
+          ]
         ]
       ]
     ]

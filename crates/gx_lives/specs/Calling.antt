@@ -1,16 +1,25 @@
 -- What those who call an index do, as turns of its life.
-use Rattle.std.specs.Prelude.{ℕ, ◌≡◌, ◌⊎◌, Bool, List, [], ◌∷◌}
+use Rattle.std.specs.Prelude.{ℕ, ◌≡◌, ◌+◌, ◌⊎◌, Bool, true, false, List, [], ◌∷◌, ◌++◌, Result, Ok, Err}
 use Rattle.gx_class.specs.declared.class.KeyClass.{Ghosts}
 use Rattle.gx_disk.specs.Device.{Device}
 use Rattle.gx_engine.specs.Driven.{AreDriven}
+use Rattle.gx_engine.specs.Repeated.{AreAgain, last_of}
 use Rattle.gx_engine.specs.States.{Parts}
 use Rattle.gx_events.specs.declared.driver.Next.TheVariants.{Done, Run}
 use Rattle.gx_events.specs.declared.event.Event.{Event}
-use Rattle.gx_events.specs.declared.event.Event.TheVariants.{Ask}
+use Rattle.gx_events.specs.declared.event.Event.TheVariants.{Ask, CheckpointStep, LogStep}
 use Rattle.gx_events.specs.declared.outcome.Outcome.{Outcome}
+use Rattle.gx_geom.specs.Rectangles.{Rectangle}
+use Rattle.gx_geom.specs.declared.refusal.Refusal.{Refusal}
+use Rattle.gx_geom.specs.declared.refusal.Refusal.TheVariants.{BadBox, Damaged, Failed}
 use Rattle.gx_machine.specs.declared.call.Call.{Call}
 use Rattle.gx_machine.specs.declared.reply.Reply.{Reply}
+use Rattle.gx_machine.specs.declared.reply.Reply.TheVariants.{Refused}
 use Rattle.gx_machine.specs.Keys.{Members}
+use Rattle.gx_script.specs.declared.line.Line.{Line}
+use Rattle.gx_script.specs.declared.line.Line.TheVariants.{Asks, Bad, Blank, Reversed}
+use Rattle.gx_script.specs.Replies.{bad_line, reply_text}
+use Rattle.gx_script.specs.Scripts.{asked_as}
 use Rattle.gx_lives.specs.Lives.{Lives, Turn, Works}
 use Rattle.gx_lives.specs.Lives as life
 
@@ -26,6 +35,48 @@ IsAnswered s call reply steps = AreDriven s (Run (Ask s call)) steps (Done reply
 -- this event alone, or none
 abbrev pub IsOneEvent : {B : Type 0} → Event B → List (Event B × Outcome B) → Type 0
 IsOneEvent {B} event steps = (steps ≡ []) ⊎ ((outcome : Outcome B) × (steps ≡ (event, outcome) ∷ []))
+
+-- A call of an index is given this reply by these events, by whether the index gave up before it, and after it. Where it hadn't, they are the events
+-- of the session's driver, up to that reply; or the call was given up, with one more event due, and is told as damage. Where it had, there are none.
+abbrev pub IsCalled : {B : Type 0} → Bool → ℕ → Call B → Reply B → List (Event B × Outcome B) → Bool → Type 0
+IsCalled true s call reply steps after = (steps ≡ []) × (reply ≡ Refused Failed) × (after ≡ true)
+IsCalled {B} false s call reply steps after =
+    (IsAnswered s call reply steps × (after ≡ false))
+    ⊎ ((due : Event B) × AreDriven s (Run (Ask s call)) steps (Run due) × (reply ≡ Refused Damaged) × (after ≡ true))
+
+-- A line of a script gives this text by these events: a call's are those of its reply, which is the text; others have none.
+abbrev pub IsLine : ℕ → Line → List ℕ → Bool → List (Event Rectangle × Outcome Rectangle) → Bool → Type 0
+IsLine number Blank text before steps after = (text ≡ []) × (steps ≡ []) × (after ≡ before)
+IsLine number Bad text before steps after = (text ≡ bad_line number) × (steps ≡ []) × (after ≡ before)
+IsLine number (Reversed session) text before steps after = (text ≡ reply_text session (Refused BadBox)) × (steps ≡ []) × (after ≡ before)
+IsLine number (Asks session call) text before steps after =
+    (reply : Reply Rectangle) × IsCalled before (asked_as session) call reply steps after × (text ≡ reply_text session reply)
+
+-- line by line, the first of which has this number
+abbrev pub AreLines : ℕ → List Line → List ℕ → Bool → List (Event Rectangle × Outcome Rectangle) → Bool → Type 0
+AreLines number [] text before steps after = (text ≡ []) × (steps ≡ []) × (after ≡ before)
+AreLines number (line ∷ more) text before steps after =
+    (first : List ℕ) × (rest : List ℕ) × (done : List (Event Rectangle × Outcome Rectangle)) × (later : List (Event Rectangle × Outcome Rectangle)) × (middle : Bool)
+    × IsLine number line first before done middle × AreLines (number + 1) more rest middle later after × (text ≡ first ++ rest) × (steps ≡ done ++ later)
+
+-- an event over and over, until there is nothing to do or it is refused, which is the result
+abbrev pub IsExhausting : {B : Type 0} → Event B → Result (Unit {0}) Refusal → List (Event B × Outcome B) → Type 0
+IsExhausting {B} event result steps = (before : List (Event B × Outcome B)) × AreAgain event before × (steps ≡ before ++ (event, last_of result) ∷ [])
+
+-- the checkpoint's steps, and then the log's
+abbrev pub IsSettling : {B : Type 0} → Result (Unit {0}) Refusal → List (Event B × Outcome B) → Type 0
+IsSettling {B} (Ok done) steps =
+    (first : List (Event B × Outcome B)) × (next : List (Event B × Outcome B)) × IsExhausting CheckpointStep (Ok done) first × IsExhausting LogStep (Ok done) next
+    × (steps ≡ first ++ next)
+IsSettling {B} (Err why) steps =
+    IsExhausting CheckpointStep (Err why) steps
+    ⊎ ((first : List (Event B × Outcome B)) × (next : List (Event B × Outcome B)) × IsExhausting CheckpointStep (Ok tt) first × IsExhausting LogStep (Err why) next
+    × (steps ≡ first ++ next))
+
+-- by whether the index gave up before, where there is no event
+abbrev pub IsSettled : {B : Type 0} → Bool → Result (Unit {0}) Refusal → List (Event B × Outcome B) → Type 0
+IsSettled true result steps = (steps ≡ []) × (result ≡ Err Failed)
+IsSettled false result steps = IsSettling result steps
 
 -- An engine lived on by events alone, of which this holds.
 pub record LivesBy {C B D : Type 0} (shape : Members B) (proper : B → Bool) (said : List ℕ → B) (class : Ghosts C B) (code : ℕ) (state : D → Device)

@@ -19,6 +19,7 @@ use Rattle.gx_restart.specs.Opened.{IsRefused}
 use Rattle.gx_lives.specs.Bearing.{Bears, HasSet}
 use Rattle.gx_lives.specs.Lives.{Lies, MayBeLeft, Stage, Turn}
 use Rattle.gx_lives.specs.Lives as life
+use Rattle.gx_lives.specs.Serially.{AreSerial, FindExactly}
 use Rattle.gx_lives.specs.Told.{Tells}
 
 -- A device is new: an honest one was formatted, which ended well, and the root that was laid down is a page.
@@ -41,6 +42,9 @@ pub record IsOneRun {C B D : Type 0} (shape : Members B) (proper : B → Bool) (
   pub told : Tells turns steps
   pub machine : Machine B
   pub runs : IsRun (keys_of shape) fresh_machine steps machine
+  -- it is serial, and each search in it finds exactly what matches in its view
+  pub serial : AreSerial (keys_of shape) fresh_machine steps
+  pub finds : FindExactly (keys_of shape) fresh_machine steps
   -- each commit that was answered is among those that every kept set has
   pub covers : (number : ℕ) → IsAcknowledged number turns → number ≤ machine.oldest
   -- the stage is seen as that machine
@@ -48,4 +52,4 @@ pub record IsOneRun {C B D : Type 0} (shape : Members B) (proper : B → Bool) (
   -- whatever a crash may leave, now or within what begins now, has a set that the machine keeps
   pub left : (image : List ℕ) → MayBeLeft shape proper said class code state now image → HasSet shape proper said class state p machine image
   -- an opening is refused only where a call failed or memory was refused
-  pub opens : (disk new : D) (why : Refusal) → now ≡ Lies disk → IsRefused shape proper said (format_of class) state code (state disk) (state new) why → HasFailed why
+  pub opens : (disk new : D) (why : Refusal) → now ≡ Lies disk → IsRefused shape proper said (format_of class) state code disk new why → HasFailed why

@@ -15,9 +15,10 @@ ghost use Rattle.gx_restart.specs.Called.{CallsIndex};
 ghost use Rattle.gx_restart.specs.Settled.{Settles};
 ghost use Rattle.gx_restart.specs.States.{State};
 ghost use Rattle.gx_script.specs.declared.fault.ScriptFault.{ScriptFault};
-ghost use Rattle.gx_script.specs.Scripts.{IsDone, IsStopped};
+ghost use Rattle.gx_script.specs.declared.line.Line.{Line};
+ghost use Rattle.gx_script.specs.Scripts.{IsDone, IsScript, IsStopped};
 ghost use Rattle.gx_shared.specs.Books.{IsMade};
-ghost use Rattle.gx_lives.specs.Calling.{IsAnswered, IsOneEvent, LivesBy, LivesOn};
+ghost use Rattle.gx_lives.specs.Calling.{AreLines, IsAnswered, IsCalled, IsOneEvent, IsSettled, LivesBy, LivesOn};
 ghost use Rattle.gx_lives.specs.Lives.{GoesOn, Works};
 ghost use Rattle.gx_lives.specs.Lives as life;
 
@@ -27,26 +28,34 @@ use gx_durable::ReadKeys;
 use gx_geom::{Box2, Shape};
 
 /// A call of an index (`gx_restart::Index::call`) is turns of its life: events, from its ask to the outcome that gives
-/// its reply. So is one that is given up, or refused because the index gave up.
+/// its reply. So is one that is given up, which is told as damage; and one that is refused because the index gave up
+/// has none.
 pub fn calls_are_turns<D: SectorDisk, K: ReadKeys>()
     ensures answered { (old new : Parts K.Key D) (s : ℕ) (call : Call K.Key) (reply : Reply K.Key)
         → IsDriven (Makes K.Key.Shape K.is_proper K.said K.KeyClass D.state) s (Ask s call) old reply new
         → LivesBy K.Key.Shape K.is_proper K.said K.KeyClass K.CLASS D.state (IsAnswered s call reply) old new }
     ensures calls { (old new : State K.Key D) (s : ℕ) (call : Call K.Key) (reply : Reply K.Key)
         → CallsIndex (Makes K.Key.Shape K.is_proper K.said K.KeyClass D.state) old s call reply new
-        → LivesOn K.Key.Shape K.is_proper K.said K.KeyClass K.CLASS D.state old.engine new.engine }
+        → LivesBy K.Key.Shape K.is_proper K.said K.KeyClass K.CLASS D.state
+        (λ steps. IsCalled old.ended s call reply steps new.ended) old.engine new.engine }
 {}
 
-/// So is a settling (`gx_restart::Index::settle`).
+/// So is a settling (`gx_restart::Index::settle`): the checkpoint's steps, and then the log's, each until there is
+/// nothing to do or one is refused.
 pub fn settlings_are_turns<D: SectorDisk, K: ReadKeys>()
     ensures { (old new : State K.Key D) (result : Result (Unit {0}) Refusal)
         → Settles (Makes K.Key.Shape K.is_proper K.said K.KeyClass D.state) old result new
-        → LivesOn K.Key.Shape K.is_proper K.said K.KeyClass K.CLASS D.state old.engine new.engine }
+        → LivesBy K.Key.Shape K.is_proper K.said K.KeyClass K.CLASS D.state (IsSettled old.ended result)
+        old.engine new.engine }
 {}
 
 /// So is a script (`gx_restart::run_script`), whether it is read to its end or stopped by a fault of its reader or
-/// writer.
+/// writer. Its lines are the events of their calls, one after another, each up to the reply that its text says.
 pub fn scripts_are_turns<D: SectorDisk, K: ReadKeys + KeyClass<Key = Box2>>()
+    ensures lines { (number : ℕ) (lines : List Line) (old new : State Rectangle D) (text : List ℕ)
+        → IsScript (CallsIndex (Makes ⟦<Box2 as Shape>⟧ K.is_proper K.said K.KeyClass D.state)) number lines old text
+        new → LivesBy ⟦<Box2 as Shape>⟧ K.is_proper K.said K.KeyClass K.CLASS D.state
+        (λ steps. AreLines number lines text old.ended steps new.ended) old.engine new.engine }
     ensures done { (had left held holds : Option (List ℕ)) (old new : State Rectangle D)
         → IsDone (CallsIndex (Makes ⟦<Box2 as Shape>⟧ K.is_proper K.said K.KeyClass D.state)) had left held holds old
         new → LivesOn ⟦<Box2 as Shape>⟧ K.is_proper K.said K.KeyClass K.CLASS D.state old.engine new.engine }

@@ -1,26 +1,28 @@
 //! What holds of lives. Each function is its contract alone.
 ghost use Rattle.std.specs.Prelude.{◌≡◌, ◌≤◌, ◌<◌, ◌^◌, ℕ, List};
-ghost use Rattle.gx_engine.specs.Made.{Makes};
+ghost use Rattle.gx_engine.specs.States.{Parts};
 ghost use Rattle.gx_events.specs.declared.event.Event.TheVariants.{Move};
 ghost use Rattle.gx_events.specs.declared.outcome.Outcome.TheVariants.{Replied};
 ghost use Rattle.gx_glog.specs.declared.parameters.Parameters.{Parameters};
 ghost use Rattle.gx_machine.specs.declared.reply.Reply.TheVariants.{Committed};
 ghost use Rattle.gx_machine.specs.Keys.{Keys, keys_of};
-ghost use Rattle.gx_machine.specs.Machine.{Machine, newest, set_of};
+ghost use Rattle.gx_machine.specs.Machine.{Machine, fresh_machine, newest, set_of};
 ghost use Rattle.gx_machine.specs.Runs.{Step, IsRun};
 ghost use Rattle.gx_node.specs.Reading.{format_of};
 ghost use Rattle.gx_restart.specs.Beginning.{HasFailed};
 ghost use Rattle.gx_restart.specs.Opened.{IsRefused};
 ghost use Rattle.gx_opening.specs.Formatted.{IsAllowed};
 ghost use Rattle.gx_lives.specs.Bearing.{AreOf, Bears, HasSet, IsOf};
-ghost use Rattle.gx_lives.specs.Lives.{Lies, Lives, MayBeLeft, Stage, Turn};
+ghost use Rattle.gx_lives.specs.Later.{FindsOpened};
+ghost use Rattle.gx_lives.specs.Lives.{GoesOn, Lies, Lives, MayBeLeft, Stage, Turn, Works};
 ghost use Rattle.gx_lives.specs.Lives as life;
 ghost use Rattle.gx_lives.specs.OneRun.{IsNew, IsOneRun};
+ghost use Rattle.gx_lives.specs.Serially.{AreSerial, FindExactly};
 ghost use Rattle.gx_lives.specs.Told.{Tells};
 
 use gx_disk::SectorDisk;
 use gx_durable::ReadKeys;
-use gx_geom::Refusal;
+use gx_geom::{Refusal, Shape};
 use gx_node::laws::{inners, leaves};
 
 // A class's number is one of its field.
@@ -65,8 +67,8 @@ pub fn a_crash_leaves_a_set_of_the_machine<D: SectorDisk, K: ReadKeys>()
 pub fn an_opening_finds_no_damage<D: SectorDisk, K: ReadKeys>()
     ensures { (p : Parameters) → IsAllowed K.CLASS p → (m : Machine K.Key) (old new : D) (why : Refusal)
         → Bears K.Key.Shape K.is_proper K.said K.KeyClass D.state p m (Lies old)
-        → IsRefused K.Key.Shape K.is_proper K.said (format_of K.KeyClass) D.state K.CLASS (D.state old) (D.state new)
-        why → HasFailed why }
+        → IsRefused K.Key.Shape K.is_proper K.said (format_of K.KeyClass) D.state K.CLASS old new why
+        → HasFailed why }
 {
     gx_engine::laws::a_class_is_lawful::<K>();
     is_class(K::CLASS);
@@ -74,10 +76,11 @@ pub fn an_opening_finds_no_damage<D: SectorDisk, K: ReadKeys>()
 
 /// The headline. An index is formatted on an honest device, which ends well, and then lives through any list of events,
 /// crashes at any moment, and openings. What it lived through is one run of the set machine, from nothing committed: a
-/// step for each ask and each reply, and one crash for each opening that ended well. The engine at work is seen as the
-/// machine that this run led to; whatever a crash may leave has a set that this machine keeps, of the first n commits;
-/// n covers each commit that was answered; and an opening of the device is refused only where a call of the device
-/// failed or memory was refused.
+/// step for each ask and each reply, and one crash for each opening that ended well. This run is serial, by the numbers
+/// of its commits, and each search that it answers finds exactly what matches in its view. The engine at work is seen
+/// as the machine that this run led to; whatever a crash may leave has a set that this machine keeps, of the first n
+/// commits; n covers each commit that was answered; and an opening of the device is refused only where a call of the
+/// device failed or memory was refused.
 pub fn an_index_lives_as_one_run<D: SectorDisk, K: ReadKeys>()
     ensures { (p : Parameters) → p.class ≡ K.CLASS → (disk : D) → IsNew K.KeyClass K.start_key D.state p disk
         → (turns : List (Turn K.Key)) (now : Stage K.Key D)
@@ -92,11 +95,46 @@ pub fn an_index_lives_as_one_run<D: SectorDisk, K: ReadKeys>()
     every_life_is_a_run::<K::Key>();
     a_crash_leaves_a_set_of_the_machine::<D, K>();
     an_opening_finds_no_damage::<D, K>();
+    a_run_from_nothing_is_serial::<K::Key>();
     gx_machine::laws::acknowledged_commits_survive::<K::Key>();
 }
 
+/// A search of a later life finds what was committed. An index lives from its format to a device, and that is opened.
+/// The opening has the set that the one run's machine keeps under a number, none below a commit's that was answered.
+/// From there on, as long as no insert and no delete is answered as done, each search that is answered finds exactly
+/// the entries of that set which match, in order, each once: whatever else comes in between, crashes and openings too.
+pub fn a_later_search_finds_what_was_opened<D: SectorDisk, K: ReadKeys>()
+    ensures { (p : Parameters) → p.class ≡ K.CLASS → (disk : D) → IsNew K.KeyClass K.start_key D.state p disk
+        → (turns : List (Turn K.Key)) (closed : D) (engine : Parts K.Key D)
+        → Lives K.Key.Shape K.is_proper K.said K.KeyClass K.CLASS D.state (Lies disk) turns (Lies closed)
+        → GoesOn K.Key.Shape K.is_proper K.said K.KeyClass K.CLASS D.state (Lies closed) life.Opens (Works engine)
+        → FindsOpened K.Key.Shape K.is_proper K.said K.KeyClass K.CLASS D.state p turns closed engine }
+{
+    an_index_lives_as_one_run::<D, K>();
+    every_life_is_the_machines::<D, K>();
+    gx_machine::laws::keys_are_lawful::<K::Key>();
+    gx_machine::laws::kept_sets_stay_in_order::<K::Key>();
+    gx_machine::laws::found_is_what_the_view_has::<K::Key>();
+    gx_machine::laws::calls_change_no_set::<K::Key>();
+    gx_machine::laws::only_open_commits_are_sealed::<K::Key>();
+}
+
+/// A run from nothing committed is serial, and each search that it answers finds exactly what matches in its view.
+pub fn a_run_from_nothing_is_serial<B: Shape>()
+    ensures serial { (new : Machine B) (steps : List (Step B)) → IsRun (keys_of B.Shape) fresh_machine steps new
+        → AreSerial (keys_of B.Shape) fresh_machine steps }
+    ensures finds { (new : Machine B) (steps : List (Step B)) → IsRun (keys_of B.Shape) fresh_machine steps new
+        → FindExactly (keys_of B.Shape) fresh_machine steps }
+{
+    gx_machine::laws::keys_are_lawful::<B>();
+    gx_machine::laws::every_run_is_serial::<B>();
+    gx_machine::laws::committed_transactions_run_alone::<B>();
+    gx_machine::laws::kept_sets_stay_in_order::<B>();
+    gx_machine::laws::found_is_what_the_view_has::<B>();
+}
+
 /// What a life is of the machine is a run of it: a step for each ask and each reply, and one crash for each opening
-/// that ends well. So all that holds of runs holds of lives: they are serial.
+/// that ends well. So all that holds of runs holds of lives.
 pub fn every_life_is_a_run<B>()
     ensures { (k : Keys B) (turns : List (Turn B)) (old new : Machine B) → AreOf k old turns new
         → (steps : List (Step B)) × Tells turns steps × IsRun k old steps new }

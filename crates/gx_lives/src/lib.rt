@@ -2,6 +2,7 @@
 #![tactic(auto)]
 
 pub mod callers;
+pub mod commands;
 pub mod laws;
 mod turns;
 

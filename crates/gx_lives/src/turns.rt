@@ -1,5 +1,5 @@
 //! The calls whose contracts are the turns of a life: each is the call of its name, with what it is of a life.
-ghost use Rattle.std.specs.Prelude.{◌≡◌, ◌≤◌, ◌<◌, true, Err, OnOk, IfErr, MatchResult};
+ghost use Rattle.std.specs.Prelude.{◌≡◌, ◌≤◌, ◌<◌, true, Err, OnOk, IfErr, IfOk, MatchResult};
 ghost use Rattle.gx_disk.specs.declared.layout.TheConstants.{MIN_SECTORS};
 ghost use Rattle.gx_engine.specs.Made.{Makes};
 ghost use Rattle.gx_format.specs.Formatting.{Formats};
@@ -11,6 +11,7 @@ ghost use Rattle.gx_node.specs.Reading.{format_of};
 ghost use Rattle.gx_pool.specs.declared.frames.TheConstants.{FRAMES};
 ghost use Rattle.gx_restart.specs.Beginning.{HasFailed};
 ghost use Rattle.gx_restart.specs.Opened.{IsRefused};
+ghost use Rattle.gx_restart.specs.Undoing.{BeganWith};
 ghost use Rattle.gx_opening.specs.Formatted.{IsAllowed};
 ghost use Rattle.gx_opening.specs.Standing.{IsFormatted};
 ghost use Rattle.gx_lives.specs.Bearing.{Bears};
@@ -89,7 +90,8 @@ pub fn open<D: SectorDisk, K: ReadKeys + Probing>(
     ensures refused { (D.state disk).honest ≡ true → 16 ≤ frames → frames ≤ FRAMES
         → MIN_SECTORS ≤ (D.state disk).sectors
         → IfErr result (λ n. IsRefused K.Key.Shape K.is_proper K.said (format_of K.KeyClass) D.state K.CLASS
-        (D.state disk) (D.state n.disk) n.why) }
+        disk n.disk n.why) }
+    ensures began { IfOk result (BeganWith (Makes K.Key.Shape K.is_proper K.said K.KeyClass D.state) frames) }
     ensures undamaged { (p : Parameters) → IsAllowed K.CLASS p → (m : Machine K.Key)
         → Bears K.Key.Shape K.is_proper K.said K.KeyClass D.state p m (Lies disk) → 16 ≤ frames → frames ≤ FRAMES
         → IfErr result (λ n. HasFailed n.why) }

@@ -1,4 +1,4 @@
--- Where an entry stands in a set in order, or goes.
+-- The place of an entry in a set in order: where it is, or where it would go.
 use Rattle.std.specs.Prelude.{◌≡◌, ℕ, ◌<◌, ◌≤◌, true, false, Result, Ok, Err, List, [], ◌∷◌, length, take, drop}
 use Rattle.std.specs.List.{insert, slice_index_or}
 use Rattle.std.specs.declared.cmp.Ordering.TheVariants.{Less}
@@ -17,7 +17,7 @@ pub record IsFound {B : Type 0} (k : Keys B) (e : Entry B) (set : List (Entry B)
   pub has : has k e set ≡ true
   pub at : (d : Entry B) → slice_index_or set i d ≡ e
 
--- the place of an entry that the set lacks
+-- the place for an entry that the set doesn't have
 pub record IsPlace {B : Type 0} (k : Keys B) (e : Entry B) (set : List (Entry B)) (i : ℕ) : Type 0 where
   pub within : i ≤ length set
   pub lacks : has k e set ≡ false
@@ -25,7 +25,7 @@ pub record IsPlace {B : Type 0} (k : Keys B) (e : Entry B) (set : List (Entry B)
   pub below : Below k e (take i set)
   pub before : Before k e (drop i set)
 
--- the set has the entry in this place, or lacks it and it goes there
+-- the set has the entry in this place, or doesn't have it and this is its place
 abbrev pub IsSearched : {B : Type 0} → Keys B → Entry B → List (Entry B) → Result ℕ ℕ → Type 0
 IsSearched k e set (Ok i) = IsFound k e set i
 IsSearched k e set (Err i) = IsPlace k e set i

@@ -11,10 +11,10 @@ use Rattle.gx_machine.specs.Keys.{Keys}
 use Rattle.gx_machine.specs.Sessions.{is_unanswered}
 use Rattle.gx_machine.specs.Machine.{Machine, newest, session_at, ask, answer, seal, durable, close, crash, failed_machine}
 
--- The steps: a session asks, and is given a reply at once or has its call open; a session is answered; a commit is
--- sealed under a number; commits up to a number are durable; an open call is closed unanswered; a call is refused as
--- it is asked, or an unanswered call is, for a cause outside of the machine; a fault comes that no session sees; a
--- crash leaves the set of a number; nothing is done.
+-- The steps: a session asks, and gets a reply at once or has its call open; a session is answered; a commit is sealed
+-- under a number; commits up to a number are durable; an open call is closed unanswered; a call is refused as it is
+-- asked, or an unanswered call is, for a cause outside of the machine; a fault comes that no session sees; a crash
+-- leaves the set of a number; nothing is done.
 pub data Step (B : Type 0) : Type 0 where
   Asks : (s : ℕ) (call : Call B) (given : Asked B) → Step B
   Answers : (s : ℕ) (reply : Reply B) → Step B
@@ -27,7 +27,7 @@ pub data Step (B : Type 0) : Type 0 where
   Crashes : (number : ℕ) → Step B
   Nothing : Step B
 
--- an open call may be closed for this reason: pages or memory lack
+-- an open call may be closed for this reason: no page or no memory is left
 abbrev pub may_close : Refusal → Bool
 may_close refusal.PagesFull = true
 may_close refusal.Memory = true

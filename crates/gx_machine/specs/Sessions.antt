@@ -120,7 +120,7 @@ lock_for k call least spent locks = unless_busy least (with_lock k call spent lo
 abbrev pub refused : {B : Type 0} → Refusal → Session B → Asked B × Session B
 refused why session = (asked.Now (reply.Refused why), session)
 
--- a call in a transaction, which has its lock or lacks it for a reason
+-- a call in a transaction, which gets its lock or is refused it for a reason
 abbrev pub asked_with : {B : Type 0} → Call B → Result (Locks B) Refusal → Locks B → Changes B → Asked B × Session B
 asked_with call (Ok locks) old changes = (asked.Open, Open locks changes (Some call))
 asked_with call (Err why) old changes = refused why (Open old changes None)
@@ -153,7 +153,7 @@ ask_session k call least spent (Committing number) = refused CallOpen (Committin
 
 -- Answering, where latest is the last committed set: an answer knows a transaction's changes, and none of its locks.
 
--- an insert adds its entry where the view lacks it
+-- an insert adds its entry where the view doesn't have it
 abbrev pub answer_insert : {B : Type 0} → Keys B → Entry B → List (Entry B) → Changes B → Reply B × Changes B
 answer_insert k e latest changes =
     if has k e (view k latest changes) then (reply.Refused Present, changes)

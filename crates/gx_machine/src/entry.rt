@@ -5,7 +5,7 @@ use gx_geom::Shape;
 use std::cmp::Ordering;
 use std::marker::Model;
 
-/// A row and the key that it has. One row may have several keys, each an entry of its own.
+/// A row and a key. One row may have several keys; each is a separate entry.
 #[derive(Clone, Copy, Debug, PartialEq, Eq, PartialOrd, Ord)]
 pub struct Entry<B> {
     /// The row's number.

@@ -1,5 +1,5 @@
-//! The set machine: calls and replies, and what a run of them is; and what both indexes' tables of locks stand on:
-//! entries in order, matching, and the least session that conflicts.
+//! The set machine: calls and replies, and what a run of them is; and what both indexes' tables of locks use: entries
+//! in order, matching, and the least session that conflicts.
 //!
 //! The definitions in `specs/` say which reply each call gets. They know sets of entries and what each
 //! session holds, and no tree, page, log or device.

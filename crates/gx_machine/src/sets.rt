@@ -31,7 +31,7 @@ fn compare<B: Shape>(a: &Entry<B>, b: &Entry<B>) -> Ordering
     a.cmp(b)
 }
 
-/// Where the entry stands in a set in order, or the place where it goes, searched by halves.
+/// The place of the entry in a set in order, or else the place where it would go, searched by halves.
 pub fn find<B: Shape>(e: &Entry<B>, set: &[Entry<B>]) -> Result<usize, usize>
     requires { InOrder (keys_of B.Shape) set.now }
     ensures { IsSearched (keys_of B.Shape) e.now set.now result }
@@ -50,7 +50,7 @@ pub fn has_in_order<B: Shape>(e: &Entry<B>, set: &[Entry<B>]) -> bool
     }
 }
 
-/// Where the entry goes in the set, or nothing where it is there.
+/// The place where the entry would go in the set, or `None` if the set has it.
 fn place<B: Shape>(e: &Entry<B>, set: &[Entry<B>]) -> Option<usize>
     ensures within { MatchOption result ⊤ (λ i. i ≤ length set.now) }
     ensures place { MatchOption result
@@ -67,8 +67,8 @@ fn place<B: Shape>(e: &Entry<B>, set: &[Entry<B>]) -> Option<usize>
     Some(set.len())
 }
 
-/// Puts the entry in its place, unless it is there. An `Err` changes nothing, and comes only where the vector is full
-/// and lacks the entry.
+/// Puts the entry in its place, unless the set has it. An `Err` changes nothing, and comes only where the vector is
+/// full and doesn't have the entry.
 pub fn include<B: Shape>(e: Entry<B>, set: &mut Vec<Entry<B>>) -> Result<(), AllocError>
     ensures ok { OnOk result (set.new.items ≡ including (keys_of B.Shape) e set.old.items) }
     ensures err { OnErr result (set.new.items ≡ set.old.items) }

@@ -32,8 +32,8 @@ pub record CameFrom {B : Type 0} (t : Tree B) (parent page : ℕ) : Type 0 where
 abbrev pub IsPlace : {B : Type 0} → Tree B → DescentPlace → Type 0
 IsPlace t place = (place.item.page ≡ 1) ⊎ CameFrom t place.parent place.item.page
 
--- an insert at work: the tree is legal, its keys are the class's, the pair stands nowhere, and the way to its leaf goes on
--- from this place
+-- an insert at work: the tree is legal, its keys are the class's, it doesn't have the pair, and the way to its leaf
+-- goes on from this place
 pub record IsInsert {B : Type 0} (r : Rules B) (IsKey : B → Type 0) (t : Tree B) (entry : Entry B) (place : DescentPlace) : Type 0 where
   pub legal : Legal r t
   pub keys : AreKeys IsKey t
@@ -45,7 +45,7 @@ pub record IsInsert {B : Type 0} (r : Rules B) (IsKey : B → Type 0) (t : Tree 
 abbrev pub from_top : {B : Type 0} → Tree B → DescentPlace
 from_top t = record { item = from_root t; parent = 0 }
 
--- what an insert that runs alone has left, since pages are numbered up to this one, and nobody claims a pair
+-- what an insert that runs alone has left, since pages are numbered up to this one, and no session claims a pair
 abbrev pub insert_left : {B : Type 0} → Rules B → Tree B → DescentPlace → ℕ
 insert_left r t place = descent_left r t (2 ^ 32 - 1) (λ x. false) place.parent place.item
 

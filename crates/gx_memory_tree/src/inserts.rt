@@ -111,9 +111,9 @@ fn make_room<K: KeyClass, P: PagesMut<K>>(
     Ok(DescentPlace::top(pages))
 }
 
-/// Makes a step of an insert of a live pair that stands nowhere: goes down by the child of least penalty, whose bound
-/// it widens first where that is needed; makes room where a node is full; adds the pair at a leaf that has room. The
-/// place where the insert goes on, or `None` once the pair was added.
+/// Makes a step of an insert of a live pair that the tree doesn't have: goes down by the child of least penalty, whose
+/// bound it widens first where that is needed; makes room where a node is full; adds the pair at a leaf that has room.
+/// Returns the place where the insert goes on, or `None` once the pair was added.
 ///
 /// Refused with `Pages` where a page could not be brought or made ready, with `PagesFull` only where fewer than two
 /// pages are left, and with `Damaged` only where the root has the level 65535. Nothing has changed then. Keys of a
@@ -164,9 +164,9 @@ pub fn insert_step<K: KeyClass, P: PagesMut<K>>(
     }
 }
 
-/// Inserts a live pair that stands nowhere in the tree, marked or not, with no steps of others in between, where a
-/// node has at most `most` entries: goes down to a leaf (Guttman 1984), and splits full nodes on the way (Kornacker,
-/// Mohan, Hellerstein 1997). Where a leaf is full its marked pairs go first, since nobody claims them.
+/// Inserts a live pair that the tree doesn't have, marked or not, with no steps of others in between, where a node has
+/// at most `most` entries: goes down to a leaf (Guttman 1984), and splits full nodes on the way (Kornacker, Mohan,
+/// Hellerstein 1997). Where a leaf is full its marked pairs go first, since no session claims them.
 ///
 /// Refused with `Pages` where a page could not be brought or made ready, with `PagesFull` only where fewer than two
 /// pages are left, and with `Damaged` only where the root has the level 65535. The pair isn't there then, and the

@@ -6,7 +6,7 @@ use Rattle.gx_node.specs.Lists.{Each}
 use Rattle.gx_node.specs.Trees.{Tree, Rules, Used}
 use Rattle.gx_node.specs.Steps.{Step, Splits, SplitsRoot, Widens, Adds, Marks, Sweeps}
 
--- what the tree's laws are told of the keys of a type, from what its trait says of them, with so many entries a node
+-- what the tree's laws know of the keys of a type, by its trait, with so many entries a node
 abbrev pub rules_of : {B : Type 0} → Members B → ℕ → Rules B
 rules_of shape most = record { covers = λ a b. shape.inside b a; same = λ a b. is_eq (shape.cmp a b); most = most }
 

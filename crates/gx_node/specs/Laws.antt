@@ -10,11 +10,11 @@ use Rattle.gx_node.specs.Edits.{marked_as, bounded_by}
 use Rattle.gx_node.specs.Entries.{HoldsPairs, HoldsChildren}
 use Rattle.gx_node.specs.Reading.{Format, is_leaf, is_inner, leaf_of, inner_of}
 
--- what is read of a leaf stands on it
+-- what is read of a leaf is on it
 abbrev pub LeavesHold : {B : Type 0} → (B → Type 0) → (B → List ℕ) → Format B → Type 0
 LeavesHold IsKey spelling f = (page : Contents) → IsWellFormed page → is_leaf f page ≡ true → HoldsPairs IsKey spelling page (leaf_of f page).pairs
 
--- a page on which pairs stand is a leaf, and they are what is read of it
+-- a page with pairs is a leaf, and they are what is read of it
 abbrev pub HeldPairsAreRead : {B : Type 0} → (B → Type 0) → (B → List ℕ) → Format B → Type 0
 HeldPairsAreRead {B} IsKey spelling f = (page : Contents) (pairs : List (Pair B)) → HoldsPairs IsKey spelling page pairs
     → (is_leaf f page ≡ true) × ((leaf_of f page).pairs ≡ pairs)
@@ -36,7 +36,7 @@ BlanksAreNodes f = ((number : ℕ) → is_leaf f (blank 0 number) ≡ true) × (
 abbrev pub relinked : Contents → (nsn right number : ℕ) → Contents
 relinked page nsn right number = record page { nsn = nsn; right = right; number = number }
 
--- it is the same node but for the two
+-- it is the same node except for these two
 pub record FollowsLinks {B : Type 0} (f : Format B) (page : Contents) (nsn right number used : ℕ) : Type 0 where
   pub leaf : is_leaf f (relinked page nsn right number) ≡ is_leaf f page
   pub leaf_node : leaf_of f (relinked page nsn right number) ≡ node_with (leaf_of f page) nsn right (leaf_of f page).pairs (leaf_of f page).children

@@ -37,7 +37,7 @@ pub record Legal {K : Type 0} (r : Rules K) (t : Tree K) : Type 0 where
   -- the chain from page 2 is all leaves, each once
   pub chain : Linked t 2 (leaves t)
   pub once : (q : ℕ) → Used t q → (t.node q).level ≡ 0 → times q (leaves t) ≡ 1
-  -- no pair stands twice
+  -- no pair is there twice
   pub single : (row : ℕ) (key : K) → standing (is_entry r row key) t ≤ 1
   -- each split took a page
   pub counter : t.counter + 2 ≤ t.used

@@ -9,8 +9,8 @@ pub record ItemFits {K : Type 0} (t : Tree K) (item : TraversalItem) : Type 0 wh
   pub seen : item.seen ≤ t.counter
   pub run : Run t item.seen item.page (run t t.used item.seen item.page)
 
--- Of the pairs that are wanted, of which some are found: whatever the test, as many of those that are found and of
--- those that lie ahead pass it as of those that stand in the tree. And no page lies ahead twice.
+-- Of the wanted pairs some are found: for any test, as many of those found and of those ahead pass it as of those that
+-- stand in the tree. And no page is ahead twice.
 pub record IsLook {K : Type 0} (t : Tree K) (wants : Pair K → Bool) (stack : List TraversalItem) (found : List (Pair K)) : Type 0 where
   pub items : Each (ItemFits t) stack
   pub complete : (test : Pair K → Bool) → how_many test found + pairs_ahead t (λ x. wants x && test x) stack
@@ -22,7 +22,7 @@ abbrev pub from_root : {K : Type 0} → Tree K → TraversalItem
 from_root t = record { page = 1; seen = t.counter }
 
 -- what a look stacks once it has read a page: its rightlink, if it was split since, and the entries that may lead to
--- something wanted, remembered with the counter as it is now
+-- something wanted, remembered with the counter of now
 abbrev pub beyond_of : {K : Type 0} → Tree K → TraversalItem → List TraversalItem
 beyond_of t item =
     if nat_lt item.seen (t.node item.page).nsn then record { page = (t.node item.page).right; seen = item.seen } ∷ [] else []

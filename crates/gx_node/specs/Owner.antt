@@ -12,7 +12,7 @@ use Rattle.gx_node.specs.declared.fault.SplitFault.TheVariants as split
 abbrev pub KeepsSince : {P : Type 0} → (P → P → ℕ → Type 0) → P → P → Type 0
 KeepsSince {P} since old new = (was : P) (q : ℕ) → since was old q → since was new q
 
--- the same, but for one page
+-- the same, except for one page
 abbrev pub KeepsSinceBut : {P : Type 0} → (P → P → ℕ → Type 0) → ℕ → P → P → Type 0
 KeepsSinceBut {P} since page old new = (was : P) (q : ℕ) → q ≢ page → since was old q → since was new q
 

@@ -6,8 +6,8 @@ use Rattle.gx_page.specs.Bytes.{number_32_at, number_64_at}
 use Rattle.gx_page.specs.Contents.{Contents}
 use Rattle.gx_node.specs.Trees.{Pair, Child, Node}
 
--- what the reading of entries is told of a class: how many bytes a key is written in, which key bytes spell, and a key
--- that stands for those that spell none
+-- what the reading of entries knows of a class: how many bytes a key is written in, which key bytes spell, and a key
+-- for bytes that spell none
 pub record Format (B : Type 0) : Type 0 where
   pub key : ℕ
   pub reading : List ℕ → Option B

@@ -1,4 +1,4 @@
--- What the code hands out, as the entries that it stands for.
+-- What the code returns, as the entries that it means.
 use Rattle.std.specs.Prelude.{ℕ, Bool}
 use Rattle.gx_machine.specs.declared.entry.Entry.{Entry}
 use Rattle.gx_node.specs.Trees.{Pair, Child}

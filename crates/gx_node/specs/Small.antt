@@ -61,7 +61,7 @@ are_bounds f items = list_all (is_bound f) items
 abbrev pub bound_fits : {B : Type 0} → Format B → ℕ → List ℕ → Contents → Bool
 bound_fits f slot key page = not (page.level == 0) && (are_bounds f page.items && (nat_lt slot (length page.items) && is_some (f.reading key)))
 
--- the item with this key in place of its own
+-- the item with this key instead of its own
 abbrev pub item_bounded : {B : Type 0} → Format B → List ℕ → List ℕ → List ℕ
 item_bounded f key item = key ++ drop f.key item
 

@@ -9,7 +9,7 @@ pub record IsUnion {K : Type 0} (r : Rules K) (key : K) (node : Node K) : Type 0
   pub covers : Bounds r key node
   pub least : (b : K) → Bounds r b node → r.covers b key ≡ true
 
--- the entry that names this page gets this key in place of its own
+-- the entry that names this page gets this key instead of its own
 abbrev pub with_key : {K : Type 0} → ℕ → K → List (Child K) → List (Child K)
 with_key n key children = map (λ c. if c.page == n then record { key = key; page = c.page } else c) children
 
@@ -99,11 +99,11 @@ pub record IsMarking {K : Type 0} (r : Rules K) (old new : Tree K) (a row : ℕ)
   pub leaf : (old.node a).level ≡ 0
   pub changes : ChangesOnly old new a (with_mark r row key mark (old.node a).pairs) (old.node a).children
 
--- a sweep spares what isn't marked, and what somebody claims
+-- a sweep spares what isn't marked, and what a session claims
 abbrev pub spares : {K : Type 0} → (Pair K → Bool) → Pair K → Bool
 spares claimed x = not x.marked || claimed x
 
--- the marked pairs of a leaf that nobody claims go
+-- the marked pairs of a leaf that no session claims are removed
 pub record IsSweep {K : Type 0} (old new : Tree K) (a : ℕ) (claimed : Pair K → Bool) : Type 0 where
   pub leaf : (old.node a).level ≡ 0
   pub changes : ChangesOnly old new a (filter (spares claimed) (old.node a).pairs) (old.node a).children

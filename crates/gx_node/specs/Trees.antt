@@ -27,8 +27,8 @@ pub record Tree (K : Type 0) : Type 0 where
   pub used : ℕ
   pub counter : ℕ
 
--- what a tree is told of its keys: whether the first covers the second, whether two are the same;
--- and how many entries a node may have
+-- what a tree knows of its keys: whether the first covers the second, whether two are the same; and how many entries a
+-- node may have
 pub record Rules (K : Type 0) : Type 0 where
   pub covers : K → K → Bool
   pub same : K → K → Bool
@@ -53,7 +53,7 @@ size node = length node.pairs + length node.children
 abbrev pub child_pages : {K : Type 0} → Node K → List ℕ
 child_pages node = map (λ c. c.page) node.children
 
--- how often this page stands in a list of pages
+-- how often a list of pages has this page
 abbrev pub times : ℕ → List ℕ → ℕ
 times q pages = how_many (λ x. x == q) pages
 

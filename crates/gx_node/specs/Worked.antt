@@ -60,8 +60,8 @@ dead row key = record { row = row; key = key; marked = true }
 abbrev pub entry : Box → ℕ → Child Box
 entry key page = record { key = key; page = page }
 
--- Four boxes stand one above another on the right, one at the origin. A search for what overlaps the box from the origin to 5 5
--- has read the root; then others add, and split the leaf under it twice.
+-- Four boxes are one above another on the right, one is at the origin. A search for what overlaps the box from the
+-- origin to 5 5 has read the root; then others add, and split the leaf under it twice.
 
 abbrev pub held : Tree Box
 held = tree_of (inner 1 0 (entry (box 0 0 101 5) 2 ∷ []) ∷ leaf 0 0 (live 1 (box 100 4 101 5) ∷ live 2 (box 0 0 1 1) ∷ []) ∷ []) 0

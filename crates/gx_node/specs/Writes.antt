@@ -11,7 +11,7 @@ pub record IsDescent {K : Type 0} (r : Rules K) (t : Tree K) (item : TraversalIt
   pub seen : item.seen ≤ t.counter
   pub covered : (t.node item.page).nsn ≤ item.seen → EntriesCover r t item.page coming
 
--- the pair of this row and key stands in leaf a, or to the right of it
+-- the pair of this row and key is in leaf a, or to the right of it
 pub record IsSeek {K : Type 0} (r : Rules K) (t : Tree K) (a row : ℕ) (key : K) : Type 0 where
   pub chain : Linked t a (walk t t.used a)
   pub stands : 0 < passing (is_entry r row key) t (walk t t.used a)
@@ -20,7 +20,7 @@ pub record IsSeek {K : Type 0} (r : Rules K) (t : Tree K) (a row : ℕ) (key : K
 abbrev pub leaves_left : {K : Type 0} → Tree K → ℕ → ℕ
 leaves_left t a = length (walk t t.used a)
 
--- a pair that a sweep would take: marked, and claimed by nobody
+-- a pair that a sweep would remove: marked, and claimed by no session
 abbrev pub is_sweepable : {K : Type 0} → (Pair K → Bool) → Pair K → Bool
 is_sweepable claimed x = x.marked && not (claimed x)
 

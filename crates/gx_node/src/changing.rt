@@ -1,4 +1,4 @@
-//! What the steps that write ask of whoever keeps the pages.
+//! What the steps that write ask of the store of pages.
 ghost use Rattle.std.specs.Prelude.{◌≡◌, ◌≤◌, ◌<◌, ◌+◌, ◌-◌, ◌^◌, suc, ℕ, true, [], ◌∷◌, length, IfErr, OnOk};
 ghost use Rattle.gx_node.specs.Reading.{format_of, is_node};
 ghost use Rattle.gx_node.specs.Lists.{Each};
@@ -69,8 +69,8 @@ pub trait PagesMut<K: KeyClass>: Pages<K> {
         ensures since { KeepsSinceBut Self.since page self.old self.new }
         ensures asked { Asks Self.asked [] self.old self.new };
 
-    /// Takes the next page: a copy of one that is held, but for the page's own number. It is held and may be changed.
-    /// No other page changes, on a device that lies too.
+    /// Takes the next page: a copy of one that is held, except for the page's own number. It is held and may be
+    /// changed. No other page changes, also on a device that lies.
     fn take(&mut self, from: u32)
         requires held { Self.held self.old from }
         requires ready { 0 < ready self.old }

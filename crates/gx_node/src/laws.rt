@@ -10,13 +10,13 @@ ghost use Rattle.gx_node.specs.Laws.{BlanksAreNodes, NodesFollowLinks, MoreAreTa
 
 use gx_class::KeyClass;
 
-/// A page is a leaf exactly where pairs stand on it, which are those that are read, and no others.
+/// A page is a leaf exactly where it has pairs, which are those that are read, and no others.
 pub fn leaves<K: KeyClass>()
     ensures hold { LeavesHold K.is_key K.spelling (format_of K.KeyClass) }
     ensures read { HeldPairsAreRead K.is_key K.spelling (format_of K.KeyClass) }
 {}
 
-/// A page is an inner node exactly where children stand on it, which are those that are read, and no others.
+/// A page is an inner node exactly where it has children, which are those that are read, and no others.
 pub fn inners<K: KeyClass>()
     ensures hold { InnersHold K.is_key K.spelling (format_of K.KeyClass) }
     ensures read { HeldChildrenAreRead K.is_key K.spelling (format_of K.KeyClass) }

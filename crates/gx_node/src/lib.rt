@@ -1,5 +1,5 @@
 //! The laws of the tree; its nodes, read and written in place on their pages, and the scan of their keys; and what the
-//! steps of the tree ask of whoever keeps its pages.
+//! steps of the tree ask of the store of its pages.
 //!
 //! What a tree of pages is, when it is legal, what each step changes, and what a search or a write that is at work may
 //! rely on while others work, functions with empty bodies say, whose contracts are the laws (`tree_laws`, `alike`).

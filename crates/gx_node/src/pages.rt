@@ -1,4 +1,4 @@
-//! What the steps ask of whoever keeps the pages.
+//! What the steps ask of the store of pages.
 ghost use Rattle.std.specs.Prelude.{◌≡◌, ◌≤◌, ℕ, true, List, [], ◌∷◌, length, IfErr, OnOk};
 ghost use Rattle.gx_node.specs.Reading.{format_of, is_node};
 ghost use Rattle.gx_node.specs.Lists.{Each};
@@ -22,11 +22,11 @@ pub trait Pages<K: KeyClass> {
     /// Whether a page is held.
     ghost held: { Self → ℕ → Type 0 };
 
-    /// What is read of a page is what stands there, so that bringing it changes nothing.
+    /// Reading a page gives what the store shows of it, so that bringing it changes nothing.
     ghost steady: { Self → Type 0 };
 
-    /// Since a moment a page, and all that is no page, has only gone on: a step keeps it for each page that it doesn't
-    /// change, so whoever keeps pages learns here what a step leaves of all else.
+    /// What became of a page, and of all that is no page, since a moment. A step keeps it for each page that it doesn't
+    /// change, so the layer above learns what a step left alone.
     ghost since: { Self → Self → ℕ → Type 0 };
 
     /// What was asked since a moment, the last first.

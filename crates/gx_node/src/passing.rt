@@ -24,7 +24,7 @@ impl Model for Passing {
     ghost invariant = { λ p. p.count ≤ BLOCK };
 }
 
-/// Writes a slot at a place, and answers the next place where it passes, or else this one again. The place is a value
+/// Writes a slot at a place, and returns the next place where it passes, or else this one again. The place is a value
 /// of the caller's, so that it stays in a register.
 pub(crate) fn offer(slots: &mut [u16; BLOCK], place: usize, slot: u16, passes: bool) -> usize
     requires { place < BLOCK }

@@ -115,7 +115,7 @@ fn are_bounds<K: KeyClass>(page: &Page) -> bool
     true
 }
 
-/// Writes a key's bytes over `out`, and behind them an item's that stand behind its own key.
+/// Writes a key's bytes over `out`, and behind them those of an item that follow its own key.
 fn write_bound<K: KeyClass>(key: &[u8], item: &[u8], out: &mut [u8])
     requires key { length key.now ≡ K.KEY }
     requires item { length item.now ≡ K.KEY + 4 }

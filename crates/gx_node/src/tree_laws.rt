@@ -12,7 +12,7 @@ ghost use Rattle.gx_node.specs.Looks.{ItemFits, IsLook, from_root, stacked, foun
 ghost use Rattle.gx_node.specs.Writes.{IsDescent, IsSeek, leaves_left, is_sweepable, must_restart, descent_left};
 ghost use Rattle.gx_node.specs.Rightlinks.{GoesOn};
 
-/// A fresh tree is legal, and no pair stands in it.
+/// A fresh tree is legal, and has no pair.
 pub fn fresh_tree_is_legal<K>()
     ensures legal { (r : Rules K) → IsLawful r → (start : K) → Legal r (fresh_tree start) }
     ensures empty { (start : K) (test : Pair K → Bool) → standing test (fresh_tree start) ≡ 0 }
@@ -75,7 +75,8 @@ pub fn adding_adds_one_pair<K>()
         → (test : Pair K → Bool) → standing test new ≡ standing test old + one_if (test x) }
 {}
 
-/// Setting a mark keeps a tree legal, and changes that one mark: the pair goes as it was, and comes as it is.
+/// Setting a mark keeps a tree legal, and changes that one mark: the pair with its old mark goes, and the one with its
+/// new mark comes.
 pub fn marking_sets_one_mark<K>()
     ensures legal { (r : Rules K) (old new : Tree K) (a row : ℕ) (key : K) (mark : Bool)
         → Legal r old → IsMarking r old new a row key mark → Legal r new }
@@ -87,7 +88,7 @@ pub fn marking_sets_one_mark<K>()
         ≡ standing test old + one_if (test (record { row = y.row; key = y.key; marked = mark })) }
 {}
 
-/// A sweep keeps a tree legal, and takes from the leaf the marked pairs that nobody claims, and nothing else.
+/// A sweep keeps a tree legal, and removes from the leaf the marked pairs that no session claims, and nothing else.
 pub fn sweep_takes_unclaimed_marked_pairs<K>()
     ensures legal { (r : Rules K) (old new : Tree K) (a : ℕ) (claimed : Pair K → Bool)
         → Legal r old → IsSweep old new a claimed → Legal r new }
@@ -125,8 +126,8 @@ pub fn look_goes_on<K>()
         → IsLook t wants (item ∷ stack) found → Used t item.page }
 {}
 
-/// A look with nothing stacked has found exactly what is wanted and stands: as many of what it found pass any test as
-/// of what is wanted and stands. So it found each pair once.
+/// A look with nothing stacked has found exactly the wanted pairs that stand: for any test, as many of its pairs pass
+/// it as of those. So it found each pair once.
 pub fn look_ends_with_all_that_is_wanted<K>()
     ensures all { (t : Tree K) (wants : Pair K → Bool) (found : List (Pair K)) → IsLook t wants [] found
         → (test : Pair K → Bool) → how_many test found ≡ standing (λ x. wants x && test x) t }
@@ -135,8 +136,8 @@ pub fn look_ends_with_all_that_is_wanted<K>()
         → (row : ℕ) (key : K) → how_many (is_entry r row key) found ≤ 1 }
 {}
 
-/// While a look is at work, what is wanted, stands and isn't found lies in the reach of an item of its stack: in a leaf
-/// under a page that is near the item (Lehman, Yao 1981; Kornacker, Mohan, Hellerstein 1997).
+/// While a look is at work, each wanted pair that stands and isn't found is in the reach of an item of its stack: in a
+/// leaf under a page that is near the item (Lehman, Yao 1981; Kornacker, Mohan, Hellerstein 1997).
 pub fn what_is_not_found_is_in_reach<K>()
     ensures { (t : Tree K) (wants test : Pair K → Bool) (stack : List TraversalItem) (found : List (Pair K))
         → IsLook t wants stack found → how_many test found < standing (λ x. wants x && test x) t
@@ -159,9 +160,9 @@ pub fn steps_of_others_keep_what_is_at_work<K>()
 {}
 
 /// While a search runs, rightlinks go on, those of inner nodes too: a page that was split since it began has a
-/// rightlink to a taken page of its own level, which isn't the root, and the root itself is no such page. It is so at
-/// the beginning, where no number is above the counter, and steps of others,
-/// in any order and number, keep it (Lehman, Yao 1981).
+/// rightlink to a taken page of its own level, which isn't the root, and the root itself is no such page. That holds at
+/// the beginning, where no number is above the counter, and steps of others, in any order and number, keep it (Lehman,
+/// Yao 1981).
 pub fn rightlinks_go_on<K>()
     ensures begins { (r : Rules K) (t : Tree K) → Legal r t → GoesOn t t.counter }
     ensures one { (r : Rules K) → IsLawful r → (floor : ℕ) (old new : Tree K) (step : Step K)
@@ -230,8 +231,8 @@ pub fn descent_comes_to_an_end<K>()
         → descent_left r t room claimed parent item < 2 ^ 40 }
 {}
 
-/// A seek begins with a leaf in which the pair stands. It is always at a leaf; where the pair isn't there, it goes on
-/// with the leaf's rightlink, and has fewer leaves left. It has no more of them than pages are taken.
+/// A seek begins with a leaf that has the pair. It is always at a leaf; where that doesn't have the pair, it goes on
+/// with the leaf's rightlink, and has fewer leaves left. It never has more of them left than pages are in use.
 pub fn seek_goes_right<K>()
     ensures begins { (r : Rules K) (a row : ℕ) (key : K) (t : Tree K) → Legal r t → Used t a → (t.node a).level ≡ 0
         → 0 < how_many (is_entry r row key) (t.node a).pairs → IsSeek r t a row key }
@@ -250,7 +251,7 @@ pub fn marking_keeps_each_seek<K>()
         → IsMarking r old new b marked_row marked_key mark → IsSeek r old a row key → IsSeek r new a row key }
 {}
 
-/// What is sought stands in a legal tree: one pair of that row and key, and no other.
+/// A legal tree has what is sought: one pair of that row and key, and no other.
 pub fn a_sought_pair_stands<K>()
     ensures { (r : Rules K) (a row : ℕ) (key : K) (t : Tree K) → Legal r t → IsSeek r t a row key
         → standing (is_entry r row key) t ≡ 1 }

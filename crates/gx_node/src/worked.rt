@@ -1,5 +1,5 @@
-//! The laws at work on trees that were worked out by hand, so that none holds for want of a case: each kind of step is
-//! taken on one of them, and trees that aren't legal are told from those that are.
+//! The laws at work on trees that were worked out by hand, so that none holds only because it has no case: each kind of
+//! step is taken on one of them, and there are trees that are legal and trees that aren't.
 ghost use Rattle.std.specs.Prelude.{◌≡◌, ◌∷◌, [], true, false};
 ghost use Rattle.gx_node.specs.Trees.{IsLawful, leaves};
 ghost use Rattle.gx_node.specs.Legal.{Legal};
@@ -16,7 +16,7 @@ pub fn boxes_are_lawful()
     ensures { IsLawful boxes }
 {}
 
-/// These trees are legal; the leaves stand on the chain in the order of the boxes' splits.
+/// These trees are legal; the leaves are on the chain in the order of the boxes' splits.
 pub fn worked_trees_are_legal()
     ensures held { Legal boxes held }
     ensures held_end { Legal boxes held_end }
@@ -50,8 +50,8 @@ pub fn worked_search_moves_right()
     ensures leads { LeadsTo boxes held_end wanted_near_origin near_origin }
 {}
 
-/// A search that begins once a leaf is split remembers both halves with the counter as it is now, and doesn't move
-/// right from the first: it reads each half once.
+/// A search that begins once a leaf is split remembers both halves with the counter of now, and doesn't move right from
+/// the first: it reads each half once.
 pub fn worked_search_reads_each_leaf_once()
     ensures children { stacked held_split (λ b. true) (from_root held_split) []
         ≡ record { page = 2; seen = 1 } ∷ record { page = 3; seen = 1 } ∷ [] }
@@ -69,7 +69,7 @@ pub fn worked_descent_begins_again()
     ensures left_before { descent_left boxes held_split 16 (λ x. false) 1 (record { page = 2; seen = 0 }) ≡ 223 }
 {}
 
-/// The box at the origin is sought from page 2, where it was, and stands two leaves to the right.
+/// The box at the origin is sought from page 2, where it was, and is found two leaves to the right.
 pub fn worked_seek_goes_right()
     ensures seek { IsSeek boxes held_end 2 2 (box 0 0 1 1) }
     ensures leaves { leaves_left held_end 2 ≡ 3 }

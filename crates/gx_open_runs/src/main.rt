@@ -1,7 +1,7 @@
 //! Scripts on a device in memory that fails at one of its calls. It is then opened again, and is to have the set and
 //! the number of as many commits as the plain index has behind one of the script's, none before the last that was
-//! acknowledged. Up to the call that fails the script is answered as by the plain index; that call is told once, and
-//! all that is asked behind it is refused.
+//! acknowledged. Up to the call that fails the script is answered as by the plain index; that call's failure is
+//! reported once, and all that is asked behind it is refused.
 //!
 //! A line of `stdin` that begins with a digit is one of the script. `new` begins another script. The others make runs:
 //!
@@ -20,8 +20,8 @@
 //! - `replies FRAMES LINE`: it stops at the first of these calls. What the script is answered is printed.
 //!
 //! Runs are counted: all, those of which no call failed, and those behind which the last commit that was acknowledged
-//! was found, and a later one. An empty line, and one that begins with `#`, is printed as it stands. The program ends
-//! at the first difference, with status 1.
+//! was found, and a later one. An empty line, and one that begins with `#`, is printed unchanged. The program ends at
+//! the first difference, with status 1.
 #![tactic(auto)]
 
 mod again;

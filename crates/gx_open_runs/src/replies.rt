@@ -33,7 +33,7 @@ pub(crate) fn replies_of(alloc: Global, script: &[u8]) -> Result<Vec<Vec<u8>>, R
     Ok(all)
 }
 
-// What stands behind a front of a text. `None` where that isn't its front.
+// What follows a front of a text. `None` where that isn't its front.
 fn behind<'a>(text: &'a [u8], front: &[u8]) -> Option<&'a [u8]> {
     if text.starts_with(front) {
         text.get(front.len()..)
@@ -42,7 +42,7 @@ fn behind<'a>(text: &'a [u8], front: &[u8]) -> Option<&'a [u8]> {
     }
 }
 
-// What stands behind the refusal of a line, whose session has one digit.
+// What follows the refusal of a line, whose session has one digit.
 fn behind_refusal<'a>(text: &'a [u8], line: &[u8], refusal: &[u8]) -> Option<&'a [u8]> {
     let session = line.get(..1)?;
     behind(behind(text, session)?, refusal)
@@ -103,7 +103,7 @@ pub(crate) fn how_answered(script: &[u8], replies: &[Vec<u8>], text: &[u8]) -> A
     }
 }
 
-/// Whether a run ended as it may: the call that failed is told once, and all that is asked behind it is refused.
+/// Whether a run ended as it may: the failed call is reported once, and all that is asked behind it is refused.
 pub(crate) fn is_told(script: &[u8], replies: &[Vec<u8>], ran: &Ran) -> bool {
     match ran.end {
         End::NotOpened(why) => why == Refusal::Device && ran.replies.is_empty(),

@@ -1,4 +1,4 @@
-//! An opening that stops at each of its writes and syncs, and the next one too: what stands stays.
+//! An opening that stops at each of its writes and syncs, and the next one too: the set stays.
 use crate::again::{copy_of, stands};
 use crate::fault::RunFault;
 use crate::listing::DeviceCall;

@@ -4,7 +4,7 @@ use Rattle.gx_disk.specs.Device.{Device}
 use Rattle.gx_geom.specs.declared.refusal.Refusal.{Refusal}
 use Rattle.gx_geom.specs.declared.refusal.Refusal.TheVariants as refusal
 use Rattle.gx_found_log.specs.Found.{FaultsTold}
-use Rattle.gx_legality.specs.Owner.{IsWhy}
+use Rattle.gx_legality.specs.Owner.{IsWhyBehind}
 use Rattle.gx_legality.specs.declared.fault.LegalityFault.{LegalityFault}
 use Rattle.gx_legality.specs.declared.fault.LegalityFault.TheVariants as fault
 use Rattle.gx_page.specs.Contents.{Contents}
@@ -17,8 +17,8 @@ use Rattle.gx_opening.specs.Standing.{told_with}
 
 -- a test of pages that is refused by the device's fault tells of a call that failed
 pub device_told : {D : Type 0} (passes : ℕ → Contents → Bool) (d e : Device) (old new : Shelf D) (why : LegalityFault StoreFault) → why ≡ fault.Pages store_fault.Device
-    → IsWhy (faults.IsWhy passes d e old new) why → d.faults < e.faults
-device_told passes d e old new why is told = subst (λ (x : LegalityFault StoreFault). IsWhy (faults.IsWhy passes d e old new) x) is told
+    → IsWhyBehind old new (faults.IsWhy passes d e old new) why → d.faults < e.faults
+device_told passes d e old new why is told = subst (λ (x : LegalityFault StoreFault). IsWhyBehind old new (faults.IsWhy passes d e old new) x) is told
 
 module _ {T : Type 0} where
   -- nothing failed

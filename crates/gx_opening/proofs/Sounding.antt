@@ -13,7 +13,7 @@ use Rattle.gx_pool.specs.Bringing.{HasImage}
 use Rattle.gx_pool.specs.State.{Kept, kept, stamp_of}
 use Rattle.gx_node.specs.Reading.{Format}
 use Rattle.gx_recovery.specs.Records.{Touch}
-use Rattle.gx_legality.specs.Owner.{IsFound, IsWhy, WasHeld}
+use Rattle.gx_legality.specs.Owner.{IsFound, IsWhyBehind, WasHeld}
 use Rattle.gx_legality.specs.Gathered.{Ascends}
 use Rattle.gx_legality.specs.Placing.{BreaksOrLeavesOut, IsPlaced, IsOutOfPlace, noted}
 use Rattle.gx_legality.specs.Breaks.{Breaks}
@@ -73,7 +73,7 @@ can_be_read passes d s all = λ page low taken none. all page low (leb-true page
 
 module _ {D : Type 0} (breaks : ℕ → Rule → Type 0) (passes : ℕ → Contents → Bool) (d e : Device) (old new : Shelf D) where
   -- what is damage isn't legal, where pages can be read
-  pub damage_told : (P : Type 0) (why : LegalityFault StoreFault) → IsDamage why → IsWhy (faults.IsWhy passes d e old new) why → IsFound breaks why
+  pub damage_told : (P : Type 0) (why : LegalityFault StoreFault) → IsDamage why → IsWhyBehind old new (faults.IsWhy passes d e old new) why → IsFound breaks why
       → ((page : ℕ) (rule : Rule) → breaks page rule → P → ⊥) → IsSteady d old.frames → CanBeRead passes d old → P → ⊥
   damage_told P fault.Memory is told found never steady can so = is
   damage_told P (fault.Pages store_fault.NoRoom) is told found never steady can so = is

@@ -20,7 +20,7 @@ use Rattle.gx_recovery.specs.Known.{Known, IsLawful}
 use Rattle.gx_durable.specs.Spelled.{Reading}
 use Rattle.gx_opening.specs.Formatted.{OnlyRests, Says, Settles}
 use Rattle.gx_opening.specs.Laid.{HasFoundLog, IsKeptOrFound, IsLaid, LaysLog, StaysBehind}
-use Rattle.gx_opening.specs.Sound.{AreSound, IsCause, Tells}
+use Rattle.gx_opening.specs.Sound.{AreSound, IsCause, IsFaultOrDamage, Tells}
 use Rattle.gx_opening.specs.Standing.{IsFormatted, IsTested, IsUnlaid, MayStart, Stands, StaysSafe, known_for, reading, told_with}
 use Rattle.gx_opening.specs.Noting.{AreOfOthers}
 use Rattle.gx_opening.specs.declared.standing.Standing.{Standing}
@@ -71,27 +71,32 @@ module _ {E P : Type 0} (k : Known E P) (r : Reading E P) where
 
 -- ---- why a reading is refused
 
-pub told_cause : (T : Type 0) (before now : ℕ) (why : Refusal) → FaultsTold {T = T} before now (Err why) → IsCause why
-told_cause T before now refusal.Device is = inl refl
-told_cause T before now refusal.Memory is = inr (inl refl)
-told_cause T before now refusal.Damaged is = inr (inr refl)
-told_cause T before now (refusal.Busy n) is = absurd is
-told_cause T before now refusal.NoTransaction is = absurd is
-told_cause T before now refusal.InTransaction is = absurd is
-told_cause T before now refusal.Present is = absurd is
-told_cause T before now refusal.Absent is = absurd is
-told_cause T before now refusal.BadBox is = absurd is
-told_cause T before now refusal.PagesFull is = absurd is
-told_cause T before now refusal.ClaimsFull is = absurd is
-told_cause T before now refusal.PredicatesFull is = absurd is
-told_cause T before now refusal.Failed is = absurd is
-told_cause T before now refusal.NotFormatted is = absurd is
-told_cause T before now refusal.BadSession is = absurd is
-told_cause T before now refusal.CallOpen is = absurd is
-told_cause T before now refusal.TooSmall is = absurd is
-told_cause T before now refusal.BadParameter is = absurd is
-told_cause T before now refusal.NoCall is = absurd is
-told_cause T before now refusal.HistoryFull is = absurd is
+pub told_cause : (T : Type 0) (before now : ℕ) (why : Refusal) → (why ≡ refusal.Memory → ⊥) → FaultsTold {T = T} before now (Err why) → IsFaultOrDamage why
+told_cause T before now refusal.Device behind is = inl refl
+told_cause T before now refusal.Memory behind is = absurd (behind refl)
+told_cause T before now refusal.Damaged behind is = inr refl
+told_cause T before now (refusal.Busy n) behind is = absurd is
+told_cause T before now refusal.NoTransaction behind is = absurd is
+told_cause T before now refusal.InTransaction behind is = absurd is
+told_cause T before now refusal.Present behind is = absurd is
+told_cause T before now refusal.Absent behind is = absurd is
+told_cause T before now refusal.BadBox behind is = absurd is
+told_cause T before now refusal.PagesFull behind is = absurd is
+told_cause T before now refusal.ClaimsFull behind is = absurd is
+told_cause T before now refusal.PredicatesFull behind is = absurd is
+told_cause T before now refusal.Failed behind is = absurd is
+told_cause T before now refusal.NotFormatted behind is = absurd is
+told_cause T before now refusal.BadSession behind is = absurd is
+told_cause T before now refusal.CallOpen behind is = absurd is
+told_cause T before now refusal.TooSmall behind is = absurd is
+told_cause T before now refusal.BadParameter behind is = absurd is
+told_cause T before now refusal.NoCall behind is = absurd is
+told_cause T before now refusal.HistoryFull behind is = absurd is
+
+-- so it is a cause
+pub one_cause : (why : Refusal) → IsFaultOrDamage why → IsCause why
+one_cause why (inl device) = inl device
+one_cause why (inr damaged) = inr (inr damaged)
 
 module _ {B : Type 0} (shape : Members B) (is_key : B → Bool) (said : List ℕ → B) (f : Format B) (class : ℕ) (a b : Device) where
   -- what was read behind a settling
@@ -118,12 +123,12 @@ module _ {B : Type 0} (shape : Members B) (is_key : B → Bool) (said : List ℕ
     pub laid_so : (log : FoundLog (Entry B)) → LaysLog k r b c (Ok log) → IsLaid k r a.seen c log
     laid_so log lays = subst (λ (s : List ℕ). IsLaid k r s c log) only.rests.seen lays.log
 
-    pub unlaid_so : (why : Refusal) → IsFormatted shape is_key said f class a p → FaultsTold {T = FoundLog (Entry B)} b.faults c.faults (Err why) → LaysLog k r b c (Err why)
+    pub unlaid_so : (why : Refusal) → (why ≡ refusal.Memory → ⊥) → IsFormatted shape is_key said f class a p → FaultsTold {T = FoundLog (Entry B)} b.faults c.faults (Err why) → LaysLog k r b c (Err why)
         → IsUnlaid shape is_key said f class a why
-    unlaid_so why formatted faults lays = record {
+    unlaid_so why behind formatted faults lays = record {
       parameters = p;
       formatted = formatted;
-      cause = told_cause (FoundLog (Entry B)) b.faults c.faults why faults;
+      cause = told_cause (FoundLog (Entry B)) b.faults c.faults why behind faults;
       damaged = λ is log. lays.log is (subst (λ (s : List ℕ). HasUndamaged k r s) (sym only.rests.seen) log);
     }
 
@@ -154,18 +159,18 @@ module _ {B : Type 0} (shape : Members B) (is_key : B → Bool) (said : List ℕ
     }
 
     -- its pages were tested
-    pub tested_so : (result : Result (Standing B) Refusal) → IfOk result (λ x. x ≡ s) → IfErr result IsCause → Tells {T = Standing B} (sound_on b.seen) result
-        → IsTested shape is_key said f class a c result
-    tested_so (Ok x) same cause sound = subst (λ (y : Standing B). Stands shape is_key said f class a c y) (sym same)
+    pub tested_so : (unmoved : Type 0) (result : Result (Standing B) Refusal) → IfOk result (λ x. x ≡ s) → IfErr result IsCause → Tells {T = Standing B} (sound_on b.seen) result
+        → IsTested shape is_key said f class unmoved a c result
+    tested_so unmoved (Ok x) same cause sound = subst (λ (y : Standing B). Stands shape is_key said f class a c y) (sym same)
         (record { formatted = formatted; laid = laid_read; sound = subst sound_on (sym rests.seen) sound })
-    tested_so (Err why) same cause unsound = inr (inr (record {
+    tested_so unmoved (Err why) same cause unsound = inr (inr (inl (record {
       parameters = s.parameters;
       formatted = formatted;
       log = s.log;
       laid = laid_read;
       cause = cause;
       unsound = λ is sound. unsound is (subst sound_on rests.seen sound);
-    }))
+    })))
 
 -- what a test passed leaves of what was found
 module _ {T : Type 0} where

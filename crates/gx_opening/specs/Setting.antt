@@ -1,5 +1,5 @@
 -- What clauses say of a class of keys and of a device, from what their traits say of them.
-use Rattle.std.specs.Prelude.{ℕ, List, Bool, Result}
+use Rattle.std.specs.Prelude.{◌≡◌, ℕ, List, Bool, Result}
 use Rattle.gx_geom.specs.declared.refusal.Refusal.{Refusal}
 use Rattle.gx_machine.specs.declared.entry.Entry.{Entry}
 use Rattle.gx_machine.specs.Keys.{Members}
@@ -52,4 +52,4 @@ module _ {C B D : Type 0} (shape : Members B) (proper : B → Bool) (said : List
   IsStoodAs old new result = IsStood shape proper said (format_of class) class.CLASS (state old) (state new) result
 
   abbrev pub IsTestedAs : D → D → Result (Standing B) Refusal → Type 0
-  IsTestedAs old new result = IsTested shape proper said (format_of class) class.CLASS (state old) (state new) result
+  IsTestedAs old new result = IsTested shape proper said (format_of class) class.CLASS (new ≡ old) (state old) (state new) result

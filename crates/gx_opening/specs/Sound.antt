@@ -47,6 +47,10 @@ Tells holds (Err why) = why ≡ Damaged → holds → ⊥
 abbrev pub IsCause : Refusal → Type 0
 IsCause why = (why ≡ DeviceFailed) ⊎ ((why ≡ Memory) ⊎ (why ≡ Damaged))
 
+-- why what is read behind all memory may be: a call failed, or it is damaged
+abbrev pub IsFaultOrDamage : Refusal → Type 0
+IsFaultOrDamage why = (why ≡ DeviceFailed) ⊎ (why ≡ Damaged)
+
 -- what a store's refusal is told as
 abbrev pub store_refusal_of : StoreFault → Refusal
 store_refusal_of store_fault.Device = DeviceFailed

@@ -1,7 +1,7 @@
 -- What stands on a device: an index that it is formatted for, its log, and pages that are good for it.
 use Rattle.std.specs.Prelude.{◌≡◌, ◌⊎◌, ℕ, ◌≤◌, Bool, List, Result, Ok, Err}
 use Rattle.gx_geom.specs.declared.refusal.Refusal.{Refusal}
-use Rattle.gx_geom.specs.declared.refusal.Refusal.TheVariants.{Damaged}
+use Rattle.gx_geom.specs.declared.refusal.Refusal.TheVariants.{Damaged, Memory}
 use Rattle.gx_disk.specs.Device.{Device}
 use Rattle.gx_disk.specs.Moments.{Leaves}
 use Rattle.gx_format.specs.Fresh.{HasMagic}
@@ -25,7 +25,7 @@ use Rattle.gx_durable.specs.Classes.{class_of, reading_of}
 use Rattle.gx_opening.specs.Formatted.{IsAllowed, IsLarge, MaySettle, Says, head_of}
 use Rattle.gx_found_log.specs.Laid.{Spares}
 use Rattle.gx_opening.specs.Laid.{HasFoundLog, IsKeptOrFound, IsLaid, IsSpared}
-use Rattle.gx_opening.specs.Sound.{AreSound, IsCause}
+use Rattle.gx_opening.specs.Sound.{AreSound, IsCause, IsFaultOrDamage}
 use Rattle.gx_opening.specs.Writing.{IsInOrder, IsUnfit, IsUnwritten, SyncsFirst}
 use Rattle.gx_opening.specs.declared.standing.Standing.{Standing}
 
@@ -86,11 +86,11 @@ module _ {B : Type 0} (shape : Members B) (is_key : B → Bool) (said : List ℕ
     pub allowed : IsAllowed class p
     pub large : IsLarge d.sectors p
 
-  -- Its log wasn't laid: a call failed, memory was refused, or it is damaged.
+  -- Its log wasn't laid: a call failed, or it is damaged.
   pub record IsUnlaid (class : ℕ) (d : Device) (why : Refusal) : Type 0 where
     pub parameters : Parameters
     pub formatted : IsFormatted class d parameters
-    pub cause : IsCause why
+    pub cause : IsFaultOrDamage why
     pub damaged : why ≡ Damaged → HasUndamaged (known_for parameters) reading d.seen → ⊥
 
   -- what is read of a device that has the sectors of the smallest index, and laid on it
@@ -113,7 +113,8 @@ module _ {B : Type 0} (shape : Members B) (is_key : B → Bool) (said : List ℕ
     pub laid : IsLaid (known_for s.parameters) reading d.seen e s.log
     pub sound : AreSound (known_for s.parameters) reading (is_node f s.parameters.pages) s.log.analysis.told e.seen
 
-  -- so it was found; or it wasn't, by the first test that wasn't passed
-  abbrev pub IsTested : (class : ℕ) → Device → Device → Result (Standing B) Refusal → Type 0
-  IsTested class d e (Ok s) = Stands class d e s
-  IsTested class d e (Err why) = MaySettle class d.sectors d.seen (Err why) ⊎ (IsUnlaid class d why ⊎ IsUnsound class d e why)
+  -- So it was found; or it wasn't, by the first test that wasn't passed; or memory was refused before any call, and the device is the same.
+  abbrev pub IsTested : (class : ℕ) (same : Type 0) → Device → Device → Result (Standing B) Refusal → Type 0
+  IsTested class same d e (Ok s) = Stands class d e s
+  IsTested class same d e (Err why) =
+      MaySettle class d.sectors d.seen (Err why) ⊎ (IsUnlaid class d why ⊎ (IsUnsound class d e why ⊎ ((why ≡ Memory) × same)))

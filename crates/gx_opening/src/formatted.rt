@@ -4,7 +4,7 @@ ghost use Rattle.gx_disk.specs.Device.{Counts, Syncs};
 ghost use Rattle.gx_disk.specs.Looks.{Looks};
 ghost use Rattle.gx_disk.specs.Sectors.{sector_of};
 ghost use Rattle.gx_format.specs.Fresh.{magic_bytes};
-ghost use Rattle.gx_opening.specs.Formatted.{AreRead, Counted, IsAllowed, IsLarge, Settles, WhyNotAllowed};
+ghost use Rattle.gx_opening.specs.Formatted.{AreRead, Counted, IsAllowed, IsLarge, MaySettle, Settles, WhyNotAllowed};
 
 use gx_class::KeyClass;
 use gx_disk::{MIN_SECTORS, SECTOR_SIZE, SectorDisk};
@@ -73,6 +73,38 @@ fn test_parameters(parameters: &Parameters, class: u16, sectors: u64) -> Result<
     Ok(())
 }
 
+/// Reads what a device is formatted for that has the sectors of the smallest index, as [`formatted_for`], and doesn't
+/// settle it: no write and no sync is made.
+pub fn read_parameters<D: SectorDisk, K: KeyClass>(disk: &mut D) -> Result<Parameters, Refusal>
+    requires { MIN_SECTORS ≤ (D.state disk.old).sectors }
+    ensures counted { Counted 0 (D.state disk.old) (D.state disk.new) result }
+    ensures looks { (D.state disk.old).honest ≡ true → Looks (D.state disk.old) (D.state disk.new) }
+    ensures allowed { IfOk result (λ parameters. IsAllowed K.CLASS parameters
+        × IsLarge (D.state disk.old).sectors parameters) }
+    ensures told { (D.state disk.old).honest ≡ true
+        → MaySettle K.CLASS (D.state disk.old).sectors (D.state disk.old).seen result }
+{
+    let parameters = told_parameters(disk)?;
+    test_parameters(&parameters, K::CLASS, disk.sectors())?;
+    Ok(parameters)
+}
+
+/// Settles a device that has the sectors of the smallest index, and reads what it is formatted for, as
+/// [`formatted_for`].
+pub(crate) fn formatted_behind<D: SectorDisk, K: KeyClass>(
+    disk: &mut D,
+) -> Result<Parameters, Refusal>
+    requires { MIN_SECTORS ≤ (D.state disk.old).sectors }
+    ensures counted { Counted 1 (D.state disk.old) (D.state disk.new) result }
+    ensures synced { OnOk result ((D.state disk.new).calls ≡ (D.state disk.old).calls + 1) }
+    ensures allowed { IfOk result (λ parameters. IsAllowed K.CLASS parameters
+        × IsLarge (D.state disk.old).sectors parameters) }
+    ensures settles { (D.state disk.old).honest ≡ true → Settles K.CLASS (D.state disk.old) (D.state disk.new) result }
+{
+    settle(disk)?;
+    read_parameters::<D, K>(disk)
+}
+
 /// Settles a device, and reads what it is formatted for:
 /// an index of this class, with numbers in range, for which it has the sectors.
 ///
@@ -91,8 +123,5 @@ pub fn formatted_for<D: SectorDisk, K: KeyClass>(disk: &mut D) -> Result<Paramet
     if disk.sectors() < MIN_SECTORS {
         return Err(Refusal::TooSmall);
     }
-    settle(disk)?;
-    let parameters = told_parameters(disk)?;
-    test_parameters(&parameters, K::CLASS, disk.sectors())?;
-    Ok(parameters)
+    formatted_behind::<D, K>(disk)
 }

@@ -1,6 +1,6 @@
 //! The pages of a device whose log is laid are tested: that each can be read, that they are a legal tree, and that what
 //! open transactions have touched is in its place.
-ghost use Rattle.std.specs.Prelude.{◌≡◌, ◌≤◌, ◌<◌, ◌+◌, ◌*◌, true, OnOk, IfErr, IfOk, Err};
+ghost use Rattle.std.specs.Prelude.{◌≡◌, ◌≤◌, ◌<◌, ◌+◌, ◌*◌, ◌/◌, true, min, OnOk, IfErr, IfOk, Err};
 ghost use Rattle.gx_store.specs.State.{IsSteady};
 ghost use Rattle.gx_disk.specs.declared.layout.TheConstants.{MAX_PAGES, PAGES_AT, PAGE_SECTORS};
 ghost use Rattle.gx_machine.specs.Keys.{keys_of, entry_cmp};
@@ -36,7 +36,9 @@ const MOST_HALF: usize = 1_398_101;
 
 // Half of how many pairs a test has to keep at once: no more than stand in so many pages.
 fn half_of(used: u32, most: u16) -> usize
-    ensures { (0 < result) × (result ≤ MOST_HALF) }
+    ensures exact { result ≡ min (used * most / 2 + 1) MOST_HALF }
+    ensures some { 0 < result }
+    ensures few { result ≤ MOST_HALF }
 {
     let pairs = u64::from(used) * u64::from(most);
     (pairs / 2 + 1).min(MOST_HALF as u64) as usize

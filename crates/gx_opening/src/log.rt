@@ -1,5 +1,5 @@
 //! The log of a device is read, and its pages are laid.
-ghost use Rattle.std.specs.Prelude.{◌≡◌, ◌≤◌, IfOk};
+ghost use Rattle.std.specs.Prelude.{◌≡◌, ◌≢◌, ◌≤◌, IfErr, IfOk};
 ghost use Rattle.gx_disk.specs.Device.{SameDevice};
 ghost use Rattle.gx_durable.specs.Area.{HasPages};
 ghost use Rattle.gx_found_log.specs.Found.{FaultsTold};
@@ -10,11 +10,10 @@ ghost use Rattle.gx_opening.specs.Laid.{LaysFound, LaysLogOf};
 
 use gx_disk::SectorDisk;
 use gx_durable::{OfClass, ReadKeys};
-use gx_found_log::{FoundLog, read_class_log, redo_log};
+use gx_found_log::{FoundLog, LogRoom, read_class_log, redo_log};
 use gx_geom::Refusal;
 use gx_glog::PLACES;
 use gx_machine::Entry;
-use std::alloc::Global;
 
 // Lays the pages of a log that was found.
 fn lay_found<D: SectorDisk, K: ReadKeys>(
@@ -29,6 +28,7 @@ fn lay_found<D: SectorDisk, K: ReadKeys>(
     ensures lays { (l : Limits) → l.pages ≡ pages
         → LaysFound (known_at K.Key.Shape K.is_proper l) (reading_by K.said K.KeyClass) found
         (D.state disk.old) (D.state disk.new) result }
+    ensures memory { IfErr result (λ why. why ≢ Refusal.Memory) }
 {
     if found.bodies == 0 || found.bodies > PLACES {
         return Err(Refusal::Damaged);
@@ -40,11 +40,11 @@ fn lay_found<D: SectorDisk, K: ReadKeys>(
 /// Reads the log of a device of so many pages, and entries in a node, which is settled, and lays its pages: each is as
 /// the log leaves it then, and all is settled again.
 ///
-/// Refused as `Damaged` exactly where the log is, before anything is written; by the device's fault (`Device`), and for
-/// want of memory (`Memory`). At each moment, also where it is refused, what a crash may leave is as at the start, or
+/// Refused as `Damaged` exactly where the log is, before anything is written, and by the device's fault (`Device`); it
+/// takes no memory. At each moment, also where it is refused, what a crash may leave is as at the start, or
 /// has the log that was found and after it the same pages.
 pub(crate) fn lay_log<D: SectorDisk, K: ReadKeys>(
-    alloc: Global,
+    room: LogRoom<Entry<K::Key>>,
     disk: &mut D,
     pages: u32,
     most: u16,
@@ -57,7 +57,8 @@ pub(crate) fn lay_log<D: SectorDisk, K: ReadKeys>(
     ensures lays { (l : Limits) → l.pages ≡ pages → l.most ≡ most
         → LaysLogOf (known_at K.Key.Shape K.is_proper l) (reading_by K.said K.KeyClass)
         (D.state disk.old) (D.state disk.new) result }
+    ensures memory { IfErr result (λ why. why ≢ Refusal.Memory) }
 {
-    let found = read_class_log::<K, D>(alloc, disk, pages, most)?;
+    let found = read_class_log::<K, D>(room, disk, pages, most)?;
     lay_found::<D, K>(disk, found, pages)
 }

@@ -11,13 +11,13 @@ ghost use Rattle.gx_opening.specs.Sound.{IsCause, Tells};
 ghost use Rattle.gx_opening.specs.Standing.{MayStart, limits_of, told_with};
 ghost use Rattle.gx_opening.specs.Setting.{AreSoundAs, StaysSafeAs, FindsInOrderAs, IsStoodAs, IsTestedAs};
 
-use crate::formatted::formatted_for;
+use crate::formatted::formatted_behind;
 use crate::legal::test_pages;
 use crate::log::lay_log;
-use gx_disk::SectorDisk;
+use gx_disk::{MIN_SECTORS, SectorDisk};
 use gx_durable::ReadKeys;
 use gx_durable::class_laws::what_stands_is_legal;
-use gx_found_log::FoundLog;
+use gx_found_log::{FoundLog, LogRoom};
 use gx_geom::Refusal;
 use gx_glog::Parameters;
 use gx_machine::Entry;
@@ -34,25 +34,25 @@ pub struct Standing<B> {
 
 // Settles a device, reads what it is formatted for, and lays its log.
 fn stand<D: SectorDisk, K: ReadKeys>(
-    alloc: Global,
+    room: LogRoom<Entry<K::Key>>,
     disk: &mut D,
 ) -> Result<Standing<K::Key>, Refusal>
+    requires { MIN_SECTORS ≤ (D.state disk.old).sectors }
     ensures device { SameDevice (D.state disk.old) (D.state disk.new) }
     ensures faults { TellsFaults (D.state disk.old).faults (D.state disk.new).faults result }
     ensures allowed { IfOk result (λ s. IsAllowed K.CLASS s.parameters
         × IsLarge (D.state disk.old).sectors s.parameters) }
     ensures bodies { IfOk result (λ s. (1 ≤ s.log.bodies) × (s.log.bodies ≤ PLACES)) }
-    ensures small { (D.state disk.old).sectors < MIN_SECTORS → (result ≡ Err Refusal.TooSmall) × (disk.new ≡ disk.old) }
     ensures safe { (D.state disk.old).honest ≡ true
         → StaysSafeAs K.Key.Shape K.is_proper K.said K.KeyClass D.state disk.old disk.new }
     ensures order { (D.state disk.old).honest ≡ true
         → FindsInOrderAs K.Key.Shape K.is_proper K.said K.KeyClass D.state disk.old disk.new result }
-    ensures stood { (D.state disk.old).honest ≡ true → MIN_SECTORS ≤ (D.state disk.old).sectors
+    ensures stood { (D.state disk.old).honest ≡ true
         → IsStoodAs K.Key.Shape K.is_proper K.said K.KeyClass D.state disk.old disk.new result }
 {
     what_stands_is_legal::<K>();
-    let parameters = formatted_for::<D, K>(disk)?;
-    let log = lay_log::<D, K>(alloc, disk, parameters.pages, parameters.most)?;
+    let parameters = formatted_behind::<D, K>(disk)?;
+    let log = lay_log::<D, K>(room, disk, parameters.pages, parameters.most)?;
     Ok(Standing { parameters, log })
 }
 
@@ -91,16 +91,45 @@ fn tested<D: SectorDisk, K: ReadKeys>(
     (disk, with_standing(sound, standing))
 }
 
+// Finds what stands on a device that has the sectors of the smallest index.
+fn find_in<D: SectorDisk, K: ReadKeys>(
+    alloc: Global,
+    room: LogRoom<Entry<K::Key>>,
+    disk: D,
+) -> (D, Result<Standing<K::Key>, Refusal>)
+    requires { MIN_SECTORS ≤ (D.state disk).sectors }
+    ensures device { SameDevice (D.state disk) (D.state result.0) }
+    ensures faults { TellsFaults (D.state disk).faults (D.state result.0).faults result.1 }
+    ensures allowed { IfOk result.1 (λ s. IsAllowed K.CLASS s.parameters
+        × IsLarge (D.state disk).sectors s.parameters) }
+    ensures starts { IfOk result.1 MayStart }
+    ensures others { IfOk result.1 (λ s. AreOfOthers (entry_cmp (keys_of K.Key.Shape)) s.log.analysis.told.touched) }
+    ensures safe { (D.state disk).honest ≡ true
+        → StaysSafeAs K.Key.Shape K.is_proper K.said K.KeyClass D.state disk result.0 }
+    ensures order { (D.state disk).honest ≡ true
+        → FindsInOrderAs K.Key.Shape K.is_proper K.said K.KeyClass D.state disk result.0 result.1 }
+    ensures tested { (D.state disk).honest ≡ true
+        → IsTestedAs K.Key.Shape K.is_proper K.said K.KeyClass D.state disk result.0 result.1 }
+{
+    what_stands_is_legal::<K>();
+    let mut disk = disk;
+    match stand::<D, K>(room, &mut disk) {
+        Ok(standing) => tested::<D, K>(alloc, disk, standing),
+        Err(why) => (disk, Err(why)),
+    }
+}
+
 /// Settles a device, reads what it is formatted for, lays its log, and tests its pages. The device is handed back.
 ///
 /// Refused, by the first that holds: with fewer sectors than the smallest index takes (`TooSmall`, and no call is
 /// made), without the magic (`NotFormatted`), with numbers out of range or of another class (`BadParameter`), with
 /// fewer sectors than that index takes (`TooSmall`), with a damaged log, or pages that can't be read, aren't a legal
 /// tree, or haven't what open transactions touched in its place (`Damaged`); and where a call fails (`Device`), or
-/// memory is refused (`Memory`). At each moment a crash may leave what it could at the start, or an image with the log
-/// that was found and after it the same pages. A sync comes before the first write, and of the sectors only those of
-/// pages that the log gives are written. What is found has the numbers that an engine may start with, and its open
-/// transactions have touched no entry twice, whatever the device is.
+/// memory is refused (`Memory`). All memory that the log takes is taken before the first call, and a damaged log is
+/// never refused as `Memory` behind it. At each moment a crash may leave what it could at the start, or an image with
+/// the log that was found and after it the same pages. A sync comes before the first write, and of the sectors only
+/// those of pages that the log gives are written. What is found has the numbers that an engine may start with, and its
+/// open transactions have touched no entry twice, whatever the device is.
 pub fn find<D: SectorDisk, K: ReadKeys>(
     alloc: Global,
     disk: D,
@@ -119,10 +148,11 @@ pub fn find<D: SectorDisk, K: ReadKeys>(
     ensures tested { (D.state disk).honest ≡ true → MIN_SECTORS ≤ (D.state disk).sectors
         → IsTestedAs K.Key.Shape K.is_proper K.said K.KeyClass D.state disk result.0 result.1 }
 {
-    what_stands_is_legal::<K>();
-    let mut disk = disk;
-    match stand::<D, K>(alloc, &mut disk) {
-        Ok(standing) => tested::<D, K>(alloc, disk, standing),
+    if disk.sectors() < MIN_SECTORS {
+        return (disk, Err(Refusal::TooSmall));
+    }
+    match LogRoom::new(alloc) {
+        Ok(room) => find_in::<D, K>(alloc, room, disk),
         Err(why) => (disk, Err(why)),
     }
 }

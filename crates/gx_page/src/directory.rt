@@ -8,7 +8,7 @@ ghost use Rattle.gx_page.specs.Reading.{IsImage, read_of};
 use crate::block::{Block, PAGE_SIZE};
 use crate::layout::{COUNT, DIRECTORY, LENGTH, SLOT, START};
 
-/// Where a slot stands in the directory.
+/// The place of a slot in the directory.
 pub(crate) fn slot_at(slot: usize) -> usize
     requires { slot < 1024 }
     ensures { result ≡ 32 + 4 * slot }

@@ -22,7 +22,7 @@ pub fn heap()
     ensures goes_on { HeapGoesOn }
 {}
 
-/// Where an item stands among items of one length, in the heap and in the image, and how many bytes they have in all.
+/// The place of an item among items of one length, in the heap and in the image, and how many bytes they have in all.
 pub fn places()
     ensures total { TotalOfOneLength }
     ensures in_heap { PlaceInHeap }

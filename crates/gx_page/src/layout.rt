@@ -1,4 +1,4 @@
-//! Where things stand in a page, in bytes from its start.
+//! The places of a page's parts, in bytes from its start.
 
 /// The count of slots, two bytes.
 pub(crate) const COUNT: usize = 2;
@@ -21,5 +21,5 @@ pub(crate) const DIRECTORY: usize = 32;
 /// How many bytes a slot takes in the directory.
 pub(crate) const SLOT: usize = 4;
 
-/// Where a slot's length stands, from the slot's start.
+/// The place of a slot's length, from the slot's start.
 pub(crate) const LENGTH: usize = 2;

@@ -35,7 +35,7 @@ impl Model for Page {
     ghost invariant = { λ p. IsImage p.block.bytes };
 }
 
-// This stands only where a page may be sent.
+// This holds only where a page may be sent.
 fn sent<T: Send>() {}
 
 /// A page may be sent to another thread: without the promise that its block makes this doesn't compile.

@@ -21,7 +21,7 @@ use Rattle.gx_phases.specs.States.{State, phase_at, with_phase_of, with_session,
 abbrev pub IsRefused : {B W : Type 0} → Refusal → State B W → Asked B → State B W → Type 0
 IsRefused why old given new = (given ≡ asked.Now (reply.Refused why)) × (new ≡ old)
 
--- a call that has its lock is open, and the lock is held; one that lacks it is refused
+-- a call that gets its lock is open, and the lock is held; one that doesn't is refused
 abbrev pub LockTaken : {B W : Type 0} → Result (Locks B) Refusal → ℕ → Call B → W → State B W → Asked B → State B W → Type 0
 LockTaken (Ok locks) s call work old given new =
     (given ≡ asked.Open) × (new ≡ with_session s (phase.Open call work) (with_locks locks (held_by s old.table)) old)

@@ -152,7 +152,7 @@ synced_state number state = record state { durable = number }
 abbrev pub failed_state : {B W : Type 0} → State B W → State B W
 failed_state state = record state { failed = true }
 
--- a note of what a session wrote, where it has its lock; or why it lacks it, and nothing changes
+-- a note of what a session wrote, where it gets its lock; or why it doesn't, and nothing changes
 abbrev pub HeldNote : {B : Type 0} → Keys B → Result (Locks B) Refusal → ℕ → txn.Note B → List (Held B) → Result (Unit {0}) Refusal → List (Held B) → Type 0
 HeldNote k (Ok locks) s n old result new =
     IsOk result × (new ≡ with_held s (with_notes (noting k n (held_by s old).notes) (with_locks locks (held_by s old))) old)
@@ -166,7 +166,8 @@ may_lose (phase.Open call work) = false
 may_lose (phase.Undoing restored work) = true
 may_lose (phase.Waiting number) = false
 
--- it undoes that one from its first note on, with this note and its lock more; or it lacks the lock, and nothing changes
+-- it undoes that one from its first note on, with this note and its lock more; or it doesn't get the lock, and nothing
+-- changes
 abbrev pub TakesUp : {B W : Type 0} → Keys B → Result (Locks B) Refusal → ℕ → ℕ → txn.Note B → W → State B W → Result (Unit {0}) Refusal → State B W → Type 0
 TakesUp k (Ok locks) s t n work old result new =
     IsOk result

@@ -1,4 +1,4 @@
--- Asking, but for a Begin outside of a transaction, on the two lists that it changes.
+-- Asking, except for a Begin outside of a transaction, on the two lists that it changes.
 use Rattle.std.specs.Prelude.{ℕ, ◌≡◌, Result, Ok, Err, List}
 use Rattle.gx_geom.specs.declared.refusal.Refusal.{Refusal}
 use Rattle.gx_geom.specs.declared.refusal.Refusal.TheVariants.{NoTransaction, InTransaction, CallOpen}
@@ -18,7 +18,7 @@ use Rattle.gx_phases.specs.States.{with_phase}
 abbrev pub Stays : {B W : Type 0} → Refusal → List (Phase B W) → Asked B → List (Phase B W) → Type 0
 Stays why old given new = (given ≡ asked.Now (reply.Refused why)) × (new ≡ old)
 
--- a call that has its lock is open; one that lacks it is refused, and nothing changes
+-- a call that gets its lock is open; one that doesn't is refused, and nothing changes
 abbrev pub LockTakenIn : {B W : Type 0} → Result (Locks B) Refusal → ℕ → Call B → W → List (Phase B W) → List (Held B) → Asked B → List (Phase B W) → List (Held B) → Type 0
 LockTakenIn (Ok locks) s call work phases table given phases' table' =
     (given ≡ asked.Open) × (phases' ≡ with_phase s (phase.Open call work) phases) × (table' ≡ with_held s (with_locks locks (held_by s table)) table)

@@ -58,7 +58,7 @@ pub fn set_phase<B: Shape, W: Drop>(phases: &mut Vec<Phase<B, W>>, session: u8, 
     phases[place_of(session)] = phase;
 }
 
-/// Opens a call of a session that has its lock, or says why it lacks it.
+/// Opens a call of a session that gets its lock, or returns why it doesn't.
 fn settle<B: Shape, W: Drop>(
     phases: &mut Vec<Phase<B, W>>,
     session: u8,
@@ -117,7 +117,7 @@ fn ask_working<B: Shape, W: Drop>(
     }
 }
 
-/// A call of a session, but for a Begin of one that has no transaction.
+/// A call of a session, except for a Begin of one that has no transaction.
 pub fn ask_at<B: Shape, W: Drop>(
     phases: &mut Vec<Phase<B, W>>,
     table: &mut Transactions<B>,

@@ -31,7 +31,7 @@ ghost use Rattle.gx_phases.specs.Moves.{ended_state, synced_state, failed_state}
 ghost use Rattle.gx_phases.specs.Restoring.{AreRestored};
 
 /// An answered call is closed: an insert that finds its entry live, a delete that doesn't, a search that found what is
-/// live and matches, and a call that lacks pages or memory.
+/// live and matches, and a call for which no pages or memory are left.
 pub fn an_answered_call_is_closed<B, W>()
     ensures present { (k : Keys B) (live : Entry B → Bool) (older : List (List (Entry B))) (old : State B W)
         → IsKept k old → old.failed ≡ false

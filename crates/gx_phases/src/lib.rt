@@ -1,7 +1,7 @@
 //! What an engine keeps of its sessions: how far each one is, its transaction's number, its locks and its notes.
 //!
-//! There is no page and no log in it. An ask is decided by it alone; what comes of a session's call over the tree and
-//! the log, the engine tells it by small steps.
+//! There is no page and no log in it. An ask is decided by it alone; the engine reports what comes of a session's call
+//! over the tree and the log by small steps.
 #![tactic(auto)]
 
 mod asks;

@@ -243,7 +243,7 @@ impl<B: Shape, W: Drop> Sessions<B, W> {
 
     /// Notes what a session's open insert or delete of this entry wrote in a leaf, and closes the call: `before` is the
     /// entry's mark from before this write, set where it was marked or absent. Of all writes of an entry, the first
-    /// one's `before` and the last one's leaf stand.
+    /// one's `before` and the last one's leaf are kept.
     pub fn note(&mut self, session: u8, entry: Entry<B>, before: bool, leaf: u32)
         requires session { is_session session ≡ true }
         requires write { HasWrite entry (phase_at (session - 1) self.old.phases) }

@@ -19,7 +19,7 @@ use Rattle.gx_script.specs.Scripts.{asked_as}
 use Rattle.gx_plain.specs.Boxes.{box_keys}
 use Rattle.gx_plain.specs.Index.{answer_machine}
 
--- a reply that calls alone decide: all but a refusal for want of pages, memory or numbers, or for a fault
+-- a reply that calls alone decide: all but a refusal because pages, memory or numbers are used up, or for a fault
 abbrev pub is_decided_refusal : Refusal → Bool
 is_decided_refusal refusal.PagesFull = false
 is_decided_refusal refusal.Memory = false
@@ -43,7 +43,7 @@ pub record Rests {B : Type 0} (m : Machine B) : Type 0 where
   pub works : m.failed ≡ false
   pub answered : (s : ℕ) → is_unanswered (session_at s m.sessions) ≡ false
 
--- the machine as its calls see it: its last set, under its number, with the sessions as they are
+-- the machine as its calls see it: its last set, under its number, with its sessions
 abbrev pub seen_by_calls : {B : Type 0} → Machine B → Machine B
 seen_by_calls m = record { older = []; latest = m.latest; oldest = newest m; sessions = m.sessions; failed = false }
 

@@ -32,7 +32,7 @@ has_begun (asked.Now (Committed number)) = false
 has_begun (asked.Now Aborted) = false
 has_begun (asked.Now (Refused why)) = false
 
--- the numbers of commits or of transactions are used up but for those of the transactions that are open
+-- the numbers of commits or of transactions are used up except for those of the transactions that are open
 abbrev pub is_used_up : {B : Type 0} → Index B → Bool
 is_used_up index = nat_le LAST_NUMBER (newest index.machine) || nat_le LAST_NUMBER index.next
 
@@ -61,7 +61,7 @@ pub record AnswersFully {B : Type 0} (k : Keys B) (s : ℕ) (old : Index B) (rep
   pub machine_is : new.machine ≡ (answer_machine k s old.machine).1
   pub next_stays : new.next ≡ old.next
 
--- an insert that would add its entry, or a search, is closed for want of memory, and nothing else changes
+-- an insert that would add its entry, or a search, is closed because memory is refused, and nothing else changes
 pub record LacksMemory {B : Type 0} (k : Keys B) (s : ℕ) (old : Index B) (reply : Reply B) (new : Index B) : Type 0 where
   pub wanted : takes_memory (answer_machine k s old.machine).0 ≡ true
   pub reply_is : reply ≡ Refused Memory

@@ -1,4 +1,4 @@
--- What a session of the plain index stands for, and what answering does to it.
+-- What a session of the plain index is in the machine, and what answering does to it.
 use Rattle.std.specs.Prelude.{ℕ, ◌≡◌, ◌≤◌, ◌⊎◌, true, false, ◌+◌, Bool, length, None, Some, List}
 use Rattle.gx_geom.specs.declared.refusal.Refusal.TheVariants.{NoCall, Memory}
 use Rattle.gx_machine.specs.declared.entry.Entry.{Entry}
@@ -114,8 +114,8 @@ takes_memory (replies.Committed number) = false
 takes_memory replies.Aborted = false
 takes_memory (replies.Refused why) = false
 
--- an open call is closed with this reply and these changes, or with nothing changed for want of the memory that the
--- reply takes; the locks stay
+-- an open call is closed with this reply and these changes, or with nothing changed where the memory that the reply
+-- takes is refused; the locks stay
 abbrev pub Closes : {B : Type 0} → Reply B × Changes B → Session B → Reply B → Session B → Type 0
 Closes given old reply new =
     ((reply ≡ given.0) × (new ≡ Open (locks_of old) given.1 None))

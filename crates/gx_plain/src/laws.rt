@@ -29,7 +29,7 @@ pub fn a_fresh_index_is_plain<B>()
     ensures { IsPlain (fresh_index {B = B}) }
 {}
 
-/// Asking is one step of the machine, an ask or a Begin refused for want of numbers, and keeps the index plain.
+/// Asking is one step of the machine, an ask or a Begin refused because numbers are used up, and keeps the index plain.
 pub fn asking_is_a_step<B>()
     ensures step { (k : Keys B) (s : ℕ) (call : Call B) (index : Index B) → IsPlain index → AskIsRun k s call index }
     ensures plain { (k : Keys B) (s : ℕ) (call : Call B) (index : Index B) → IsPlain index
@@ -37,7 +37,7 @@ pub fn asking_is_a_step<B>()
 {}
 
 /// Answering is a run of the machine, and keeps the index plain. The run is an answer; a commit's seal, its becoming
-/// durable and its answer; a call closed for want of memory; or nothing, where there is nothing to answer.
+/// durable and its answer; a call closed because memory is refused; or nothing, where there is nothing to answer.
 pub fn answering_is_a_run<B>()
     ensures run { (k : Keys B) (s : ℕ) (old new : Index B) (reply : Reply B) → IsPlain old
         → AnswersIndex k s old reply new → AnswerIsRun k s old reply new }
@@ -53,7 +53,8 @@ pub fn sealing_is_a_run<B>()
         → IsPlain new }
 {}
 
-/// Dropping a call is a step of the machine, a call closed for want of pages or of memory, and keeps the index plain.
+/// Dropping a call is a step of the machine, a call closed because pages or memory are used up, and keeps the index
+/// plain.
 pub fn dropping_is_a_step<B>()
     ensures step { (k : Keys B) (s : ℕ) (why : Refusal) (old new : Index B) → IsPlain old → may_close why ≡ true
         → DropsIndex s old true new
@@ -81,8 +82,8 @@ pub fn each_script_is_one_run()
 
 /// A run of the machine in which one call is asked and answered, from where no call is open and no fault has come, is
 /// decided by that call: its reply is the one that asking and answering it alone gives, whatever else becomes durable
-/// meanwhile, and so is what calls see of the machine then.
-/// But for a refusal for want of pages, memory or numbers, or for a fault.
+/// meanwhile, and so is what calls see of the machine then. This excludes a refusal because pages, memory or numbers
+/// are used up, or for a fault.
 pub fn a_call_alone_decides_its_reply<B>()
     ensures { (k : Keys B) (s : ℕ) (call : Call B) (reply : Reply B) (old new : Machine B)
         → is_decided reply ≡ true → Rests old → IsCallRun k s call reply old new

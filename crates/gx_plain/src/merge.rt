@@ -9,7 +9,7 @@ ghost use Rattle.gx_machine.specs.Orders.{Below};
 use gx_geom::Shape;
 use gx_machine::Entry;
 
-/// The place of an entry that a set in order lacks, searched by halves.
+/// The place for an entry that a set in order doesn't have, searched by halves.
 fn gap<B: Shape>(e: &Entry<B>, set: &[Entry<B>]) -> usize
     requires in_order { InOrder (keys_of B.Shape) set.now }
     requires lacks { has (keys_of B.Shape) e.now set.now ≡ false }
@@ -22,7 +22,7 @@ fn gap<B: Shape>(e: &Entry<B>, set: &[Entry<B>]) -> usize
     }
 }
 
-/// Puts an entry behind so many places that are still free from `at` on, and moves what stood from there up to `end`
+/// Puts an entry behind so many places that are still free from `at` on, and moves what was from there up to `end`
 /// behind it.
 #[tactic(auto, using(crate::proofs::Merging::moved_front, crate::proofs::Merging::moved_tail))]
 fn put_behind<B: Shape>(set: &mut [Entry<B>], at: usize, end: usize, free: usize, e: Entry<B>)
@@ -36,7 +36,7 @@ fn put_behind<B: Shape>(set: &mut [Entry<B>], at: usize, end: usize, free: usize
 }
 
 /// Puts an entry, the last of those up to `left`, in its place among the first `end`, with `left` free places before
-/// what was put in already. Answers its place.
+/// what was put in already. Returns its place.
 fn put_last<B: Shape>(
     more: &[Entry<B>],
     e: Entry<B>,
@@ -61,8 +61,7 @@ fn put_last<B: Shape>(
     at
 }
 
-/// Merges these entries into the set of the first `count`, which lacks each of them.
-/// There is a place for each behind it.
+/// Merges these entries into the set of the first `count`, which has none of them. There is a place for each behind it.
 fn merge_down<B: Shape>(more: &[Entry<B>], set: &mut [Entry<B>], count: usize)
     requires more_in_order { InOrder (keys_of B.Shape) more.now }
     requires in_order { InOrder (keys_of B.Shape) (take count set.old) }

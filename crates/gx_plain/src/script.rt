@@ -24,8 +24,8 @@ impl Answers for PlainIndex<Box2> {
 /// All lines of a reply are written before the next line's call is asked. A line that isn't one of a script's is
 /// answered by its number, and the script goes on. It ends well where the reader's last call gave nothing. Faults:
 /// `Read` where that failed, or 2^32 calls were made of the reader; `Write` where the writer's last call failed or took
-/// nothing, or 2^32 calls were made of the writer. What was written then is a beginning of the text, and replies given
-/// before stand. An interrupted read or write is made again.
+/// nothing, or 2^32 calls were made of the writer. What was written then is a beginning of the text; replies given
+/// before stay valid. An interrupted read or write is made again.
 pub fn run_plain<R: Read, W: Write>(
     reader: &mut Noted<R>,
     writer: &mut Noted<W>,

@@ -4,7 +4,7 @@ use std::alloc::{AllocError, AllocFailed};
 /// What is wrong with an image: the first that is met.
 #[derive(Clone, Copy, PartialEq, Eq)]
 pub enum Damage {
-    /// Memory lacked, and nothing is told of the image.
+    /// Memory was refused, and nothing is known of the image.
     Memory,
     /// The device has too few sectors, for any index or for its pages.
     Short,
@@ -14,7 +14,7 @@ pub enum Damage {
     Parameters,
     /// The first gate of the selected extent is closed.
     Selector,
-    /// A body doesn't tell how many bytes of records it has.
+    /// A body doesn't say how many bytes of records it has.
     Body,
     /// A record isn't whole, or no record begins so.
     Record,
@@ -56,7 +56,7 @@ pub enum Damage {
     Parent,
     /// The leaves' chain doesn't have each leaf once, or has something else.
     Chain,
-    /// An entry stands twice.
+    /// An entry is there twice.
     Twice,
     /// What an open transaction touched isn't on its leaf or to the right of it.
     Place,

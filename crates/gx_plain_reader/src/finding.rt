@@ -29,7 +29,7 @@ pub enum Part {
     Page,
     /// Their tree.
     Tree,
-    /// Where in it stands what open transactions touched.
+    /// Where in it is what open transactions touched.
     Place,
 }
 

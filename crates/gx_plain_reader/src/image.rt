@@ -13,7 +13,7 @@ use std::alloc::Global;
 /// The sectors of the least device.
 const LEAST: usize = 4232;
 
-/// What the second sector tells.
+/// What the second sector says.
 #[derive(Clone, Copy)]
 pub struct Parameters {
     pub pages: u32,
@@ -38,7 +38,7 @@ pub struct Reading {
     pub nodes: Vec<Node>,
 }
 
-/// The second sector's numbers, as they stand.
+/// The second sector's numbers, unchanged.
 fn parameters_of(image: &[u8]) -> Option<Parameters> {
     Some(Parameters {
         pages: u32_at(image, 512)?,

@@ -1,4 +1,4 @@
-//! What a log tells, as its records are read one by one.
+//! What a log says, as its records are read one by one.
 use crate::finding::{Findings, Place};
 use crate::page::{Node, node_of, page_at};
 use crate::records::{Logged, Touching};
@@ -58,7 +58,7 @@ pub(crate) struct Log {
     said: Vec<Said>,
     /// What is wrong with the record that is read.
     pub(crate) found: Findings,
-    /// Where that stands: the extent, the body, and how many bytes of records are ahead of it there.
+    /// Where that is: the extent, the body, and how many bytes of records are ahead of it there.
     pub(crate) extent: &'static str,
     pub(crate) body: usize,
     pub(crate) at: usize,
@@ -246,7 +246,7 @@ impl Log {
         Ok(())
     }
 
-    /// A write that tells by a small change how its leaf then is: the mark that the pair gets, or that it comes.
+    /// A write that has a small change of its leaf: the mark that the pair gets, or the pair that comes.
     fn test_small(
         &mut self,
         alloc: Global,
@@ -281,7 +281,7 @@ impl Log {
         Ok(())
     }
 
-    /// What a record says, which stands here.
+    /// What the record here says.
     pub(crate) fn take(
         &mut self,
         alloc: Global,

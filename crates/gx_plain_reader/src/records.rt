@@ -60,7 +60,7 @@ struct Cursor<'a> {
 }
 
 impl<'a> Cursor<'a> {
-    /// Goes so many bytes on, and answers where they begin.
+    /// Goes so many bytes on, and returns where they begin.
     fn step(&mut self, size: usize) -> Option<usize> {
         let at = self.at;
         let after = at.checked_add(size)?;
@@ -281,7 +281,7 @@ fn record_at(class: u16, cursor: &mut Cursor<'_>) -> Option<Logged> {
     }
 }
 
-/// Whether a record may stand there: the first body has counters at its start and then notes, and another one neither.
+/// Whether a record may be there: the first body has counters at its start and then notes, and another one neither.
 fn may_stand(body: usize, at: usize, logged: &Logged) -> bool {
     match logged {
         Logged::Counters { .. } => body == 0 && at == 0,

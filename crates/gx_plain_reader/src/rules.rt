@@ -1,11 +1,11 @@
-//! The rules that an image keeps: what is wrong where one is broken, and what a person reads then.
+//! The rules that an image keeps: what is wrong where one is broken, and what the user reads then.
 use crate::Damage;
 
 /// What is wrong where a rule is broken, and how a sentence about it ends.
 #[derive(Clone, Copy)]
 pub(crate) struct Rule(pub(crate) Damage, pub(crate) &'static str);
 
-// Of the sectors ahead of the log, of which no sentence is told.
+// Of the sectors ahead of the log, of which no sentence is printed.
 pub(crate) const MAGIC: Rule = Rule(Damage::Magic, "");
 
 pub(crate) const PARAMETERS: Rule = Rule(Damage::Parameters, "");
@@ -61,7 +61,8 @@ pub(crate) const NO_IMAGE: Rule = Rule(
 
 pub(crate) const UNFIT: Rule = Rule(Damage::Change, "a change does not fit its page");
 
-// Of a page by itself: one that isn't spelled, has another number, or isn't a node of the class. All are told alike.
+// Of a page by itself: one that isn't spelled, has another number, or isn't a node of the class. All have the same
+// sentence.
 pub(crate) const PAGE: Rule = Rule(Damage::Page, "");
 
 pub(crate) const OWN_NUMBER: Rule = Rule(Damage::OwnNumber, "");

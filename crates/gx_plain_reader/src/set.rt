@@ -4,7 +4,7 @@ use crate::page::{Node, Pair};
 use crate::{Damage, Entry};
 use std::alloc::Global;
 
-/// Whether a pair's entry is in the set: as it stood before an open transaction wrote it first, or else where it is
+/// Whether a pair's entry is in the set: if it was live before an open transaction wrote it first, or else if it is
 /// live.
 fn is_in(log: &Log, pair: &Pair) -> bool {
     match log.first_before(&pair.entry) {

@@ -37,7 +37,7 @@ fn chain(alloc: Global, nodes: &[Node]) -> Result<(Vec<u32>, u32), Damage> {
     Ok((chain, page))
 }
 
-/// How often an entry stands on a leaf.
+/// How often an entry is on a leaf.
 fn times_on(leaf: &Node, entry: &Entry) -> usize {
     let mut count = 0_usize;
     for pair in leaf.pairs.iter() {
@@ -76,7 +76,7 @@ fn parents(nodes: &[Node], page: u32) -> usize {
     count
 }
 
-/// How often an entry stands on the leaves.
+/// How often an entry is on the leaves.
 fn times(nodes: &[Node], entry: &Entry) -> usize {
     let mut count = 0_usize;
     for node in nodes {
@@ -85,7 +85,7 @@ fn times(nodes: &[Node], entry: &Entry) -> usize {
     count
 }
 
-/// Whether an entry stands on a leaf, or on one to the right of it.
+/// Whether an entry is on a leaf, or on one to the right of it.
 fn is_placed(nodes: &[Node], chain: &[u32], entry: &Entry, leaf: u32) -> bool {
     let mut reached = false;
     for page in chain {
@@ -107,7 +107,7 @@ impl Tree<'_> {
         self.found.add_finding(Place::Page(page), rule)
     }
 
-    /// So does what stands in a slot of it.
+    /// So does what is in a slot of it.
     fn test_slot(
         &mut self,
         holds: bool,
@@ -190,7 +190,7 @@ impl Tree<'_> {
         Ok(())
     }
 
-    /// No entry stands twice. Where one does, the page where the chain begins is told.
+    /// No entry is there twice. Where one is, the page where the chain begins is named.
     fn test_once(&mut self) -> Result<(), Damage> {
         let nodes = self.nodes;
         for node in nodes {
@@ -203,7 +203,7 @@ impl Tree<'_> {
         Ok(())
     }
 
-    /// What open transactions touched stands on its remembered leaf, or to the right of it.
+    /// What open transactions touched is on its remembered leaf, or to the right of it.
     fn test_places(&mut self, chain: &[u32]) -> Result<(), Damage> {
         let (nodes, log) = (self.nodes, self.log);
         for touch in log.touches.iter() {

@@ -48,7 +48,7 @@ pub record OnlyRead (old new : Device) : Type 0 where
   pub pending : old.honest ≡ true → SamePending old new
   pub time : old.honest ≡ true → Elapses old new
 
--- how many faults of the device an answer stands for
+-- how many faults of the device a result means
 abbrev pub faults_of : {A : Type 0} → Result A PoolFault → ℕ
 faults_of (Ok a) = 0
 faults_of (Err NoCleanFrame) = 0

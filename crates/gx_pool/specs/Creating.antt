@@ -25,6 +25,6 @@ pub record Makes (old new : State) (page : ℕ) (contents : Contents) (batch : �
 abbrev pub Creates : State → State → ℕ → ℕ → ℕ → Type 0
 Creates old new page level batch = Makes old new page (blank level page) batch
 
--- a page was made as a copy of one that was kept, but for its own number
+-- a page was made as a copy of one that was kept, except for its own number
 abbrev pub Copies : State → State → ℕ → ℕ → ℕ → Type 0
 Copies old new page from batch = (k : Kept) → kept old from ≡ Some k → Makes old new page (numbered k.page page) batch

@@ -12,7 +12,7 @@ use Rattle.gx_pool.specs.Bringing.{BringsOne}
 use Rattle.gx_pool.specs.Edits.{changed}
 use Rattle.gx_pool.specs.State.{State, kept}
 
--- a page was brought, and is lent as it is kept
+-- a page was brought, and is lent
 pub record Views {T : Type 0} (passes : Contents → Bool) (d e : Device) (old new : Pool T) (page : ℕ) (result : Result (Bor Contents) PoolFault) : Type 0 where
   pub brought : BringsOne passes d e old.frames new.frames page result
   pub lent : IfOk result (λ r. IfSome (kept new.frames page) (λ k. r.now ≡ k.page))

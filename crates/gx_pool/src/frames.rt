@@ -204,7 +204,7 @@ impl Frames {
         }
     }
 
-    /// Copies the page of one frame into another, under a number of its own.
+    /// Copies the page of one frame into another, under another number.
     #[tactic(auto, using(crate::proofs::Places::with_page_sound))]
     fn copy(&mut self, from: usize, to: usize, number: u32)
         requires inside { (from < length self.old.marks) × (to < length self.old.marks) }

@@ -209,7 +209,7 @@ pub(crate) fn frame_to_use(
     }
 }
 
-/// Copies the page of one frame into another, under a number of its own.
+/// Copies the page of one frame into another, under another number.
 pub(crate) fn copy_page(pages: &mut [Page], from: usize, to: usize, number: u32)
     requires inside { (from < length pages.old) × (to < length pages.old) }
     requires apart { from ≢ to }
@@ -224,7 +224,7 @@ pub(crate) fn copy_page(pages: &mut [Page], from: usize, to: usize, number: u32)
     }
 }
 
-/// Copies a page, under a number of its own.
+/// Copies a page, under another number.
 fn copy_as(page: &mut Page, from: &Page, number: u32)
     ensures { page.new ≡ numbered from.now number }
 {
@@ -245,7 +245,7 @@ fn dirty_after(dirty: usize, was: bool, is: bool) -> usize
     }
 }
 
-/// Notes what is known of a frame; answers how many frames are dirty then, of so many before.
+/// Notes what is known of a frame; returns how many frames are dirty then, of so many before.
 pub(crate) fn set_mark(marks: &mut Vec<FrameMark>, i: usize, mark: FrameMark, dirty: usize) -> usize
     requires frame { (i < length marks.old.items) × (length marks.old.items ≤ FRAMES) }
     requires counted { dirty ≡ count_by is_dirty marks.old.items }

@@ -128,7 +128,7 @@ impl<T: PageTest> Pool<T> {
         }
     }
 
-    /// Brings a page into a frame, unless it is in one, and leaves what is held as it is: `page` reads it then. A clean
+    /// Brings a page into a frame, unless it is in one, and doesn't change what is held: `page` reads it then. A clean
     /// frame that is empty or has a leaf is used before one with a page above the leaves. Where the page is in one, or
     /// no frame is clean (empty, or with a clean page that isn't held), the device isn't called. At most one page goes
     /// for it, and none where it is in a frame.
@@ -242,7 +242,7 @@ impl<T: PageTest> Pool<T> {
         Ok(true)
     }
 
-    /// Writes a page to its sectors, where it has changes and all of them are in gated batches, and answers whether
+    /// Writes a page to its sectors, where it has changes and all of them are in gated batches, and returns whether
     /// that was so; else nothing is done. Once it is written it is clean, and its frame may go to another page.
     ///
     /// Whether it succeeds or not, no sector but the page's eight changes, each other page is kept as it was, and what

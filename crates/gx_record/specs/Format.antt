@@ -2,7 +2,6 @@
 use Rattle.std.specs.Prelude.{◌≡◌, ℕ, ◌+◌, ◌^◌, ◌<◌, ◌≤◌, List, [], ◌∷◌, ◌++◌, length, drop}
 use Rattle.gx_page.specs.Reading.{IsImage, read_of}
 use Rattle.gx_record.specs.Bytes.{u64_bytes, u32_bytes, u16_bytes, mark_byte}
-use Rattle.gx_record.specs.declared.sizes.TheConstants.{MOST_SLOTS}
 use Rattle.gx_record.specs.Rec.{Rec, Pages, Write, Commit, End, Counters, Note, Bit, Add, Widen, Sweep}
 use Rattle.gx_record.specs.Slots.{slots_bytes, AreSlots}
 
@@ -63,7 +62,7 @@ IsInRange (Note tx row key before leaf) = (tx < 2 ^ 64) × (row < 2 ^ 64) × (le
 IsInRange (Bit tx row key before after leaf) = (tx < 2 ^ 64) × (row < 2 ^ 64) × IsPageNumber leaf
 IsInRange (Add tx row key leaf) = (tx < 2 ^ 64) × (row < 2 ^ 64) × IsPageNumber leaf
 IsInRange (Widen page slot key) = IsPageNumber page × (slot < 2 ^ 16)
-IsInRange (Sweep page slots) = IsPageNumber page × (1 ≤ length slots) × (length slots ≤ MOST_SLOTS) × AreSlots 0 slots
+IsInRange (Sweep page slots) = IsPageNumber page × (1 ≤ length slots) × (length slots ≤ 100) × AreSlots 0 slots
 
 -- a key has so many bytes
 abbrev pub HasKey : ℕ → Rec → Type 0

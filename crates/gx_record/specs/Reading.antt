@@ -3,7 +3,7 @@ use Rattle.std.specs.Prelude.{◌≡◌, ℕ, zero, suc, ◌+◌, ◌*◌, ◌==
 use Rattle.gx_page.specs.declared.block.TheConstants.{PAGE_SIZE}
 use Rattle.gx_page.specs.Faults.{fault_of}
 use Rattle.gx_page.specs.Reading.{read_of}
-use Rattle.gx_record.specs.declared.sizes.TheConstants.{MOST_SLOTS, SLOT_NUMBER}
+use Rattle.gx_record.specs.declared.sizes.TheConstants.{SLOT_NUMBER}
 use Rattle.gx_record.specs.Bytes.{u64_of, u32_of, u16_of}
 use Rattle.gx_record.specs.Rec.{Rec, Pages, Write, Commit, End, Counters, Note, Bit, Add, Widen, Sweep}
 use Rattle.gx_record.specs.Slots.{slots_in, rise_from}
@@ -159,7 +159,7 @@ rising_slots_at count bytes = do
 -- one slot to the most, behind their count
 unfoldable pub slots_at : List ℕ → Option (List ℕ × List ℕ)
 slots_at [] = None
-slots_at (count ∷ rest) = if nat_lt count 1 || nat_lt MOST_SLOTS count then None else rising_slots_at count rest
+slots_at (count ∷ rest) = if nat_lt count 1 || nat_lt 100 count then None else rising_slots_at count rest
 
 unfoldable pub sweep_at : List ℕ → Option (Rec × List ℕ)
 sweep_at bytes = do

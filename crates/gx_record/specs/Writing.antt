@@ -4,7 +4,7 @@ use Rattle.std.specs.List.{AllByRecursion}
 use Rattle.gx_page.specs.declared.block.TheConstants.{PAGE_SIZE}
 use Rattle.gx_page.specs.Bytes.{overwrite}
 use Rattle.gx_record.specs.declared.sizes.TheConstants.{ADD_BESIDE_KEY, BIT_BESIDE_KEY, COMMIT_RECORD, COUNTERS_RECORD, END_RECORD}
-use Rattle.gx_record.specs.declared.sizes.TheConstants.{MOST_SLOTS, NUMBERED_IMAGE, NOTE_BESIDE_KEY, PAGES_HEAD, SLOT_NUMBER, SWEEP_BESIDE_SLOTS, WIDEN_BESIDE_KEY, WRITE_BESIDE_KEY}
+use Rattle.gx_record.specs.declared.sizes.TheConstants.{NUMBERED_IMAGE, NOTE_BESIDE_KEY, PAGES_HEAD, SLOT_NUMBER, SWEEP_BESIDE_SLOTS, WIDEN_BESIDE_KEY, WRITE_BESIDE_KEY}
 use Rattle.gx_record.specs.Rec.{Rec, Pages, Write, Commit, End, Counters, Note, Bit, Add, Widen, Sweep}
 
 -- a text stands from a place on up to another one, and all else is as it was
@@ -37,5 +37,5 @@ IsWhole p = length p.1 ≡ PAGE_SIZE
 abbrev pub IsSized : Rec → Type 0
 IsSized (Pages counter used pages) = AllByRecursion IsWhole pages
 IsSized (Write tx row key before after leaf image) = length image ≡ PAGE_SIZE
-IsSized (Sweep page slots) = length slots ≤ MOST_SLOTS
+IsSized (Sweep page slots) = length slots ≤ 100
 IsSized _ = Unit {0}

@@ -1,4 +1,4 @@
--- What reading a log from its beginning tells, apart from the pages.
+-- What reading a log from its beginning gives, apart from the pages.
 use Rattle.std.specs.Prelude.{ℕ, ◌+◌, max, Bool, not, ◌&&◌, ◌==◌, List, [], ◌∷◌, filter}
 use Rattle.std.specs.List.{list_any}
 use Rattle.std.specs.declared.cmp.Ordering.{Ordering}
@@ -50,7 +50,7 @@ read_on k a (r ∷ rs) = read_on k (read k a r) rs
 abbrev pub unread : {E : Type 0} → Analysis E
 unread = record { number = 0; counter = 0; used = 0; next = 0; touched = [] }
 
--- what a log tells
+-- what a log says
 abbrev pub analysis : {E P : Type 0} → Known E P → List (Record E P) → Analysis E
 analysis k log = read_on k unread log
 

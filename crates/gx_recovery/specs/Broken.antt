@@ -52,7 +52,7 @@ abbrev pub breaks_commit : {E : Type 0} → (t number : ℕ) → Kept E → LogR
 breaks_commit t number s CommitNumber = not (number == s.told.number + 1)
 breaks_commit t number s rule = breaks_end t s rule
 
--- A test by a rule: what may come passes, and what may not breaks the rule that is told.
+-- A test by a rule: what may come passes, and what may not breaks the rule that is returned.
 abbrev pub Tested : Bool → (LogRule → Bool) → Result (Unit {0}) LogRule → Type 0
 Tested may breaks (Ok done) = may ≡ true
 Tested may breaks (Err rule) = (may ≡ false) × (breaks rule ≡ true)

@@ -35,7 +35,7 @@ IsExact {E} k log old new (End transaction) = (e : E) → Restored k transaction
 IsExact k log old new (Counters number counter used next) = Unit {0}
 IsExact k log old new (Note transaction entry before leaf) = Unit {0}
 
--- what is touched stands on its leaf or to the right of it
+-- what is touched is on its leaf or to the right of it
 abbrev pub Placed : {E P : Type 0} → Known E P → Tree P → List (Touch E) → Type 0
 Placed k tree [] = Unit {0}
 Placed k tree (x ∷ xs) = k.placed tree x.entry x.leaf × Placed k tree xs
@@ -74,9 +74,10 @@ abbrev pub IsSaid : {E P : Type 0} → Known E P → ℕ → Said P → List (Re
 IsSaid k leaf (Whole content) log = k.own content ≡ leaf
 IsSaid k leaf (Small change) log = change_fits k change (given leaf log) ≡ true
 
--- A write that is sound: its transaction is open; its entry is one of the class, and no other open transaction has touched
--- it; a whole content is of its own leaf, and a small change fits what the log gives of that; the leaf is in use; there is room for one touch more; it changes its entry alone; and
--- the tree after it is sound, with the entry on that leaf or to the right of it, and all else that is touched in its place.
+-- A write that is sound: its transaction is open; its entry is one of the class, and no other open transaction has
+-- touched it; a whole content is of its own leaf, and a small change fits what the log gives of that; the leaf is in
+-- use; there is room for one touch more; it changes only its entry; and the tree after it is sound, with the entry on
+-- that leaf or to the right of it, and all else that is touched in its place.
 pub record IsSoundWrite {E P : Type 0} (k : Known E P) (area : ℕ → P) (log : List (Record E P)) (t : ℕ) (entry : E) (before after : Bool) (leaf : ℕ) (said : Said P) : Type 0 where
   pub open_yet : is_open t log ≡ true
   pub of_class : k.is_entry entry ≡ true

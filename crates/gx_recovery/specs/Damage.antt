@@ -29,8 +29,8 @@ abbrev pub transactions : {E : Type 0} → List (Touch E) → ℕ
 transactions [] = 0
 transactions (x ∷ xs) = if list_any (λ y. y.transaction == x.transaction) xs then transactions xs else transactions xs + 1
 
--- What a log may tell at any record's end: the pages in use are the device's; what open transactions have touched fits,
--- and lies apart; so many transactions may be open at once, and have touched so many entries in all.
+-- What a log may say at any record's end: the pages in use are the device's; what open transactions have touched fits,
+-- and no two share an entry; so many transactions may be open at once, and have touched so many entries in all.
 abbrev pub fits : {E P : Type 0} → Known E P → Analysis E → Bool
 fits k a =
     nat_le a.used k.pages && (list_all (touch_fits k a.used) a.touched && (apart k a.touched
@@ -49,7 +49,7 @@ said_fits k leaf (Small change) log = change_fits k change (given leaf log)
 abbrev pub is_open : {E P : Type 0} → ℕ → List (Record E P) → Bool
 is_open t log = is_transaction t && not (settled any_number t log)
 
--- Whether a record by itself may come after a log of which a is told. Neither the counter nor the pages in use fall.
+-- Whether a record by itself may come after a log that says a. Neither the counter nor the pages in use fall.
 abbrev pub may_follow : {E P : Type 0} → Known E P → List (Record E P) → Analysis E → Record E P → Bool
 may_follow k log a (Pages images counter used) = nat_le a.counter counter && (nat_le a.used used && list_all (image_fits k used) images)
 may_follow k log a (Adjust page change) = change_fits k change (given page log)
@@ -59,7 +59,7 @@ may_follow k log a (End transaction) = is_open transaction log
 may_follow k log a (Counters number counter used next) = false
 may_follow k log a (Note transaction entry before leaf) = false
 
--- a record may follow a log: by itself, and by what the log then tells
+-- a record may follow a log: by itself, and by what the log then says
 abbrev pub follows : {E P : Type 0} → Known E P → List (Record E P) → Record E P → Bool
 follows k log r = may_follow k log (analysis k log) r && fits k (analysis k (log ++ r ∷ []))
 

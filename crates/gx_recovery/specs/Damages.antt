@@ -8,13 +8,13 @@ use Rattle.gx_recovery.specs.Given.{given}
 use Rattle.gx_recovery.specs.Damage.{is_transaction, is_page, apart, transactions, is_note, note_fits, records_of}
 use Rattle.gx_recovery.specs.declared.TheConstants.{TRANSACTIONS, TOUCHED}
 
--- The items. NoBody: the first gate is closed. NoHead: the first body isn't Counters and then notes alone. HeadLater: they
--- stand in a later body. NotDevice: more pages are in use than the device has. PageNumber: a page's number is 0, or isn't
--- in use. OwnNumber: a content's own number isn't the page's. LeafNumber: so of a touch's leaf. NoEntry: a key isn't one
--- of the class. LastNumber: a transaction has the number that none can follow. Closed: a transaction writes, commits or
--- ends that has committed or ended. CommitNumber: it isn't the last one plus one. CounterFalls, UsedFalls. Shared: two
--- open transactions have touched one entry. TooManyOpen, TooManyTouched. NoImage: a small change is of a page that the log
--- hasn't given whole. Unfit: it doesn't fit what the log gives.
+-- The items. NoBody: the first gate is closed. NoHead: the first body isn't Counters and then notes alone. HeadLater:
+-- they are in a later body. NotDevice: more pages are in use than the device has. PageNumber: a page's number is 0, or
+-- isn't in use. OwnNumber: a content's own number isn't the page's. LeafNumber: so of a touch's leaf. NoEntry: a key
+-- isn't one of the class. LastNumber: a transaction has the number that none can follow. Closed: a transaction writes,
+-- commits or ends that has committed or ended. CommitNumber: it isn't the last one plus one. CounterFalls, UsedFalls.
+-- Shared: two open transactions have touched one entry. TooManyOpen, TooManyTouched. NoImage: a small change is of a
+-- page that the log hasn't given whole. Unfit: it doesn't fit what the log gives.
 pub data Damage : Type 0 where
   NoBody : Damage
   NoHead : Damage
@@ -39,7 +39,8 @@ pub data Damage : Type 0 where
 abbrev pub unless : Bool → Damage → List Damage → List Damage
 unless test item items = if test then items else item ∷ items
 
--- what is wrong with what a log tells at a record's end, where leaves says whether leaves are in use beside those it tells
+-- what is wrong with what a log says at a record's end, where leaves says whether the leaves besides those that it
+-- names are in use
 abbrev pub misfits : {E P : Type 0} → Known E P → Bool → Analysis E → List Damage
 misfits k leaves a =
     unless (nat_le a.used k.pages) NotDevice
@@ -64,7 +65,7 @@ abbrev pub unsaid : {E P : Type 0} → Known E P → ℕ → Said P → List (Re
 unsaid k leaf (Whole content) log items = unless (k.own content == leaf) OwnNumber items
 unsaid k leaf (Small change) log items = unfitting k change (given leaf log) items
 
--- what is wrong with a record by itself, after a log of which a is told; more is what is wrong at its end
+-- what is wrong with a record by itself, after a log that says a; more is what is wrong at its end
 abbrev pub unfollowing : {E P : Type 0} → Known E P → List (Record E P) → Analysis E → Record E P → List Damage → List Damage
 unfollowing k log a (Pages images counter used) more =
     unless (nat_le a.counter counter) CounterFalls

@@ -10,7 +10,7 @@ use Rattle.gx_recovery.specs.Records.{Touch}
 use Rattle.gx_recovery.specs.Analysis.{Analysis, touching, without}
 use Rattle.gx_recovery.specs.Damage.{is_transaction, is_page, transactions}
 
--- What the records so far tell, the transactions that they close, and how many pages the device has.
+-- What the records so far say, the transactions that they close, and how many pages the device has.
 pub record Kept (E : Type 0) : Type 0 where
   pub told : Analysis E
   pub closed : List ℕ
@@ -71,7 +71,7 @@ may_end t s = is_transaction t && not (is_closed t s.closed)
 abbrev pub may_commit : {E : Type 0} → (t number : ℕ) → Kept E → Bool
 may_commit t number s = may_end t s && number == s.told.number + 1
 
--- what is told with these numbers; with one more touch; with pages; with an end, and a commit
+-- what is kept after these numbers; after one more touch; after pages; after an end, and a commit
 abbrev pub with_counters : {E : Type 0} → (number counter used next : ℕ) → Kept E → Kept E
 with_counters number counter used next s = record s { told = record s.told { number = number; counter = counter; used = used; next = next } }
 

@@ -18,9 +18,9 @@ pub record Limits : Type 0 where
   pub pages : ℕ
   pub head : List ℕ
 
--- The order of entries; which are live in the pages; whether the tree of the pages is sound; whether an entry stands on
--- a leaf or to the right of it; whether an entry's key is one of the class; the number that a page's content has as its
--- own; how many entries a node may have; how many pages the device has; what is read of its first two sectors.
+-- The order of entries; which are live in the pages; whether the tree of the pages is sound; whether an entry is on a
+-- leaf or to the right of it; whether an entry's key is one of the class; a page content's own number; how many entries
+-- a node may have; how many pages the device has; what is read of its first two sectors.
 pub record Known (E P : Type 0) : Type 1 where
   pub cmp : E → E → Ordering
   pub live : Tree P → E → Bool

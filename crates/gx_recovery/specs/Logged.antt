@@ -47,7 +47,7 @@ begun s = record s { flight = s.filling; filling = [] }
 abbrev pub gate_synced : {E P : Type 0} → Logged E P → Logged E P
 gate_synced s = record s { gated = s.gated ++ s.flight; flight = [] }
 
--- an area that has each page as the old one has it, but for pages that the log gives whole
+-- an area that has each page as the old one has it, except for pages that the log gives whole
 abbrev pub AgreesBeside : {E P : Type 0} → List (Record E P) → (ℕ → P) → (ℕ → P) → Type 0
 AgreesBeside log old new = (p : ℕ) → list_any (gives p) log ≡ false → new p ≡ old p
 

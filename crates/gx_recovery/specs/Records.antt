@@ -30,7 +30,7 @@ pub data Record (E P : Type 0) : Type 0 where
   Counters : (number counter used next : ℕ) → Record E P
   Note : (transaction : ℕ) (entry : E) (before : Bool) (leaf : ℕ) → Record E P
 
--- an entry that a transaction wrote: the mark that it had before, and the leaf that it stood on
+-- an entry that a transaction wrote: the mark that it had before, and its leaf
 pub record Touch (E : Type 0) : Type 0 where
   pub transaction : ℕ
   pub entry : E

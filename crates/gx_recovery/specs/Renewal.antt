@@ -14,8 +14,8 @@ notes_of (x ∷ xs) = Note x.transaction x.entry x.before x.leaf ∷ notes_of xs
 abbrev pub head_of : {E P : Type 0} → Analysis E → List (Record E P)
 head_of a = Counters a.number a.counter a.used a.next ∷ notes_of a.touched
 
--- the log that stands in the place of this one, with this as the next transaction's number: a running index has given
--- numbers to transactions that have logged nothing yet
+-- the log that replaces this one, with this as the next transaction's number: a running index has given numbers to
+-- transactions that have logged nothing yet
 abbrev pub renewed : {E P : Type 0} → Known E P → ℕ → List (Record E P) → List (Record E P)
 renewed k next log = head_of (record (analysis k log) { next = next })
 
@@ -23,6 +23,6 @@ renewed k next log = head_of (record (analysis k log) { next = next })
 abbrev pub renewed_over : {E P : Type 0} → Known E P → ℕ → (ℕ → P) → List (Record E P) → Logged E P
 renewed_over k next area log = record { area = redone area log; gated = renewed k next log; flight = []; filling = [] }
 
--- a log as it is found over a page area, before anything is done to it
+-- a log that is found over a page area, before anything is done to it
 abbrev pub found : {E P : Type 0} → (ℕ → P) → List (Record E P) → Logged E P
 found area log = record { area = area; gated = log; flight = []; filling = [] }

@@ -16,7 +16,7 @@ abbrev pub first_before : {E P : Type 0} → Known E P → (ℕ → Bool) → E 
 first_before k counts e [] = None
 first_before k counts e (r ∷ rs) = option_or (mark_before k counts e (touch_of r)) (first_before k counts e rs)
 
--- an entry is in the set by its first mark before, and where it has none, as it is live
+-- an entry is in the set by its first mark before, or, where it has none, if it is live
 abbrev pub by_mark : Option Bool → Bool → Bool
 by_mark None live = live
 by_mark (Some before) live = not before
@@ -25,7 +25,7 @@ by_mark (Some before) live = not before
 abbrev pub counting : {E P : Type 0} → (ℕ → Bool) → List (Record E P) → ℕ → Bool
 counting passes log t = not (settled passes t log)
 
--- whether an entry is in the set: by its first mark before among the transactions that count, or else as it is live
+-- whether an entry is in the set: by its first mark before among the transactions that count, or else if it is live
 abbrev pub stands : {E P : Type 0} → Known E P → (ℕ → Bool) → (ℕ → P) → List (Record E P) → E → Bool
 stands k passes area log e = by_mark (first_before k (counting passes log) e log) (k.live (tree_of k area log) e)
 
@@ -41,6 +41,6 @@ set_of k number area log e = stands k (λ n. nat_le n number) area log e
 abbrev pub own_before : {E P : Type 0} → Known E P → ℕ → E → List (Record E P) → Option Bool
 own_before k t e log = first_before k (λ u. u == t) e log
 
--- the view of a transaction: what it touched as it is live, all else from the last set
+-- the view of a transaction: what it touched is in it if it is live, all else if it is in the last set
 abbrev pub view_of : {E P : Type 0} → Known E P → ℕ → (ℕ → P) → List (Record E P) → E → Bool
 view_of k t area log e = if is_some (own_before k t e log) then k.live (tree_of k area log) e else set_of k (number_of k log) area log e

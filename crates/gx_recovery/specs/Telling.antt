@@ -1,4 +1,4 @@
--- That what is kept of a log tells what may follow it: by the definitions of logs and of damaged ones.
+-- What is kept of a log decides what may follow it, by the definitions of logs and of damaged ones.
 use Rattle.std.specs.Prelude.{◌≡◌, ℕ, Bool, true, false, ◌&&◌, List, [], ◌∷◌, ◌++◌, map, nat_le}
 use Rattle.gx_recovery.specs.Known.{Known, IsLawful}
 use Rattle.gx_recovery.specs.Records.{Image, Change, Said, Record, Pages, Adjust, Write, Commit, End, Counters, Note, Touch, settled, any_number}
@@ -7,7 +7,7 @@ use Rattle.gx_recovery.specs.Given.{given, change_fits}
 use Rattle.gx_recovery.specs.Damage.{said_fits, follows, is_head, IsLog}
 use Rattle.gx_recovery.specs.Kept.{Kept, is_closed, may_touch, may_write, may_give, may_end, may_commit, with_counters, with_touch, with_pages, with_end, with_commit, ClosedBy}
 
--- What is kept is what the log tells, with a transaction among the closed ones just where the log closes it.
+-- What is kept is what the log says, with a transaction among the closed ones just where the log closes it.
 pub record IsKept {E P : Type 0} (k : Known E P) (log : List (Record E P)) (s : Kept E) : Type 0 where
   pub told : s.told ≡ analysis k log
   pub closed : (t : ℕ) → is_closed t s.closed ≡ settled any_number t log
@@ -28,8 +28,8 @@ pub record TellsHead {E P : Type 0} (k : Known E P) (head : List (Record E P)) (
   pub exact : is_head k head ≡ may
   pub kept : IsKept k head new
 
--- A write of an entry of the class. Whether what it says of its leaf fits is told by the pages that the log gives, and by nothing that
--- is kept here.
+-- A write of an entry of the class. Whether what it says of its leaf fits depends on the pages that the log gives, and
+-- on nothing that is kept here.
 abbrev pub WritesTell : {E P : Type 0} → Known E P → Type 0
 WritesTell {E} {P} k = IsLawful k → (log : List (Record E P)) (s : Kept E) → IsLog k log → IsKept k log s → (t : Touch E) (after : Bool) (said : Said P)
     → k.is_entry t.entry ≡ true
@@ -40,8 +40,8 @@ abbrev pub NoEntryIsRefused : {E P : Type 0} → Known E P → Type 0
 NoEntryIsRefused {E} {P} k = IsLawful k → (log : List (Record E P)) → IsLog k log → (t : Touch E) (after : Bool) (said : Said P) → k.is_entry t.entry ≡ false
     → follows k log (Write t.transaction t.entry t.before after t.leaf said) ≡ false
 
--- A small change of no transaction follows where it fits the page that the log gives, and leaves what is kept as it is. Such a page is in
--- use, so its number is no test of its own.
+-- A small change of no transaction follows where it fits the page that the log gives, and changes nothing that is kept.
+-- Such a page is in use, so its number isn't tested again.
 abbrev pub ChangesTell : {E P : Type 0} → Known E P → Type 0
 ChangesTell {E} {P} k = IsLawful k → (log : List (Record E P)) (s : Kept E) → IsLog k log → IsKept k log s → (page : ℕ) (change : Change P)
     → Tells k log (Adjust page change) (change_fits k change (given page log)) s
@@ -51,7 +51,7 @@ abbrev pub AreOwn : {E P : Type 0} → Known E P → List (Image P) → Type 0
 AreOwn k [] = Unit {0}
 AreOwn k (i ∷ images) = (k.own i.content ≡ i.page) × AreOwn k images
 
--- pages, each with an image of its own
+-- pages, each with its image
 abbrev pub PagesTell : {E P : Type 0} → Known E P → Type 0
 PagesTell {E} {P} k = IsLawful k → (log : List (Record E P)) (s : Kept E) → IsLog k log → IsKept k log s → (images : List (Image P)) (counter used : ℕ)
     → AreOwn k images

@@ -157,7 +157,8 @@ rows =
     ∷ later (small_insert 1 7 ∷ []) (NoImage ∷ [])
     ∷ later (Adjust 2 (sweeping 7) ∷ []) (NoImage ∷ [])
     ∷ later (insert 1 7 ∷ Adjust 1 (adding 8) ∷ []) (NoImage ∷ [])
-    -- one that doesn't fit: the entry is there; its page has as many as it may; it isn't there; it is there without a mark
+    -- one that doesn't fit: the page has the entry already; it has as many as it may; it doesn't have the entry; it has
+    -- the entry without a mark
     ∷ later (insert 1 7 ∷ small_insert 1 7 ∷ []) (Unfit ∷ [])
     ∷ later (insert 1 7 ∷ small_insert 1 8 ∷ small_insert 1 9 ∷ small_insert 1 6 ∷ []) (Unfit ∷ [])
     ∷ later (insert 1 7 ∷ Adjust 2 (sweeping 8) ∷ []) (Unfit ∷ [])

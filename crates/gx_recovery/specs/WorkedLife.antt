@@ -39,7 +39,7 @@ restore_8 = Write 2 8 false true 3 (Whole (leaf 3 (marked 8 ∷ [])))
 abbrev pub end_2 : Record ℕ Content
 end_2 = End 2
 
--- what is marked and claimed by nobody is swept away, by a small change of no transaction
+-- what is marked and claimed by no session is swept, by a small change of no transaction
 abbrev pub sweep_8 : Record ℕ Content
 sweep_8 = Adjust 3 (sweeping 8)
 

@@ -19,11 +19,11 @@ use gx_geom::Refusal;
 use std::alloc::{AllocError, Global};
 use std::marker::Model;
 
-/// What the records of a log tell so far: its numbers, the touches of its open transactions (by transaction, then by
+/// What the records of a log say so far: its numbers, the touches of its open transactions (by transaction, then by
 /// entry, each once, with the first mark before and the last leaf), and the transactions that it closes.
 ///
-/// Each record of the log is told in turn, and refused exactly where it may not come next, by a rule that it breaks.
-/// All memory is taken at the start.
+/// It takes each record of the log in turn, and refuses it exactly where it may not come next, by a rule that it
+/// breaks. All memory is taken at the start.
 #[derive(Drop)]
 pub struct Analysis<E> {
     number: u64,
@@ -103,6 +103,13 @@ impl<E: Copy + Ord> Analysis<E> {
             touched: Vec::with_capacity(alloc, TOUCHED)?,
             closed: Closed::new(alloc)?,
         })
+    }
+
+    /// For a device of so many pages, whatever it was for.
+    pub fn set_pages(&mut self, pages: u32)
+        ensures { self.new ≡ record self.old { pages = pages } }
+    {
+        self.pages = pages;
     }
 
     /// The number of the log's last commit.
@@ -227,7 +234,7 @@ impl<E: Copy + Ord> Analysis<E> {
         }
     }
 
-    /// A write, whatever it says of its leaf: whether that fits isn't told by what is kept here. Refused where its
+    /// A write, whatever it says of its leaf: what is kept here doesn't decide whether that fits. Refused where its
     /// transaction is closed (`Ended`), and as a note is.
     pub fn on_write(&mut self, t: Touch<E>) -> Result<(), LogRule>
         ensures takes { Takes (may_write E.Ord.cmp t self.old) (with_touch E.Ord.cmp t self.old)

@@ -1,4 +1,4 @@
-//! What is kept of a log tells what may follow it. Each function is its contract alone.
+//! What is kept of a log decides what may follow it. Each function is its contract alone.
 ghost use Rattle.gx_recovery.specs.Known.{Limits};
 ghost use Rattle.gx_recovery.specs.Telling.{WritesTell, NoEntryIsRefused, ChangesTell, PagesTell, CommitsTell};
 ghost use Rattle.gx_recovery.specs.Telling.{EndsTell, CountersTell, NotesTell, NoEntryIsNoNote, HeadsBegin};
@@ -6,9 +6,10 @@ ghost use Rattle.gx_recovery.specs.Telling.{EndsTell, CountersTell, NotesTell, N
 use crate::Meaning;
 
 /// A record follows an undamaged log just where the test of what is kept of that log passes; and what is kept then is
-/// what the longer log tells. So the passes and refusals of [`crate::Analysis`] are those of the definition of damaged
-/// logs, but for what is said of pages: whether an image is its page's own, and whether a small change fits the page
-/// that the log gives, is told by whoever keeps these. A small change of no transaction is tested by that alone.
+/// what the longer log says. So the passes and refusals of [`crate::Analysis`] are those of the definition of damaged
+/// logs, except for what is said of pages: whether an image is its page's own, and whether a small change fits the page
+/// that the log gives, is for the caller that keeps the pages. A small change of no transaction is tested by that
+/// alone.
 pub fn the_kept_state_tells_what_follows<M: Meaning>()
     ensures write { (d : Limits) → WritesTell (M.known d) }
     ensures no_entry { (d : Limits) → NoEntryIsRefused (M.known d) }

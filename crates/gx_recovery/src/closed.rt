@@ -30,7 +30,7 @@ impl Model for Closed {
     ghost invariant = { λ c. (CLOSINGS ≤ vec_capacity c.numbers) × IsNonDecreasing c.numbers.items };
 }
 
-/// Where a number stands among numbers that rise, or goes, searched by halves.
+/// The place of a number among numbers that rise, or else the place where it would go, searched by halves.
 fn find(t: u64, numbers: &[u64]) -> Result<usize, usize>
     requires { IsNonDecreasing numbers.now }
     ensures { MatchResult result

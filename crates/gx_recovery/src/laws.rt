@@ -1,5 +1,5 @@
 //! What holds of every log.
-ghost use Rattle.std.specs.Prelude.{◌≡◌, ℕ, ◌+◌, ◌<◌, ◌≤◌, Bool, true, false, not, if◌then◌else◌};
+ghost use Rattle.std.specs.Prelude.{◌≡◌, ℕ, ◌+◌, ◌^◌, ◌<◌, ◌≤◌, Bool, true, false, not, if◌then◌else◌};
 ghost use Rattle.std.specs.Prelude.{is_some, unwrap_or, None, Some, List, [], ◌∷◌, ◌++◌};
 ghost use Rattle.std.specs.List.{list_all, list_any};
 ghost use Rattle.gx_recovery.specs.Known.{Tree, Limits, IsLawful};
@@ -19,8 +19,17 @@ ghost use Rattle.gx_recovery.specs.Logged.{begun, gate_synced, AgreesBeside, IsL
 ghost use Rattle.gx_recovery.specs.Renewal.{renewed, renewed_over, found};
 ghost use Rattle.gx_recovery.specs.Life.{IsMove, Stays, Durable, kept_of, append_move, AllWritten};
 ghost use Rattle.gx_recovery.specs.Life.{LogStep, IsLogStep, move_of, IsLife, moves_of, AreMoves};
+ghost use Rattle.gx_recovery.specs.declared.TheConstants.{LAST_TRANSACTION, TOUCHED, TRANSACTIONS};
 
 use crate::Meaning;
+
+/// The limits of a log, in numbers: eight transactions may be open at once, which may have touched 512 entries in all,
+/// and no transaction has number 2^64 - 1.
+pub fn limits()
+    ensures transactions { TRANSACTIONS ≡ 8 }
+    ensures touched { TOUCHED ≡ 512 }
+    ensures last { LAST_TRANSACTION + 1 ≡ 2 ^ 64 }
+{}
 
 /// A record that may come is appended: no kept set changes, and a commit adds one, the view of its transaction.
 pub fn append_keeps_sets<M: Meaning>()
@@ -86,8 +95,8 @@ pub fn checkpoint_keeps_the_set<M: Meaning>()
 {}
 
 /// Redo may be cut off at any point and made again: over pages of which the log gives some whole, whatever is on those,
-/// it leaves the same pages. Where the log passes its tests it leaves all others as they are, and made twice it is made
-/// once: else a small change could be made of a page that the log doesn't give, and made again.
+/// it leaves the same pages. Where the log passes its tests redo changes no other page, and made twice it is made once:
+/// else a small change could be made of a page that the log doesn't give, and made again.
 pub fn redo_may_be_made_again<M: Meaning>()
     ensures again { (log : List (Record M.Entry M.Page)) (old new : ℕ → M.Page) → AgreesBeside log old new
         → redone new log ≡ redone old log }
@@ -98,9 +107,9 @@ pub fn redo_may_be_made_again<M: Meaning>()
 {}
 
 /// What a log by itself gives of a page, the last whole content with the small changes since, is that page after it;
-/// and a page of which it gives nothing is as it was. So whoever tests a log record by record has, in what is given,
-/// the pages that redo writes. Of what a log says anything it gives the whole: an image comes first. So a page may be
-/// written once all its records are gated, as the gated records then give it. A renewed log gives nothing:
+/// and a page of which it gives nothing is as it was. So a test of a log record by record has, in what is given, the
+/// pages that redo writes. A log gives the whole of each page of which it says anything: an image comes first. So a
+/// page may be written once all its records are gated, as the gated records then give it. A renewed log gives nothing:
 /// each page's image comes anew. What is given is a page in use: so is the page of any small change that fits.
 pub fn a_log_gives_what_it_speaks_of<M: Meaning>()
     ensures given { (log : List (Record M.Entry M.Page)) (p : ℕ) (area : ℕ → M.Page) (content : M.Page)
@@ -123,9 +132,9 @@ pub fn a_log_gives_what_it_speaks_of<M: Meaning>()
         → is_page (analysis (M.known d) log).used p ≡ true }
 {}
 
-/// A log as it is found, undamaged and over pages that are good for it, is a healthy state with nothing in flight,
-/// which keeps the one set that it stands for. So an opening's page writes and its checkpoint are steps like any
-/// others, and a crash in the midst of it leaves that set.
+/// A log that is found undamaged and over pages that are good for it is a healthy state with nothing in flight, which
+/// keeps the one set that it stands for. So an opening's page writes and its checkpoint are steps like any others, and
+/// a crash in the midst of it leaves that set.
 pub fn found_log_keeps_its_set<M: Meaning>()
     ensures healthy { (d : Limits) → (area : ℕ → M.Page) (log : List (Record M.Entry M.Page)) → IsLog (M.known d) log
         → IsGood (M.known d) (tree_of (M.known d) area log) log → IsHealthy (M.known d) (found area log) }
@@ -190,8 +199,8 @@ pub fn commit_and_end_may_come<M: Meaning>()
         → MayCome (M.known d) area log (End t) }
 {}
 
-/// A write, pages, or a small change of no transaction, that are exact and sound may come:
-/// what the log then tells still fits.
+/// A write, pages, or a small change of no transaction, that are exact and sound may come: what the log then says still
+/// fits.
 pub fn sound_records_may_come<M: Meaning>()
     ensures write { (d : Limits) → IsLawful (M.known d) → (area : ℕ → M.Page) (log : List (Record M.Entry M.Page))
         → IsLog (M.known d) log
@@ -279,8 +288,8 @@ pub fn closed_gates_end_the_log<M: Meaning>()
 {}
 
 /// The next transaction's number is above every transaction's of a log, and never falls: by a record, nor by the log
-/// that a checkpoint or an opening writes, which has any number that is none below. So over whole lives, crashes too,
-/// the number that the gated records tell never falls, and no transaction's number is given twice.
+/// that a checkpoint or an opening writes, which has any number that is none below. So over whole lives, with crashes,
+/// the number that the gated records give never falls, and no transaction's number is given twice.
 pub fn transaction_numbers_are_given_once<M: Meaning>()
     ensures above { (d : Limits) → IsLawful (M.known d) → (log : List (Record M.Entry M.Page)) → IsLog (M.known d) log
         → (t : ℕ)

@@ -1,4 +1,6 @@
 //! The rules of a log.
+ghost use Rattle.std.specs.Prelude.{◌≡◌, ◌≤◌, length};
+ghost use Rattle.gx_recovery.specs.Texts.{text_of};
 
 use std::fmt;
 
@@ -45,36 +47,43 @@ pub enum LogRule {
     Unfit,
 }
 
+impl LogRule {
+    /// How it is broken, in plain words.
+    pub fn text(self) -> &'static str
+        ensures words { result.now ≡ text_of self }
+        ensures short { length result.now ≤ 64 }
+    {
+        match self {
+            LogRule::FirstGate => "the first gate of the log is closed",
+            LogRule::BodySize => "a body of this size is none",
+            LogRule::Spelling => "these bytes are no whole record",
+            LogRule::NoCounters => "the log ends before its counters",
+            LogRule::Misplaced => "a record of this kind may not stand here",
+            LogRule::NoKey => "the bytes of a key are none of the class",
+            LogRule::PagesOfDevice => "more pages are in use than the device has",
+            LogRule::CounterFalls => "the counter of splits falls",
+            LogRule::UsedFalls => "the number of pages in use falls",
+            LogRule::PageInUse => "a page is given that is not in use",
+            LogRule::TransactionNumber => "no transaction may follow one of this number",
+            LogRule::LeafInUse => "a leaf is not in use",
+            LogRule::SharedEntry => "two open transactions touch one entry",
+            LogRule::TooManyTransactions => "more than 8 transactions are open",
+            LogRule::TooManyTouches => "more than 512 entries are touched",
+            LogRule::Ended => "a transaction goes on after its end",
+            LogRule::CommitNumber => "a commit has not the next number",
+            LogRule::NoImage => "a page is changed of which the log has no image",
+            LogRule::Unfit => "a change does not fit its page",
+        }
+    }
+}
+
 impl fmt::Display for LogRule {
     ghost use Rattle.std.specs.Prelude.{Some};
-    ghost use Rattle.gx_recovery.specs.Texts.{text_of};
 
     ghost output = { λ rule. Some (text_of rule) };
 
     /// How it is broken, in plain words.
     fn fmt<W: fmt::Write>(&self, f: &mut fmt::Formatter<W>) -> fmt::Result {
-        match self {
-            LogRule::FirstGate => f.write_str("the first gate of the log is closed"),
-            LogRule::BodySize => f.write_str("a body of this size is none"),
-            LogRule::Spelling => f.write_str("these bytes are no whole record"),
-            LogRule::NoCounters => f.write_str("the log ends before its counters"),
-            LogRule::Misplaced => f.write_str("a record of this kind may not stand here"),
-            LogRule::NoKey => f.write_str("the bytes of a key are none of the class"),
-            LogRule::PagesOfDevice => f.write_str("more pages are in use than the device has"),
-            LogRule::CounterFalls => f.write_str("the counter of splits falls"),
-            LogRule::UsedFalls => f.write_str("the number of pages in use falls"),
-            LogRule::PageInUse => f.write_str("a page is given that is not in use"),
-            LogRule::TransactionNumber => f.write_str(
-                "no transaction may follow one of this number",
-            ),
-            LogRule::LeafInUse => f.write_str("a leaf is not in use"),
-            LogRule::SharedEntry => f.write_str("two open transactions touch one entry"),
-            LogRule::TooManyTransactions => f.write_str("more than 8 transactions are open"),
-            LogRule::TooManyTouches => f.write_str("more than 512 entries are touched"),
-            LogRule::Ended => f.write_str("a transaction goes on after its end"),
-            LogRule::CommitNumber => f.write_str("a commit has not the next number"),
-            LogRule::NoImage => f.write_str("a page is changed of which the log has no image"),
-            LogRule::Unfit => f.write_str("a change does not fit its page"),
-        }
+        f.write_str(self.text())
     }
 }

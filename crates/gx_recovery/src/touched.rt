@@ -68,7 +68,8 @@ fn is_last<E: Copy>(first: &Touch<E>, rest: &[Touch<E>]) -> usize
     }
 }
 
-/// How many transactions have touched something. Where those of one stand side by side, few are compared.
+/// How many transactions have touched something. Where the touches of one transaction are side by side, few are
+/// compared.
 pub(crate) fn transactions<E: Copy>(touched: &[Touch<E>]) -> usize
     ensures { result ≡ transactions touched.now }
 {
@@ -79,7 +80,7 @@ pub(crate) fn transactions<E: Copy>(touched: &[Touch<E>]) -> usize
     count
 }
 
-/// Where the transaction's touch of the entry stands, or the place where it goes.
+/// The place of the transaction's touch of the entry, or else the place where it would go.
 fn place<E: Copy + Ord>(t: &Touch<E>, touched: &[Touch<E>]) -> Result<usize, usize>
     ensures { MatchResult result
         (λ i. (i < length touched.now) × ((d : records.Touch E) → touching (by_order E.Ord.cmp) t.now touched.now
@@ -107,7 +108,7 @@ pub(crate) fn has_place<E: Copy + Ord>(t: &Touch<E>, touched: &[Touch<E>]) -> bo
     }
 }
 
-/// Puts a touch in its place, for which there is room: of one that stands, only the leaf changes.
+/// Puts a touch in its place, for which there is room: of one that is kept already, only the leaf changes.
 pub(crate) fn keep_touch<E: Copy + Ord>(t: Touch<E>, touched: &mut Vec<Touch<E>>)
     requires { length (touching (by_order E.Ord.cmp) t touched.old.items) ≤ vec_capacity touched.old }
     ensures items { touched.new.items ≡ touching (by_order E.Ord.cmp) t touched.old.items }

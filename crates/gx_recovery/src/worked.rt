@@ -10,8 +10,8 @@ ghost use Rattle.gx_recovery.specs.WorkedLife.{reopened, undoing, undone, writte
 ghost use Rattle.gx_recovery.specs.WorkedLife.{sets_of, stood_for, too_early, past_a_gate, torn_page};
 ghost use Rattle.gx_recovery.specs.WorkedLife.{imageless, imaged, noteless, ended_early, shared, seen_by};
 
-/// Each damaged log of the rows is refused for its own item and for no other.
-/// Beside them stand logs that are at a limit and not over it.
+/// Each damaged log of the rows is refused for its own item and for no other. Beside them are logs that are at a limit
+/// and not over it.
 pub fn each_item_refuses_a_log_alone()
     ensures { found_in rows ≡ wanted_of rows }
 {}
@@ -25,9 +25,9 @@ pub fn a_worked_life_meets_the_definitions()
     ensures life { IsLife worked fresh worked_steps renewed_last }
 {}
 
-/// What that life's states keep, and what crashes leave of it. The commit's set comes with its batch, and is there for
-/// good once the gate is synced. The transaction that is cut off has changed nothing, before its undo and after. Its
-/// notes say so as long as it is open.
+/// What that life's states keep, and what crashes leave of it. The commit's set comes with its batch, and is durable
+/// once the gate is synced. The transaction that is cut off has changed nothing, before its undo and after. Its notes
+/// say so as long as it is open.
 pub fn the_sets_of_the_worked_life()
     ensures fresh { sets_of fresh ≡ [] ∷ [] }
     ensures in_flight { sets_of in_flight ≡ [] ∷ (7 ∷ []) ∷ [] }
@@ -47,11 +47,11 @@ pub fn the_sets_of_the_worked_life()
 {}
 
 /// What would go wrong. With nothing committed, a crash leaves entry 7 where its page is written before its record is
-/// gated, and where a batch is read behind a closed gate. It leaves entry 9, which nobody wrote, where a page is
-/// written of which the log has a small change alone, and that write is torn; an image leaves nothing. With entry 7
+/// gated, and where a batch is read behind a closed gate. It leaves entry 9, which no transaction wrote, where a page
+/// is written of which the log has only a small change, and that write is torn; an image leaves nothing. With entry 7
 /// committed, a crash leaves entry 8 and not 7 where a checkpoint leaves out the notes, and where a transaction ends
-/// before all is restored. Where two transactions write one entry,
-/// the commit of the first has a set that isn't its view.
+/// before all is restored. Where two transactions write one entry, the commit of the first has a set that isn't its
+/// view.
 pub fn what_the_rules_prevent()
     ensures too_early { stood_for too_early in_flight.gated ≡ 7 ∷ [] }
     ensures past_a_gate { stood_for fresh.area past_a_gate ≡ 7 ∷ [] }

@@ -1,6 +1,6 @@
 -- What an opening reads of a device lies below the end of its pages: so what holds of a copy of these sectors holds of the device.
 use Rattle.std.proofs.Common.{◌≡◌, ◌⊎◌, ◌∙◌, sym, ap, refl, subst, inl, inr, ℕ, zero, suc, ◌+◌, ◌*◌, ◌<◌, ◌≤◌, Bool, true, false, List, take, drop, arith}
-use Rattle.std.specs.Prelude.{if◌then◌else◌, IfOk, Result, Ok, Err}
+use Rattle.std.specs.Prelude.{if◌then◌else◌, IfErr, IfOk, Result, Ok, Err}
 use Rattle.std.proofs.Math.Path.{fun_ext}
 use Rattle.std.proofs.lemmas.List.{drop-drop, drop-take, take-take}
 use Rattle.gx_disk.specs.declared.layout.TheConstants.{MIN_SECTORS, PAGES_AT}
@@ -36,16 +36,16 @@ use Rattle.gx_node.specs.Reading.{Format, format_of}
 use Rattle.gx_format.specs.Formatting.{AreInRange, sectors_of}
 use Rattle.gx_opening.specs.Formatted.{Counted, MaySettle, Says}
 use Rattle.gx_opening.specs.Laid.{IsSpared}
-use Rattle.gx_opening.proofs.Stood.{one_saying}
+use Rattle.gx_opening.proofs.Stood.{one_cause, one_saying}
 use Rattle.gx_opening.specs.Sound.{IsCause}
 use Rattle.gx_opening.specs.Standing.{IsFormatted, LaysSafely, known_for, limits_of, reading}
 use Rattle.gx_opening.specs.Writing.{IsInOrder}
 use Rattle.gx_durable.specs.Classes.{class_of}
 use Rattle.gx_restart.specs.Beginning.{HasFailed, IsSameDevice}
-use Rattle.gx_restart.specs.Copied.{AreEnough, IsCopy, IsFront, refusal_of_copy}
+use Rattle.gx_restart.specs.Copied.{AreEnough, IsCopy, IsFront, IsNoMore, refusal_of_copy}
 use Rattle.gx_restart.specs.Opened.{IsRefused}
 use Rattle.gx_restart.specs.Order.{RefusedInOrder}
-use Rattle.gx_restart.specs.Verified.{HasDamagedLog, HasUnsoundPages, IsDamagedCopy, IsUnverified, IsVerified}
+use Rattle.gx_restart.specs.Verified.{HasDamagedLog, HasUnsoundPages, IsCopyOf, IsDamagedCopy, IsUncopied, IsUnverified, IsUnverifiedCopy, IsVerified}
 use Rattle.gx_restart.specs.declared.verification.Report.{Report}
 
 -- the sectors below a number read the same
@@ -216,12 +216,18 @@ module _ {B : Type 0} (shape : Members B) (is_key : B → Bool) (said : List ℕ
   settles_there refusal.Device is = tt
   settles_there other never = absurd never
 
-  -- and what a copy isn't verified for
-  pub unverified_there : (why : Refusal) → IsUnverified shape is_key said f class e why → IsUnverified shape is_key said f class d why
-  unverified_there why (inl settles) = inl (settles_there why settles)
-  unverified_there why (inr (inl (is, inl log))) = inr (inl (is, inl (damaged_there log)))
-  unverified_there why (inr (inl (is, inr pages))) = inr (inl (is, inr (unsound_there pages)))
-  unverified_there why (inr (inr failed)) = inr (inr failed)
+  -- and what a copy isn't verified for, but as a failed call
+  pub unverified_there : ((p : Parameters) × IsFormatted shape is_key said f class d p) → (why : Refusal) → (why ≡ refusal.Device → ⊥)
+      → IsUnverifiedCopy shape is_key said f class e why → IsUnverified shape is_key said f class d why
+  unverified_there there why other (inl settles) = inl (settles_there why settles)
+  unverified_there there why other (inr (inl (is, inl log))) = inr (inl (is, inl (damaged_there log)))
+  unverified_there there why other (inr (inl (is, inr pages))) = inr (inl (is, inr (unsound_there pages)))
+  unverified_there there why other (inr (inr (inl device))) = absurd (other device)
+  unverified_there there why other (inr (inr (inr memory))) = inr (inr (memory, there))
+
+  -- what is left of it has no more sectors
+  pub few_there : (now : Device) → IsDamagedCopy shape is_key said f e now → IsNoMore d.seen now.sectors
+  few_there now left = λ p says. (let inside = left.inside in let few = copy.few p says in omega (arith, inside, few))
 
   -- what an opening left of a copy that is damaged it left of one of the device
   says_back : (p : Parameters) → Says d.seen p → Says e.seen p
@@ -273,9 +279,12 @@ module _ {C B D : Type 0} (shape : Members B) (is_key : B → Bool) (said : List
   damaged_left why is refused = in_order (refused.laid (unfailed why is))
 
 -- what an opening of a copy is refused for
-module _ {B D : Type 0} (shape : Members B) (is_key : B → Bool) (said : List ℕ → B) (f : Format B) (state : D → Device) (class : ℕ) (d e : Device) where
+module _ {B D : Type 0} (shape : Members B) (is_key : B → Bool) (said : List ℕ → B) (f : Format B) (state : D → Device) (class : ℕ) (old new : D) where
+  abbrev d : Device
+  d = state old
+
   abbrev Unverified : Refusal → Type 0
-  Unverified = IsUnverified shape is_key said f class d
+  Unverified = IsUnverifiedCopy shape is_key said f class d
 
   -- a failure of a copy is want of memory
   failed_so : (why : Refusal) → HasFailed why → Unverified (refusal_of_copy why)
@@ -295,46 +304,61 @@ module _ {B D : Type 0} (shape : Members B) (is_key : B → Bool) (said : List �
   settles_so refusal.Device is = inr (inr (inr refl))
   settles_so other never = absurd never
 
-  pub refused_so : (why : Refusal) → IsRefused shape is_key said f state class d e why → Unverified (refusal_of_copy why)
+  pub refused_so : (why : Refusal) → IsRefused shape is_key said f state class old new why → Unverified (refusal_of_copy why)
   refused_so why (inl settles) = settles_so why settles
   refused_so why (inr (inl unlaid)) =
-      caused_so why unlaid.cause (λ is. inl (record { parameters = unlaid.parameters; formatted = unlaid.formatted; damaged = unlaid.damaged is }))
+      caused_so why (one_cause why unlaid.cause) (λ is. inl (record { parameters = unlaid.parameters; formatted = unlaid.formatted; damaged = unlaid.damaged is }))
   refused_so why (inr (inr (inl unsound))) =
       caused_so why unsound.cause (λ is. inr (record {
         parameters = unsound.parameters;
         formatted = unsound.formatted;
         log = unsound.log;
         found = unsound.laid.is;
-        laid = e.seen;
+        laid = (state new).seen;
         area = unsound.laid.area;
         unsound = unsound.unsound is;
       }))
-  refused_so why (inr (inr (inr stopped))) = failed_so why stopped.cause
+  refused_so why (inr (inr (inr (inl stopped)))) = failed_so why stopped.cause
+  refused_so why (inr (inr (inr (inr room)))) = failed_so why (inr room.0)
 
 pub never_device : (why : Refusal) → refusal_of_copy why ≡ refusal.Device → ⊥
 never_device refusal.Device is = cc
 never_device other is = cc
 
--- the first sectors of a device, as many as are enough, are a copy
-module _ {M : Type 0} (state : M → Device) (d middle : Device) (n : ℕ) (least : MIN_SECTORS ≤ n) (inside : n ≤ d.sectors) (same : middle.seen ≡ d.seen) (p : Parameters) (says : Says d.seen p)
-    (wanted : 8 ≤ p.pages → p.pages ≤ 65536 → (n ≡ d.sectors) ⊎ (sectors_of p.pages ≤ n)) where
-  enough_for : (q : Parameters) → Says d.seen q → AreInRange q.pages q.most → AreEnough d.sectors n q
-  enough_for q so range =
-      let is : p ≡ q = one_saying d.seen p q says so in
-      subst (λ (x : Parameters). AreInRange x.pages x.most → AreEnough d.sectors n x) is (λ r. wanted r.least_pages r.most_pages) range
+-- the first sectors of a device that is formatted for an index, as many as that has, are a copy
+module _ {B M : Type 0} (shape : Members B) (is_key : B → Bool) (said : List ℕ → B) (f : Format B) (class : ℕ) (state : M → Device) (d middle : Device) (p : Parameters)
+    (formatted : IsFormatted shape is_key said f class d p) (same : middle.seen ≡ d.seen) where
+  copy_so : (e : Device) → IsFront middle (sectors_of p.pages) e → IsCopyOf shape is_key said f class d e
+  copy_so e front = (
+    record {
+      least = let is = front.sectors in let least = formatted.allowed.range.least_pages in omega (arith, is, least);
+      inside = let is = front.sectors in let large = formatted.large in omega (arith, is, large);
+      honest = front.honest;
+      bytes = front.bytes ∙ ap (λ seen. span_of seen 0 (512 * sectors_of p.pages)) same ∙ ap (λ m. span_of d.seen 0 (512 * m)) (sym front.sectors);
+      enough = λ q so range. inr (subst (λ (x : Parameters). sectors_of x.pages ≤ e.sectors) (one_saying d.seen p q formatted.says so) (let is = front.sectors in omega (arith, is)));
+      few = λ q so. subst (λ (x : Parameters). e.sectors ≤ sectors_of x.pages) (one_saying d.seen p q formatted.says so) (let is = front.sectors in omega (arith, is));
+    },
+    (p, formatted),
+  )
 
-  copy_so : (e : Device) → IsFront middle n e → IsCopy d e
-  copy_so e front = record {
-    least = let is = front.sectors in omega (arith, is, least);
-    inside = let is = front.sectors in omega (arith, is, inside);
-    honest = front.honest;
-    bytes = front.bytes ∙ ap (λ seen. span_of seen 0 (512 * n)) same ∙ ap (λ m. span_of d.seen 0 (512 * m)) (sym front.sectors);
-    enough = λ q so range. subst (λ m. AreEnough d.sectors m q) (sym front.sectors) (enough_for q so range);
-  }
-
-  pub copy_made : (result : Result M Refusal) → IfOk result (λ m. IsFront middle n (state m)) → IfOk result (λ m. IsCopy d (state m))
+  pub copy_made : (result : Result M Refusal) → IfOk result (λ m. IsFront middle (sectors_of p.pages) (state m)) → IfOk result (λ m. IsCopyOf shape is_key said f class d (state m))
   copy_made (Ok m) front = copy_so (state m) front
   copy_made (Err why) front = tt
+
+  -- where it is refused, a call failed, or memory was refused behind these tests
+  uncopied_so : (why : Refusal) → HasFailed why → IsUncopied shape is_key said f class d why
+  uncopied_so why (inl device) = subst (λ x. IsUncopied shape is_key said f class d x) (sym device) (inl tt)
+  uncopied_so why (inr memory) = inr (memory, (p, formatted))
+
+  pub copy_refused : (result : Result M Refusal) → IfErr result HasFailed → IfErr result (IsUncopied shape is_key said f class d)
+  copy_refused (Ok m) failed = tt
+  copy_refused (Err why) failed = uncopied_so why failed
+
+-- what isn't copied isn't verified
+pub uncopied_unverified : {B : Type 0} (shape : Members B) (is_key : B → Bool) (said : List ℕ → B) (f : Format B) (class : ℕ) (d : Device) (why : Refusal) → IsUncopied shape is_key said f class d why
+    → IsUnverified shape is_key said f class d why
+uncopied_unverified shape is_key said f class d why (inl settles) = inl settles
+uncopied_unverified shape is_key said f class d why (inr lacks) = inr (inr lacks)
 
 pub large_enough : {M : Type 0} (state : M → Device) (n : ℕ) → MIN_SECTORS ≤ n → (result : Result M Refusal) → IfOk result (λ m. (state m).sectors ≡ n) → IfOk result (λ m. MIN_SECTORS ≤ (state m).sectors)
 large_enough state n least (Ok m) is = omega (arith, is, least)

@@ -11,6 +11,8 @@ use Rattle.gx_disk.specs.Moments.{Leaves}
 use Rattle.gx_disk.proofs.Leaving.{leaves_joined, leaves_weaker, nothing_leaves}
 use Rattle.gx_durable.specs.Head.{head_in}
 use Rattle.gx_durable.proofs.Crashes.{crash_leaves}
+use Rattle.gx_events.specs.declared.event.Event.{Event}
+use Rattle.gx_events.specs.declared.outcome.Outcome.{Outcome}
 use Rattle.gx_events.specs.Slots as slots
 use Rattle.gx_events.specs.Slots.{Slot}
 use Rattle.gx_events.specs.Engines.{session_of}
@@ -36,7 +38,7 @@ use Rattle.gx_txn.specs.Tables.{Held}
 use Rattle.gx_restart.specs.Beginning.{HasBegun, HasNotBegun, HoldsFound, IsSameDevice}
 use Rattle.gx_restart.specs.Keeping.{ArePagesGood, IsKept, KeepsItsSet, OpensSafely, StandsForFound}
 use Rattle.gx_restart.specs.Opened.{IsOpened, IsRefused}
-use Rattle.gx_restart.specs.Undoing.{IsIdle}
+use Rattle.gx_restart.specs.Undoing.{BeganWith, GoesBy, IsIdle}
 use Rattle.gx_restart.proofs.Opened.{keeps_of, stands_so}
 
 -- where none failed before, a call that failed since then failed since before
@@ -132,9 +134,9 @@ module _ {C B D : Type 0} (shape : Members B) (proper : B → Bool) (said : List
   came_safe safe (Err n) came = safe_then shape proper said f (state a) (state m) (state n.disk) s.parameters st.formatted.says safe came.leaves
 
   pub came_refused : (result : Result (Parts B D) (NotOpened D)) → CameTo result
-      → IfErr result (λ n. IsRefused shape proper said f state number (state a) (state n.disk) n.why)
+      → IfErr result (λ n. IsRefused shape proper said f state number a n.disk n.why)
   came_refused (Ok engine) came = tt
-  came_refused (Err n) came = inr (inr (inr (record { middle = m; standing = s; stands = st; cause = came.cause })))
+  came_refused (Err n) came = inr (inr (inr (inl (record { middle = m; standing = s; stands = st; cause = came.cause }))))
 
   module _ (lc : IsLawful c) where
     opened_slots : (engine : Parts B D) (h : HoldsFound shape proper said f s.parameters (state a).seen (state engine.volume.shelf.disk) engine) → IsIdle engine
@@ -169,18 +171,25 @@ module _ {C B D : Type 0} (shape : Members B) (proper : B → Bool) (said : List
     came_opened (Ok engine) idle came = opened_so engine idle came.holds
     came_opened (Err n) idle came = tt
 
+-- an engine that began with so many frames comes to another by events of an opening
+pub began_with : {B D : Type 0} (makes : Parts B D → Event B → Outcome B → Parts B D → Type 0) (frames : ℕ) (first : Parts B D) (result : Result (Parts B D) (NotOpened D))
+    → length first.volume.shelf.frames.marks ≡ frames → IfOk result (GoesBy makes first) → IfOk result (BeganWith makes frames)
+began_with makes frames first (Ok engine) count goes = record { first = first; count = count; goes = goes }
+began_with makes frames first (Err n) count goes = tt
+
 -- a test that wasn't passed refuses
-pub tested_refused : {C B D : Type 0} (shape : Members B) (proper : B → Bool) (said : List ℕ → B) (class : Ghosts C B) (state : D → Device) (number : ℕ) (d e : Device) (why : Refusal)
-    → IsTested shape proper said (format_of class) number d e (Err why) → IsRefused shape proper said (format_of class) state number d e why
-tested_refused shape proper said class state number d e why (inl settles) = inl settles
-tested_refused shape proper said class state number d e why (inr (inl unlaid)) = inr (inl unlaid)
-tested_refused shape proper said class state number d e why (inr (inr unsound)) = inr (inr (inl unsound))
+pub tested_refused : {C B D : Type 0} (shape : Members B) (proper : B → Bool) (said : List ℕ → B) (class : Ghosts C B) (state : D → Device) (number : ℕ) (old new : D) (why : Refusal)
+    → IsTested shape proper said (format_of class) number (new ≡ old) (state old) (state new) (Err why) → IsRefused shape proper said (format_of class) state number old new why
+tested_refused shape proper said class state number old new why (inl settles) = inl settles
+tested_refused shape proper said class state number old new why (inr (inl unlaid)) = inr (inl unlaid)
+tested_refused shape proper said class state number old new why (inr (inr (inl unsound))) = inr (inr (inl unsound))
+tested_refused shape proper said class state number old new why (inr (inr (inr room))) = inr (inr (inr (inr room)))
 
 -- what was found, and that the device has the sectors of the smallest index
 module _ {B : Type 0} (shape : Members B) (proper : B → Bool) (said : List ℕ → B) (f : Format B) (number : ℕ) (d m : Device) (result : Result (Standing B) Refusal) (s : Standing B)
     (is : result ≡ Ok s) where
-  pub stands_of : IsTested shape proper said f number d m result → Stands shape proper said f number d m s
-  stands_of tested = subst (λ (x : Result (Standing B) Refusal). IsTested shape proper said f number d m x) is tested
+  pub stands_of : (unmoved : Type 0) → IsTested shape proper said f number unmoved d m result → Stands shape proper said f number d m s
+  stands_of unmoved tested = subst (λ (x : Result (Standing B) Refusal). IsTested shape proper said f number unmoved d m x) is tested
 
   pub enough_of : IfOk result (λ x. IsAllowed number x.parameters × IsLarge d.sectors x.parameters) → MIN_SECTORS ≤ d.sectors
   enough_of allowed =

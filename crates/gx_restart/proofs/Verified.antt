@@ -28,7 +28,7 @@ use Rattle.gx_node.specs.Trees.{Tree, is_entry, standing}
 use Rattle.gx_restart.specs.Opened.{IsOpened}
 use Rattle.gx_restart.specs.Sizes.{live_up_to}
 use Rattle.gx_restart.specs.Undoing.{IsIdle}
-use Rattle.gx_restart.specs.Verified.{IsUnverified, IsVerified}
+use Rattle.gx_restart.specs.Verified.{IsUnverifiedCopy, IsVerified}
 use Rattle.gx_restart.specs.declared.verification.Report.{Report}
 use Rattle.gx_restart.proofs.Ends.{all_free, free_place}
 use Rattle.gx_restart.proofs.Sizes.{live_is_the_sets_size}
@@ -86,7 +86,7 @@ module _ {B D : Type 0} (shape : Members B) (proper : B → Bool) (said : List �
 
 -- what is refused for want of memory
 module _ {T B D : Type 0} (shape : Members B) (proper : B → Bool) (said : List ℕ → B) (f : Format B) (class : ℕ) (d : Device) where
-  pub memory_so : (result : Result T (NotOpened D)) → IfErr result (λ n. n.why ≡ refusal.Memory) → IfErr result (λ n. IsUnverified shape proper said f class d n.why)
+  pub memory_so : (result : Result T (NotOpened D)) → IfErr result (λ n. n.why ≡ refusal.Memory) → IfErr result (λ n. IsUnverifiedCopy shape proper said f class d n.why)
   memory_so (Ok x) is = tt
   memory_so (Err n) is = inr (inr (inr is))
 

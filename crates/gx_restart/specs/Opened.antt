@@ -1,6 +1,7 @@
 -- What an opening comes to.
-use Rattle.std.specs.Prelude.{◌⊎◌, ℕ, Bool, List, Err}
+use Rattle.std.specs.Prelude.{◌≡◌, ◌⊎◌, ℕ, Bool, List, Err}
 use Rattle.gx_geom.specs.declared.refusal.Refusal.{Refusal}
+use Rattle.gx_geom.specs.declared.refusal.Refusal.TheVariants.{Memory}
 use Rattle.gx_disk.specs.Device.{Device, MayLeave}
 use Rattle.gx_durable.specs.Area.{area_of}
 use Rattle.gx_events.specs.Engines.{SeenAs, opened_machine}
@@ -42,8 +43,10 @@ module _ {B : Type 0} (shape : Members B) (is_key : B → Bool) (said : List ℕ
     pub stands : Stands shape is_key said f class d (state middle) standing
     pub cause : HasFailed why
 
-  -- why it was refused: the first test that wasn't passed, in their order; or it was stopped behind them
-  abbrev pub IsRefused : {D : Type 0} → (D → Device) → ℕ → Device → Device → Refusal → Type 0
-  IsRefused state class d e why =
-      MaySettle class d.sectors d.seen (Err why)
-      ⊎ (IsUnlaid shape is_key said f class d why ⊎ (IsUnsound shape is_key said f class d e why ⊎ IsStopped state class d why))
+  -- Why it was refused: the first test that wasn't passed, in their order; or it was stopped behind them; or memory was refused before any call,
+  -- and the device is the same.
+  abbrev pub IsRefused : {D : Type 0} → (D → Device) → ℕ → D → D → Refusal → Type 0
+  IsRefused state class old new why =
+      MaySettle class (state old).sectors (state old).seen (Err why)
+      ⊎ (IsUnlaid shape is_key said f class (state old) why
+      ⊎ (IsUnsound shape is_key said f class (state old) (state new) why ⊎ (IsStopped state class (state old) why ⊎ ((why ≡ Memory) × (new ≡ old)))))

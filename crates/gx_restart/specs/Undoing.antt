@@ -1,5 +1,5 @@
 -- The events of an opening: a checkpoint's to its end, and those that undo what a crash cut off.
-use Rattle.std.specs.Prelude.{ℕ, ◌≡◌, ◌⊎◌, ◌<◌, false, Option, None, Some, Result, Ok, Err, List, [], ◌∷◌}
+use Rattle.std.specs.Prelude.{ℕ, ◌≡◌, ◌⊎◌, ◌<◌, false, Option, None, Some, Result, Ok, Err, List, [], ◌∷◌, length}
 use Rattle.gx_geom.specs.declared.refusal.Refusal.{Refusal}
 use Rattle.gx_geom.specs.declared.refusal.Refusal.TheVariants.{Damaged, NoCall}
 use Rattle.gx_machine.specs.declared.reply.Reply.{Reply}
@@ -74,6 +74,12 @@ module _ {B D : Type 0} (makes : Parts B D → Event B → Outcome B → Parts B
     pub steps : List (Event B × Outcome B)
     pub of_opening : AreOfOpening steps
     pub made : AreMade makes old steps new
+
+  -- An engine began with so many frames, and events of an opening led from it to this one.
+  pub record BeganWith (frames : ℕ) (e : Parts B D) : Type 0 where
+    pub first : Parts B D
+    pub count : length first.volume.shelf.frames.marks ≡ frames
+    pub goes : GoesBy first e
 
   -- The last of them was refused so, on an engine that had not failed.
   pub record IsRefusedAt (old : Parts B D) (why : Refusal) (new : Parts B D) : Type 0 where

@@ -2,7 +2,7 @@
 use Rattle.std.specs.Prelude.{◌≡◌, ◌⊎◌, ◌≤◌, ◌<◌, ℕ, Bool, true, List, Result, Ok, Err, length}
 use Rattle.gx_disk.specs.declared.layout.TheConstants.{MIN_SECTORS}
 use Rattle.gx_geom.specs.declared.refusal.Refusal.{Refusal}
-use Rattle.gx_geom.specs.declared.refusal.Refusal.TheVariants.{Damaged}
+use Rattle.gx_geom.specs.declared.refusal.Refusal.TheVariants.{Damaged, Memory}
 use Rattle.gx_disk.specs.Device.{Device}
 use Rattle.gx_disk.specs.Sectors.{sector_of}
 use Rattle.gx_durable.specs.Area.{area_of}
@@ -23,6 +23,7 @@ use Rattle.gx_recovery.specs.Damage.{records_of}
 use Rattle.gx_recovery.specs.Redo.{redone}
 use Rattle.gx_recovery.specs.Standing.{stands_for}
 use Rattle.gx_restart.specs.Beginning.{HasFailed, IsGoodLog}
+use Rattle.gx_restart.specs.Copied.{IsCopy}
 use Rattle.gx_restart.specs.declared.verification.NotVerified.{NotVerified}
 use Rattle.gx_restart.specs.declared.verification.Report.{Report}
 
@@ -65,12 +66,31 @@ module _ {B : Type 0} (shape : Members B) (is_key : B → Bool) (said : List ℕ
     pub unsound : AreSound (known_for shape is_key said f parameters) (reading shape is_key said f)
         (is_node f parameters.pages) log.analysis.told laid → ⊥
 
-  -- why it isn't verified: what it is formatted for isn't an index of the class; its log or its pages are damaged; a
-  -- call of it failed, or memory was refused
-  abbrev pub IsUnverified : ℕ → Device → Refusal → Type 0
-  IsUnverified class d why =
+  -- why it isn't verified: what it is formatted for isn't an index of the class; its log or its pages are damaged; or so
+  abbrev pub IsUnverifiedOr : (Refusal → Type 0) → ℕ → Device → Refusal → Type 0
+  IsUnverifiedOr Fails class d why =
       MaySettle class d.sectors d.seen (Err why)
-      ⊎ (((why ≡ Damaged) × (HasDamagedLog class d ⊎ HasUnsoundPages class d)) ⊎ HasFailed why)
+      ⊎ (((why ≡ Damaged) × (HasDamagedLog class d ⊎ HasUnsoundPages class d)) ⊎ Fails why)
+
+  -- a copy in memory: a call of it failed, or memory was refused
+  abbrev pub IsUnverifiedCopy : ℕ → Device → Refusal → Type 0
+  IsUnverifiedCopy class d why = IsUnverifiedOr HasFailed class d why
+
+  -- memory was refused, of a device that is formatted for an index of the class
+  abbrev pub LacksThere : ℕ → Device → Refusal → Type 0
+  LacksThere class d why = (why ≡ Memory) × ((p : Parameters) × IsFormatted shape is_key said f class d p)
+
+  -- a device
+  abbrev pub IsUnverified : ℕ → Device → Refusal → Type 0
+  IsUnverified class d why = IsUnverifiedOr (LacksThere class d) class d why
+
+  -- what a device isn't copied for
+  abbrev pub IsUncopied : ℕ → Device → Refusal → Type 0
+  IsUncopied class d why = MaySettle class d.sectors d.seen (Err why) ⊎ LacksThere class d why
+
+  -- a copy of a device that is formatted for an index of the class
+  abbrev pub IsCopyOf : ℕ → Device → Device → Type 0
+  IsCopyOf class d e = IsCopy d e × ((p : Parameters) × IsFormatted shape is_key said f class d p)
 
   -- What an opening left of a copy of a device that it refused as damaged: it reads as the device's first sectors,
   -- but for pages that the device's log gives.

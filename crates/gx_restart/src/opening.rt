@@ -1,6 +1,7 @@
 //! The opening of a device: what stands there is found, and an engine begins over it and undoes what a crash cut off.
 ghost use Rattle.std.specs.Prelude.{◌≡◌, ◌≤◌, ◌<◌, ◌+◌, ◌*◌, ℕ, List, false, true, Err, IfErr, IfOk, MatchResult};
 ghost use Rattle.gx_disk.specs.declared.layout.TheConstants.{MIN_SECTORS, PAGES_AT, PAGE_SECTORS};
+ghost use Rattle.gx_engine.specs.Made.{Makes};
 ghost use Rattle.gx_node.specs.Reading.{format_of};
 ghost use Rattle.gx_glog.specs.declared.parameters.Parameters.{Parameters};
 ghost use Rattle.gx_opening.specs.Formatted.{IsAllowed};
@@ -9,7 +10,7 @@ ghost use Rattle.gx_restart.specs.Beginning.{HasBegun, HasNotBegun, HoldsFound, 
 ghost use Rattle.gx_restart.specs.Keeping.{KeepsItsSet, OpensSafely};
 ghost use Rattle.gx_restart.specs.Opened.{IsOpened, IsRefused};
 ghost use Rattle.gx_restart.specs.Order.{OpensInOrder};
-ghost use Rattle.gx_restart.specs.Undoing.{IsIdle, OnlyUndoes};
+ghost use Rattle.gx_restart.specs.Undoing.{BeganWith, GoesBy, IsIdle, OnlyUndoes};
 
 mod begin;
 mod losers;
@@ -46,6 +47,7 @@ fn finished<D: SectorDisk, K: ReadKeys + Probing>(
     ensures faults { IfErr result (λ n. n.why ≡ Refusal.Device
         → (D.state engine.volume.shelf.disk).faults < (D.state n.disk).faults) }
     ensures idle { IfOk result IsIdle }
+    ensures goes { IfOk result (GoesBy (Makes K.Key.Shape K.is_proper K.said K.KeyClass D.state) engine) }
     ensures keeps { (p : Parameters) (seen : List ℕ) → 4 ≤ p.most
         → HoldsFound K.Key.Shape K.is_proper K.said (format_of K.KeyClass) p seen
         (D.state engine.volume.shelf.disk) engine
@@ -82,6 +84,7 @@ fn open_over<D: SectorDisk, K: ReadKeys + Probing>(
         (λ n. IsSameDevice (D.state disk) (D.state n.disk)) }
     ensures faults { IfErr result (λ n. n.why ≡ Refusal.Device → (D.state disk).faults < (D.state n.disk).faults) }
     ensures idle { IfOk result IsIdle }
+    ensures began { IfOk result (BeganWith (Makes K.Key.Shape K.is_proper K.said K.KeyClass D.state) frames) }
     ensures keeps { (a : D) → (D.state disk).honest ≡ true
         → Stands K.Key.Shape K.is_proper K.said (format_of K.KeyClass) K.CLASS (D.state a) (D.state disk) standing.now
         → MatchResult result
@@ -107,6 +110,7 @@ fn open_with<D: SectorDisk, K: ReadKeys + Probing>(
         (λ n. IsSameDevice (D.state disk) (D.state n.disk)) }
     ensures faults { IfErr result (λ n. n.why ≡ Refusal.Device → (D.state disk).faults < (D.state n.disk).faults) }
     ensures idle { IfOk result IsIdle }
+    ensures began { IfOk result (BeganWith (Makes K.Key.Shape K.is_proper K.said K.KeyClass D.state) frames) }
     ensures safe { (D.state disk).honest ≡ true → MatchResult result
         (λ engine. OpensSafely K.Key.Shape K.is_proper K.said (format_of K.KeyClass) (D.state disk)
         (D.state engine.volume.shelf.disk))
@@ -117,7 +121,7 @@ fn open_with<D: SectorDisk, K: ReadKeys + Probing>(
         (D.state engine.volume.shelf.disk) engine) }
     ensures refused { (D.state disk).honest ≡ true → MIN_SECTORS ≤ (D.state disk).sectors
         → IfErr result (λ n. IsRefused K.Key.Shape K.is_proper K.said (format_of K.KeyClass) D.state K.CLASS
-        (D.state disk) (D.state n.disk) n.why) }
+        disk n.disk n.why) }
 {
     a_class_is_lawful::<K>();
     let (disk, found) = find::<D, K>(alloc, disk);
@@ -127,10 +131,11 @@ fn open_with<D: SectorDisk, K: ReadKeys + Probing>(
     }
 }
 
-/// Opens a device, with so many frames for pages. It is settled and read for what it is formatted for, its log is read
-/// and laid over its pages, which are tested, gates behind the log are closed, and an engine begins: its checkpoint is
-/// ended, and what transactions wrote that a crash cut off is undone. The engine has no session with a transaction, and
-/// no checkpoint runs. It takes all the memory that the engine ever takes, but for searches' stacks and answers.
+/// Opens a device, with so many frames for pages, which the engine then has. The device is settled and read for what
+/// it is formatted for, its log is read and laid over its pages, which are tested, gates behind the log are closed,
+/// and an engine begins: its checkpoint is ended, and what transactions wrote that a crash cut off is undone. The
+/// engine has no session with a transaction, and no checkpoint runs. It takes all the memory that the engine ever
+/// takes, but for searches' stacks and answers.
 ///
 /// Refused, with the device as the calls left it, by the first that holds: with fewer frames than 16 or more than 4,096
 /// (`BadParameter`), on a device with fewer sectors than the smallest index takes (`TooSmall`; no call is made before
@@ -158,6 +163,7 @@ pub fn open<D: SectorDisk, K: ReadKeys + Probing>(
         (λ n. IsSameDevice (D.state disk) (D.state n.disk)) }
     ensures faults { IfErr result (λ n. n.why ≡ Refusal.Device → (D.state disk).faults < (D.state n.disk).faults) }
     ensures idle { IfOk result IsIdle }
+    ensures began { IfOk result (BeganWith (Makes K.Key.Shape K.is_proper K.said K.KeyClass D.state) frames) }
     ensures safe { (D.state disk).honest ≡ true → MatchResult result
         (λ engine. OpensSafely K.Key.Shape K.is_proper K.said (format_of K.KeyClass) (D.state disk)
         (D.state engine.volume.shelf.disk))
@@ -172,7 +178,7 @@ pub fn open<D: SectorDisk, K: ReadKeys + Probing>(
         (D.state engine.volume.shelf.disk) engine) }
     ensures refused { (D.state disk).honest ≡ true → 16 ≤ frames → frames ≤ 4096 → MIN_SECTORS ≤ (D.state disk).sectors
         → IfErr result (λ n. IsRefused K.Key.Shape K.is_proper K.said (format_of K.KeyClass) D.state K.CLASS
-        (D.state disk) (D.state n.disk) n.why) }
+        disk n.disk n.why) }
 {
     what_is_found_stands::<D, K>();
     if frames < LEAST_FRAMES || MOST_FRAMES < frames {

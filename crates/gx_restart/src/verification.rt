@@ -4,10 +4,10 @@ ghost use Rattle.std.specs.Prelude.{◌≡◌, ◌≢◌, ◌≤◌, ◌<◌, tr
 ghost use Rattle.gx_disk.specs.Looks.{Looks};
 ghost use Rattle.gx_node.specs.Reading.{format_of};
 ghost use Rattle.gx_opening.specs.Formatted.{Counted};
-ghost use Rattle.gx_restart.specs.Copied.{memory_state, refusal_of_copy};
+ghost use Rattle.gx_restart.specs.Copied.{IsNoMore, memory_state, refusal_of_copy};
 ghost use Rattle.gx_restart.specs.Opened.{IsOpened};
 ghost use Rattle.gx_restart.specs.Undoing.{IsIdle};
-ghost use Rattle.gx_restart.specs.Verified.{IsDamagedCopy, IsUnverified, IsVerified, why_of};
+ghost use Rattle.gx_restart.specs.Verified.{IsDamagedCopy, IsUnverified, IsUnverifiedCopy, IsVerified, why_of};
 
 mod copy;
 mod entries;
@@ -97,7 +97,7 @@ fn verify_copy<D: SectorDisk + Drop, K: ReadKeys + Probing>(
     ensures verified { (D.state copy).honest ≡ true
         → IfOk result (IsVerified K.Key.Shape K.is_proper K.said (format_of K.KeyClass) K.CLASS (D.state copy)) }
     ensures refused { (D.state copy).honest ≡ true
-        → IfErr result (λ n. IsUnverified K.Key.Shape K.is_proper K.said (format_of K.KeyClass) K.CLASS
+        → IfErr result (λ n. IsUnverifiedCopy K.Key.Shape K.is_proper K.said (format_of K.KeyClass) K.CLASS
         (D.state copy) n.why) }
     ensures damaged { (D.state copy).honest ≡ true → IfErr result (λ n. n.why ≡ Refusal.Damaged
         → IsDamagedCopy K.Key.Shape K.is_proper K.said (format_of K.KeyClass) (D.state copy) (D.state n.disk)) }
@@ -136,6 +136,8 @@ pub fn verify_or_copy<D: SectorDisk, K: ReadKeys + Probing>(
     ensures damaged { (D.state disk.old).honest ≡ true → IfErr result (λ n. n.why ≡ Refusal.Damaged → IfSome n.copy
         (λ copy. IsDamagedCopy K.Key.Shape K.is_proper K.said (format_of K.KeyClass)
         (D.state disk.old) (memory_state copy))) }
+    ensures few { (D.state disk.old).honest ≡ true → IfErr result (λ n. n.why ≡ Refusal.Damaged → IfSome n.copy
+        (λ copy. IsNoMore (D.state disk.old).seen (memory_state copy).sectors)) }
 {
     if frames < LEAST_FRAMES || MOST_FRAMES < frames {
         return Err(NotVerified {
@@ -149,7 +151,7 @@ pub fn verify_or_copy<D: SectorDisk, K: ReadKeys + Probing>(
             copy: None,
         });
     }
-    match copied(alloc, disk) {
+    match copied::<D, K>(alloc, disk) {
         Ok(copy) => match verify_copy::<MemDisk, K>(alloc, copy, frames) {
             Ok(report) => Ok(report),
             Err(refused) => Err(NotVerified {
@@ -163,15 +165,16 @@ pub fn verify_or_copy<D: SectorDisk, K: ReadKeys + Probing>(
 
 /// Verifies a device: answers what an opening of it with so many frames would, and what it would hold: the number of
 /// the last commit, how many entries that commit's set has, and the greatest page that is taken. What open
-/// transactions wrote isn't counted. A copy of the sectors that an opening reads is opened in memory, 528,456 at
-/// most, so no write and no sync is made on the device.
+/// transactions wrote isn't counted. A copy of the sectors of the index, 528,456 at most, is opened in memory, so no
+/// write and no sync is made on the device.
 ///
 /// Refused, by the first that holds: with fewer frames than 16 or more than 4,096 (`BadParameter`), on a device with
 /// fewer sectors than the smallest index takes (`TooSmall`; no call is made before these two), without the magic
 /// (`NotFormatted`), with numbers out of range or of another class (`BadParameter`), with fewer sectors than that
 /// index takes (`TooSmall`), with a damaged log, or pages that can't be read, aren't a legal tree, or haven't what
 /// open transactions touched in its place (`Damaged`); `Device` where a read fails, and only then; and `Memory` where
-/// there is none for the copy, or for an opening of it.
+/// there is none for the copy, or for an opening of it: so of a device that is formatted for an index of the class, and
+/// of no other.
 pub fn verify<D: SectorDisk, K: ReadKeys + Probing>(
     alloc: Global,
     disk: &mut D,

@@ -1,4 +1,4 @@
--- What a reader's or a writer's last call tells.
+-- How a reader's or a writer's last call ended.
 use Rattle.std.specs.Prelude.{ℕ, ◌≡◌, ◌≢◌, ◌^◌, ◌≤◌, ◌==◌, ◌⊎◌, if◌then◌else◌, length, take, Option, Some, List, [], Result, MatchResult}
 use Rattle.std.specs.Io.KnownBytes.{Appends, Consumes, Keeps, IsAtEnd}
 use Rattle.gx_script.specs.declared.fault.ScriptFault.{ScriptFault}

@@ -7,7 +7,7 @@ use Rattle.gx_machine.specs.declared.entry.Entry.{Entry}
 use Rattle.gx_machine.specs.declared.reply.Reply.{Reply}
 use Rattle.gx_machine.specs.declared.reply.Reply.TheVariants.{Ok, Inserted, Deleted, Found, Committed, Aborted, Refused}
 
--- a line: the session's number, a space, what is told, and a line feed
+-- a line: the session's number, a space, the reply's words, and a line feed
 abbrev pub told_line : ℕ → List ℕ → List ℕ
 told_line session told = decimal session ++ (32 ∷ (told ++ (10 ∷ [])))
 

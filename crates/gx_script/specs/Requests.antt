@@ -66,7 +66,7 @@ abbrev pub alone : ℕ → Call Rectangle → List (List ℕ) → Line
 alone session call [] = Asks session call
 alone session call (w ∷ ws) = Bad
 
--- each command with the words that stand after it
+-- each command with the words that follow it
 abbrev pub command_line : ℕ → Command → List (List ℕ) → Line
 command_line session Begin ws = alone session call.Begin ws
 command_line session Insert ws = with_arguments session (λ e. call.Insert e) (entry_words ws)

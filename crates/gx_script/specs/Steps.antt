@@ -13,7 +13,7 @@ unfoldable pub kept : List ℕ → List ℕ
 kept bytes = take 1026 bytes
 
 module _ {I : Type 0} (answered : I → ℕ → Call Rectangle → Reply Rectangle → I → Type 0) where
-  -- A line was told behind what waited: this is left of both, and the front was written.
+  -- A line was added behind what waited: this is left of both, and the front was written.
   pub record IsToldWhole (number : ℕ) (line : Line) (old new : I) (held holds : Option (List ℕ)) (waiting left : List ℕ) : Type 0 where
     pub text : List ℕ
     pub sent : List ℕ
@@ -29,7 +29,7 @@ module _ {I : Type 0} (answered : I → ℕ → Call Rectangle → Reply Rectang
       (IsCut held holds waiting × (new ≡ old))
       ⊎ ((lost : List ℕ) × (0 < length lost) × IsToldWhole number line old new held holds waiting lost)
 
-  -- After these lines, more were done: those of the bytes but for a rest.
+  -- After these lines, more were done: those of the bytes except for a rest.
   pub record IsFed (number : ℕ) (done : List Line) (start : I) (written bytes rest : List ℕ) (held holds : Option (List ℕ)) (left : List ℕ) (new : I) : Type 0 where
     pub more : List Line
     pub sent : List ℕ

@@ -3,7 +3,7 @@ use Rattle.std.specs.Prelude.{ℕ, ◌≡◌, ◌<◌, length, ◌==◌, Bool, f
 use Rattle.std.specs.List.{list_any}
 use Rattle.gx_script.specs.Lines.{onto_first}
 
--- spaces and tabs stand between words
+-- spaces and tabs separate words
 abbrev pub is_separator : ℕ → Bool
 is_separator b = b == 32 || b == 9
 

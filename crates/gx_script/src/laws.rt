@@ -31,7 +31,7 @@ pub fn one_carriage_return_goes()
     ensures stays { (front : List ℕ) (b : ℕ) → b ≢ 13 → without_cr (front ++ (b ∷ [])) ≡ front ++ (b ∷ []) }
 {}
 
-/// Words stand between separators, of which there may be several.
+/// Separators, of which there may be several in a row, are around words.
 pub fn words_stand_between_separators()
     ensures none { words [] ≡ [] }
     ensures skipped { (b : ℕ) (more : List ℕ) → is_separator b ≡ true → words (b ∷ more) ≡ words more }

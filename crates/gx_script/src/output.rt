@@ -77,7 +77,7 @@ impl Output {
         Ok(())
     }
 
-    /// Adds the line of a session that is told these words, at most 32 bytes.
+    /// Adds a session's line with these words, at most 32 bytes.
     pub(crate) fn put_told(&mut self, session: u64, told: &[u8])
         requires room { length self.old + LONGEST ≤ WAITING }
         requires short { length told.now ≤ 32 }
@@ -89,7 +89,7 @@ impl Output {
         self.put_bytes(b"\n");
     }
 
-    /// Adds the line of a session that is told these words, at most 32 bytes, and a number.
+    /// Adds a session's line with these words, at most 32 bytes, and a number.
     pub(crate) fn put_counted(&mut self, session: u64, told: &[u8], count: u64)
         requires room { length self.old + LONGEST ≤ WAITING }
         requires short { length told.now ≤ 32 }

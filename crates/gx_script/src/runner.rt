@@ -81,7 +81,7 @@ impl Script {
         }
     }
 
-    // Does all lines that end in these bytes, and keeps what stands after them. Then nothing waits.
+    // Does all lines that end in these bytes, and keeps what follows them. Then nothing waits.
     fn feed<W: Write, I: Answers>(
         &mut self,
         writer: &mut Noted<W>,
@@ -163,7 +163,7 @@ impl Script {
     }
 }
 
-// the first line that ends in these bytes, and what stands after its line feed
+// the first line that ends in these bytes, and what follows its line feed
 fn next_line(bytes: &[u8]) -> Option<(&[u8], &[u8])>
     ensures { MatchOption result (IsUnended bytes.now) (λ p. IsUnended p.0.now
         × (bytes.now ≡ p.0.now ++ (10 ∷ p.1.now))) }
@@ -175,7 +175,7 @@ fn next_line(bytes: &[u8]) -> Option<(&[u8], &[u8])>
     }
 }
 
-// how many bytes stand before the first line feed
+// how many bytes come before the first line feed
 fn line_end(bytes: &[u8]) -> usize
     ensures value { result ≡ position_or_len (λ b. b == 10) bytes.now }
     ensures bound { result ≤ length bytes.now }

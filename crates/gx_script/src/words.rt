@@ -4,7 +4,7 @@ ghost use Rattle.std.specs.List.{prefix_len, position_or_len};
 ghost use Rattle.gx_script.specs.Lines.{without_cr};
 ghost use Rattle.gx_script.specs.Words.{is_separator, words};
 
-/// The line without the one carriage return that may stand at its end.
+/// The line without the one carriage return that it may end with.
 pub(crate) fn trimmed(line: &[u8]) -> &[u8]
     ensures { result.now ≡ without_cr line.now }
 {
@@ -14,7 +14,7 @@ pub(crate) fn trimmed(line: &[u8]) -> &[u8]
     if *last == b'\r' { front } else { line }
 }
 
-/// The first word, and what stands after it.
+/// The first word, and what follows it.
 pub(crate) fn next_word(bytes: &[u8]) -> Option<(&[u8], &[u8])>
     ensures { MatchOption result (words bytes.now ≡ []) (λ p. words bytes.now ≡ p.0.now ∷ words p.1.now) }
 {
@@ -31,7 +31,7 @@ fn separates(byte: u8) -> bool
     byte == b' ' || byte == b'\t'
 }
 
-// how many separators stand at the front
+// how many separators are at the front
 fn word_start(bytes: &[u8]) -> usize
     ensures value { result ≡ prefix_len is_separator bytes.now }
     ensures bound { result ≤ length bytes.now }
@@ -42,7 +42,7 @@ fn word_start(bytes: &[u8]) -> usize
     }
 }
 
-// how many bytes stand before the first separator
+// how many bytes come before the first separator
 fn word_end(bytes: &[u8]) -> usize
     ensures value { result ≡ position_or_len is_separator bytes.now }
     ensures bound { result ≤ length bytes.now }

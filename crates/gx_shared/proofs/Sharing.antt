@@ -1,15 +1,17 @@
 -- Sessions that are made, and the holds of a call.
 use Rattle.std.proofs.Common.{arith, ◌≡◌, ℕ, ◌+◌, ◌≤◌, ◌<◌, inl, inr, Bool, true, false, Option, Some, None, List, [], ◌∷◌, length, refl, ap, sym, ◌∙◌, subst}
-use Rattle.std.proofs.Common.{get_or, suc, ◌++◌}
+use Rattle.std.proofs.Common.{get_or, suc, ◌++◌, if◌then◌else◌}
 use Rattle.std.specs.List.{remove}
 use Rattle.std.proofs.lemmas.List.Sums.{sum_by-remove}
 use Rattle.std.proofs.lemmas.List.Edits.{length-remove}
+use Rattle.gx_geom.specs.declared.refusal.Refusal.{Refusal}
+use Rattle.gx_geom.specs.declared.refusal.Refusal.TheVariants as refusal
 use Rattle.gx_machine.specs.declared.item.Item.{Item}
 use Rattle.gx_machine.specs.declared.reply.Reply.{Reply}
 use Rattle.gx_machine.specs.Keys.{Keys}
 use Rattle.gx_machine.specs.Machine.{Machine, fresh_machine}
+use Rattle.gx_events.specs.declared.engine.Events.{Ghosts}
 use Rattle.gx_events.specs.declared.event.Event.{Event}
-use Rattle.gx_events.specs.declared.event.Event.TheVariants.{Ask, Move, LogStep, WritePage, CheckpointStep, Sweep}
 use Rattle.gx_events.specs.declared.outcome.Outcome.{Outcome}
 use Rattle.gx_events.specs.declared.outcome.Outcome.TheVariants.{Replied, More, Help, Nothing, Refused}
 use Rattle.gx_events.specs.declared.outcome.Need.TheVariants as need
@@ -22,9 +24,8 @@ use Rattle.gx_events.proofs.Follows.{stands_itself}
 use Rattle.gx_shared.specs.declared.record.TheConstants.{RECORD}
 use Rattle.gx_shared.specs.declared.flush.Part.{Part}
 use Rattle.gx_shared.specs.declared.flush.Part.TheVariants as part
-use Rattle.gx_shared.specs.Calls.{open_calls}
-use Rattle.gx_shared.specs.Books.{IsBook, IsKept, IsOf, MayBeShared}
-use Rattle.gx_shared.specs.Sharing.{RefusesToGiveUp, InCall, Follows, IsCalled, flusher_event, shares_of, fresh_sessions}
+use Rattle.gx_shared.specs.Books.{IsBook, IsHold, IsKept, IsMade, IsOf, IsWorked, MayBeShared}
+use Rattle.gx_shared.specs.Sharing.{RefusesToGiveUp, InCall, Follows, IsCalled, IsRun, flusher_event, given_up, shares_of, fresh_sessions, stops}
 use Rattle.gx_shared.proofs.Opening.{owed_by_open}
 
 -- an engine that is seen as the machine with nothing committed may be shared by a run that starts at it
@@ -120,20 +121,64 @@ pub kept_total : {B E : Type 0} (k : Keys B) (granted : Type 0) (sees : E → Ma
     → IsKept k granted sees starts engine calls opened capacity total → total' ≡ total → IsKept k granted sees starts engine calls opened capacity total'
 kept_total k granted sees starts engine calls opened capacity total total' b same = subst (IsKept k granted sees starts engine calls opened capacity) (sym same) b
 
--- an outcome without a reply leaves a share as it is
-pub share_of_work : {B : Type 0} (o told : Outcome B) (session : ℕ × ℕ) → replied o ≡ 0 → replied told ≡ replied o → session ≡ (session.0, session.1 + replied told)
-share_of_work o told session none same = same_share session (replied told) (same ∙ none)
+abbrev stopped : {B : Type 0} → Refusal → Bool → Outcome B
+stopped why b = if b then Refused why else Refused refusal.Damaged
 
--- an outcome that is told replies as the one that came
-pub share_of_own : {B : Type 0} (old new : ℕ × ℕ) (o told : Outcome B) → new ≡ (old.0, old.1 + replied o) → replied told ≡ replied o
-    → new ≡ (old.0, old.1 + replied told)
-share_of_own old new o told share same = share ∙ ap (λ (n : ℕ). (old.0, old.1 + n)) (sym same)
+stopped_replies : (B : Type 0) (why : Refusal) (b : Bool) → replied (stopped {B = B} why b) ≡ 0
+stopped_replies B why true = refl
+stopped_replies B why false = refl
+
+-- an outcome that is given up replies as the one that came
+replies_as : {B : Type 0} (o : Outcome B) → replied (given_up o) ≡ replied o
+replies_as (Replied r) = refl
+replies_as More = refl
+replies_as (Help need) = refl
+replies_as Nothing = refl
+replies_as (Refused why) = stopped_replies _ why (stops why)
+
+stopped_refuses : (B : Type 0) (why : Refusal) (b : Bool) → stops why ≡ b → RefusesToGiveUp (stopped {B = B} why b)
+stopped_refuses B why true is = is
+stopped_refuses B why false is = refl
+
+refuses_as : {B : Type 0} (o : Outcome B) → RefusesToGiveUp (given_up o)
+refuses_as (Replied r) = tt
+refuses_as More = tt
+refuses_as (Help need) = tt
+refuses_as Nothing = tt
+refuses_as (Refused why) = stopped_refuses _ why (stops why) refl
+
+-- it refuses to give the call up
+pub given_up_refuses : {B : Type 0} (o given : Outcome B) → given ≡ given_up o → RefusesToGiveUp given
+given_up_refuses o given is = subst RefusesToGiveUp (sym is) (refuses_as o)
+
+-- one without a reply leaves a share as it is
+pub share_of_work : {B : Type 0} (o given : Outcome B) (session : ℕ × ℕ) → replied o ≡ 0 → given ≡ given_up o → session ≡ (session.0, session.1 + replied given)
+share_of_work o given session none is = same_share session (replied given) (ap replied is ∙ replies_as o ∙ none)
+
+-- and else the share rises as the outcome that came says
+pub share_of_own : {B : Type 0} (old new : ℕ × ℕ) (o given : Outcome B) → new ≡ (old.0, old.1 + replied o) → given ≡ given_up o → new ≡ (old.0, old.1 + replied given)
+share_of_own old new o given share is = share ∙ ap (λ (n : ℕ). (old.0, old.1 + n)) (sym (replies_as o) ∙ ap replied (sym is))
 
 pub own_of : {B : Type 0} (s : ℕ) (event : Event B) (b : Bool) → InCall s event → b ≡ is_work event → b ≡ false → IsOf s event
 own_of s event b call is none = own_event s event call (sym is ∙ none)
 
 pub work_of : {B : Type 0} (event : Event B) (b : Bool) → b ≡ is_work event → b ≡ true → is_work event ≡ true
 work_of event b is work = sym is ∙ work
+
+-- a hold of a call that made an event as `apply` does
+pub run_by_work : {B E : Type 0} (k : Keys B) (engine : Ghosts E B) (old new : E × List (Item B)) (event : Event B) (o given : Outcome B) (b : Bool)
+    → b ≡ is_work event → b ≡ true → IsWorked k engine old event o new → given ≡ given_up o → IsRun k engine old event given new
+run_by_work k engine old new event o given b is work worked told =
+    let other : is_work event ≡ false → ⊥ = λ none. let both : true ≡ false = sym work ∙ is ∙ none in cc in
+    record { given = o; outcome_is = told; worked = λ _. worked; made = λ none. absurd (other none); hold = λ none. absurd (other none) }
+
+-- and as `apply_for` does
+pub run_by_own : {B E : Type 0} (k : Keys B) (engine : Ghosts E B) (old new : E × List (Item B)) (event : Event B) (o given : Outcome B) (b : Bool)
+    → b ≡ is_work event → b ≡ false → IsMade engine.makes old event o new → (engine.granted → IsHold k engine.sees old event o new) → given ≡ given_up o
+    → IsRun k engine old event given new
+run_by_own k engine old new event o given b is own made hold told =
+    let other : is_work event ≡ true → ⊥ = λ work. let both : true ≡ false = sym work ∙ sym is ∙ own in cc in
+    record { given = o; outcome_is = told; worked = λ work. absurd (other work); made = λ _. made; hold = λ _. hold }
 
 -- what follows a hold, as the driver says it
 pub follows_next : {B : Type 0} (old new : ℕ × ℕ) (o : Outcome B) (driver : ℕ) (next : Next B) → next ≡ next_of driver o → driver ≡ old.0

@@ -10,7 +10,7 @@ use Rattle.gx_machine.specs.Keys.{Keys}
 use Rattle.gx_machine.specs.Machine.{Machine, newest}
 use Rattle.gx_events.specs.declared.engine.Events.{Ghosts}
 use Rattle.gx_events.specs.declared.event.Event.{Event}
-use Rattle.gx_events.specs.declared.event.Event.TheVariants.{Ask, Move, LogStep, WritePage, CheckpointStep, Sweep}
+use Rattle.gx_events.specs.declared.event.Event.TheVariants.{Ask, Move}
 use Rattle.gx_events.specs.declared.outcome.Outcome.{Outcome}
 use Rattle.gx_events.specs.declared.outcome.Outcome.TheVariants.{Replied, Refused}
 use Rattle.gx_events.specs.Happens.{Happens}

@@ -1,11 +1,11 @@
 -- Sessions made and handed back, and what a call and a flusher do.
-use Rattle.std.specs.Prelude.{ℕ, zero, suc, ◌≡◌, ◌⊎◌, ◌+◌, ◌%◌, ◌<◌, Bool, true, false, Option, None, Some, sum_by, List, [], ◌∷◌, ◌++◌}
+use Rattle.std.specs.Prelude.{ℕ, zero, suc, ◌≡◌, ◌⊎◌, ◌+◌, ◌%◌, Bool, true, false, if◌then◌else◌, Option, None, Some, sum_by, List, [], ◌∷◌, ◌++◌}
+use Rattle.gx_geom.specs.declared.refusal.Refusal.{Refusal}
 use Rattle.gx_geom.specs.declared.refusal.Refusal.TheVariants as refusal
 use Rattle.gx_machine.specs.declared.reply.Reply.{Reply}
 use Rattle.gx_machine.specs.declared.reply.Reply.TheVariants as reply
 use Rattle.gx_machine.specs.declared.item.Item.{Item}
 use Rattle.gx_machine.specs.Keys.{Keys}
-use Rattle.gx_machine.specs.Machine.{Machine}
 use Rattle.gx_events.specs.declared.event.Event.{Event}
 use Rattle.gx_events.specs.declared.event.Event.TheVariants.{LogStep, WritePage, CheckpointStep, Sweep}
 use Rattle.gx_events.specs.declared.outcome.Outcome.{Outcome}
@@ -14,7 +14,7 @@ use Rattle.gx_events.specs.declared.engine.Events.{Ghosts}
 use Rattle.gx_events.specs.declared.driver.Next.{Next}
 use Rattle.gx_events.specs.declared.driver.Next.TheVariants.{Run, Done}
 use Rattle.gx_events.specs.Work.{is_work}
-use Rattle.gx_shared.specs.Books.{IsOf, IsHold, IsWorked}
+use Rattle.gx_shared.specs.Books.{IsOf, IsHold, IsMade, IsWorked}
 use Rattle.gx_shared.specs.declared.flush.Part.{Part}
 use Rattle.gx_shared.specs.declared.flush.Part.TheVariants as part
 
@@ -27,12 +27,17 @@ fresh_sessions (suc n) = fresh_sessions n ++ (suc n, 0) ∷ []
 abbrev pub shares_of : List (ℕ × ℕ) → ℕ
 shares_of sessions = sum_by (λ s. s.1) sessions
 
--- a reply to a call that is given up before it is finished: for a fault, or for a record that is full
+-- a refusal that ends a call before it is finished: a fault, or a record that is full
+abbrev pub stops : Refusal → Bool
+stops refusal.Device = true
+stops refusal.Failed = true
+stops refusal.Damaged = true
+stops refusal.HistoryFull = true
+stops other = false
+
+-- a reply to a call that is given up so
 abbrev pub gives_up : {B : Type 0} → Reply B → Bool
-gives_up (reply.Refused refusal.Device) = true
-gives_up (reply.Refused refusal.Failed) = true
-gives_up (reply.Refused refusal.Damaged) = true
-gives_up (reply.Refused refusal.HistoryFull) = true
+gives_up (reply.Refused why) = stops why
 gives_up other = false
 
 -- A session's call: it is finished, and the session's share rises by one; or it is given up, and its share is as before.
@@ -45,8 +50,22 @@ InCall s event = IsOf s event ⊎ (is_work event ≡ true)
 
 -- where an outcome refuses, the call is given up
 abbrev pub RefusesToGiveUp : {B : Type 0} → Outcome B → Type 0
-RefusesToGiveUp {B} (Refused why) = gives_up {B = B} (reply.Refused why) ≡ true
+RefusesToGiveUp (Refused why) = stops why ≡ true
 RefusesToGiveUp other = Unit {0}
+
+-- an outcome as it ends a call: a refusal that gives no call up becomes damage
+abbrev pub given_up : {B : Type 0} → Outcome B → Outcome B
+given_up (Refused why) = if stops why then Refused why else Refused refusal.Damaged
+given_up other = other
+
+-- A hold of a call: an event that is no session's was made as `apply` makes it, one of the session as `apply_for` does, and no other; the outcome is
+-- given as it ends a call.
+pub record IsRun {B E : Type 0} (k : Keys B) (engine : Ghosts E B) (old : E × List (Item B)) (event : Event B) (outcome : Outcome B) (new : E × List (Item B)) : Type 0 where
+  pub given : Outcome B
+  pub outcome_is : outcome ≡ given_up given
+  pub worked : is_work event ≡ true → IsWorked k engine old event given new
+  pub made : is_work event ≡ false → IsMade engine.makes old event given new
+  pub hold : is_work event ≡ false → engine.granted → IsHold k engine.sees old event given new
 
 -- what follows a hold in a call: another event of it, and the session is as before; or the end of the call
 abbrev pub Follows : {B : Type 0} → ℕ × ℕ → Next B → ℕ × ℕ → Type 0

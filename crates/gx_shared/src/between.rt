@@ -1,6 +1,7 @@
 //! What happens between two events, while no lock is held.
 
-/// Is called between two events of a call, and after each event of a flusher, while no lock is held.
+/// Is called between two events of a call, and after each event of a flusher, while no lock is held. It must not wait
+/// for a commit of another session, which may wait for this call to end.
 pub trait Between {
     /// Comes after an event of this session, 0 for a flusher: the first has step 1, and each further one the next
     /// number, up to 2^64 - 1.

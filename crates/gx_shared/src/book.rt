@@ -3,10 +3,9 @@ ghost use Rattle.std.specs.Prelude.{◌≡◌, ℕ, ◌+◌, ◌-◌, ◌*◌, �
 ghost use Rattle.std.specs.Prelude.{true, MatchBool, MatchResult, vec_len, vec_capacity};
 ghost use Rattle.gx_machine.specs.declared.item.Item.TheVariants as item;
 ghost use Rattle.gx_events.specs.declared.outcome.Outcome.TheVariants as outcome;
-ghost use Rattle.gx_machine.specs.declared.reply.Reply.TheVariants as reply;
 ghost use Rattle.gx_events.specs.Work.{is_work, replied};
 ghost use Rattle.gx_shared.specs.Books.{IsHanded, is_fault};
-ghost use Rattle.gx_shared.specs.Sharing.{gives_up, RefusesToGiveUp};
+ghost use Rattle.gx_shared.specs.Sharing.{given_up, stops, RefusesToGiveUp};
 ghost use Rattle.gx_shared.specs.declared.record.TheConstants.{RECORD};
 
 use crate::agree::agree;
@@ -61,9 +60,9 @@ fn keep_reply<B: Shape, R: Ledger>(
     reply
 }
 
-/// Whether a refusal gives a call up: for a fault, or for a record that is full.
-fn gives_up(why: Refusal) -> bool
-    ensures { result ≡ gives_up {B = ℕ} (reply.Refused why) }
+/// Whether a refusal ends a call before it is finished: a fault, or a record that is full.
+fn stops(why: Refusal) -> bool
+    ensures { result ≡ stops why }
 {
     matches!(
         why,
@@ -72,15 +71,13 @@ fn gives_up(why: Refusal) -> bool
 }
 
 /// An outcome as it ends a call: a refusal for anything but a fault or a full record, which is of a move of a call that
-/// isn't open, is told as `Damaged`.
+/// isn't open, becomes `Damaged`.
 fn given_up<B: Shape>(last: Outcome<B>) -> Outcome<B>
-    ensures replied { replied result ≡ replied last }
-    ensures refuses { RefusesToGiveUp result }
-    ensures same { RefusesToGiveUp last → result ≡ last }
+    ensures { result ≡ given_up last }
 {
     match last {
         Outcome::Refused(why) => {
-            if gives_up(why) {
+            if stops(why) {
                 Outcome::Refused(why)
             } else {
                 Outcome::Refused(Refusal::Damaged)
@@ -142,7 +139,7 @@ impl<B: Shape, E: Events<B>, R: Run<B>> Book<B, E, R> {
     ghost use Rattle.std.specs.Prelude.{length, IfOk, IfErr, MatchOption};
     ghost use Rattle.gx_machine.specs.Keys.{keys_of};
     ghost use Rattle.gx_events.specs.Items.{finished};
-    ghost use Rattle.gx_shared.specs.Sharing.{InCall, IsFlushed};
+    ghost use Rattle.gx_shared.specs.Sharing.{InCall, IsFlushed, IsRun};
     ghost use Rattle.gx_events.specs.declared.event.Event.TheVariants.{Ask, Move};
     ghost use Rattle.gx_shared.specs.Agreed.{replies_of};
     ghost use Rattle.gx_shared.specs.Books.{MayBeShared, Stands, IsOf, IsHold, IsMade, IsWorked};
@@ -286,11 +283,13 @@ impl<B: Shape, E: Events<B>, R: Run<B>> Book<B, E, R> {
         }
     }
 
-    /// Applies an event of a session's call, which is the session's own or no session's. The session's share rises by
-    /// one where a reply is recorded. Where the outcome refuses, it is for a fault or for a record that is full.
-    #[tactic(auto, using(crate::proofs::Sharing::share_of_work, crate::proofs::Sharing::share_of_own, crate::proofs::Sharing::own_of, crate::proofs::Sharing::work_of))]
+    /// Applies an event of a session's call, which is the session's own or no session's, in one hold of the lock, and
+    /// nothing else. The session's share rises by one where a reply is recorded. Where the outcome refuses, it is for a
+    /// fault or for a record that is full.
+    #[tactic(auto, using(crate::proofs::Sharing::run_by_work, crate::proofs::Sharing::run_by_own, crate::proofs::Sharing::share_of_work, crate::proofs::Sharing::share_of_own, crate::proofs::Sharing::given_up_refuses, crate::proofs::Sharing::own_of, crate::proofs::Sharing::work_of))]
     pub(crate) fn run(&mut self, session: &mut Session<R>, event: Event<B>) -> Outcome<B>
         requires { InCall session.old.0 event }
+        ensures made { IsRun (keys_of B.Shape) E.Events self.old event result self.new }
         ensures share { session.new ≡ (session.old.0, session.old.1 + replied result) }
         ensures refuses { RefusesToGiveUp result }
     {

@@ -41,8 +41,10 @@ impl<R: Ledger> Session<R> {
     ghost use Rattle.gx_shared.specs.Sharing.{IsCalled};
 
     /// Asks a call and runs its events to the end, one hold of the lock for each; `between` comes between two of them,
-    /// while no lock is held. The session is used with the `Shared` that made it. Before the log is stepped for a
-    /// sealed commit others get a turn to seal theirs, for a bounded time.
+    /// while no lock is held. The session is used with the `Shared` that made it.
+    ///
+    /// It waits for the lock, and with a sealed commit for the end of a round that another session leads; never for a
+    /// time. Before the log is stepped for a sealed commit others get a turn to seal theirs.
     ///
     /// The reply is the one that was recorded, and the session's share rises by one. Or the call is given up, and its
     /// share is as before: with `Device`, `Failed` or `Damaged` where an event of the log or of a page met a fault,
@@ -62,24 +64,25 @@ impl<R: Ledger> Session<R> {
     {
         let number = self.number();
         let turns = &shared.turns;
-        let mut turn = CallTurn::begin_call(number, &call);
+        let mut turn = CallTurn::begin_call(number, &call, turns);
         let mut event = Event::Ask(number, call);
         let mut step: u64 = 0;
         for _ in rt.forever() {
             let moves = matches!(event, Event::Move(_));
-            match hold(rt, shared, self, event) {
+            turn.look(turns);
+            let next = match hold(rt, shared, self, event) {
                 Next::Done(reply) => {
                     turn.end_call(turns);
                     return reply;
                 }
-                Next::Run(next) => event = next,
-            }
-            if moves && matches!(event, Event::Move(_)) {
-                turn.moved();
+                Next::Run(next) => next,
+            };
+            if moves && matches!(next, Event::Move(_)) {
+                turn.moved(turns);
             }
             step = step.saturating_add(1);
             between.between(number, step);
-            turn.wait(rt, turns, &event);
+            event = turn.next(rt, turns, number, next);
         }
         unreachable!()
     }

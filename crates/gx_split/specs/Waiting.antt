@@ -1,4 +1,4 @@
--- The groups as they are kept: what covers each, and the keys that wait with their growths.
+-- What is kept of the groups: what covers each, and the keys that wait with their growths.
 use Rattle.std.specs.Prelude.{ℕ, ◌≡◌, ◌+◌, ◌<◌, ◌^◌, Bool, true, false, List, All, Some, length, map, slice_get, slice_set}
 use Rattle.std.specs.Int.{abs_diff}
 use Rattle.gx_split.specs.declared.waiting.Waiting.{Waiting}

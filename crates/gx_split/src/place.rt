@@ -24,7 +24,7 @@ fn join_group<M: Measure>(second: bool, key: &M, covers: &mut Covers<M>)
     }
 }
 
-/// Whether the cover of a group covers a key, so that the key leaves it as it is.
+/// Whether the cover of a group covers a key, so that the key doesn't change it.
 fn is_covered<M: Measure>(second: bool, key: &M, covers: &Covers<M>) -> bool
     ensures { result ≡ true → M.joined (cover_of second covers.now) key.now ≡ cover_of second covers.now }
 {

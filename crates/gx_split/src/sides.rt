@@ -90,7 +90,7 @@ fn place_all<M: Measure>(
 }
 
 /// Splits 2 to 101 keys in two groups with at least `least` keys each. In `sides`, which has a place for each key,
-/// `true` stands for the second group.
+/// `true` means the second group.
 ///
 /// The groups begin with the two keys whose union wastes most, the lower slot in the first. Then the key at which
 /// the growths of the two covers are farthest apart goes to the group that grows less, until a group needs all that

@@ -12,6 +12,6 @@ use Rattle.gx_storage.specs.State.{Volume}
 abbrev pub bringing : {D : Type 0} → Volume D → Shelf D
 bringing v = record v.shelf { batch = v.log.used; has_room = true }
 
--- whether a node is a leaf that has a marked pair that nobody claims
+-- whether a node is a leaf that has a marked pair that no session claims
 abbrev pub has_removable : {B : Type 0} → (Entry B → Bool) → Node B → Bool
 has_removable claimed node = (node.level == 0) && nat_lt 0 (how_many (is_sweepable (λ x. claimed (entry_of x))) node.pairs)

@@ -1,4 +1,4 @@
--- What a change finds to do, as the pages stand.
+-- What a change finds to do, by the pages of now.
 use Rattle.std.specs.Prelude.{ℕ, Bool, Option, None, Some}
 use Rattle.gx_node.specs.Reach.{TraversalItem}
 use Rattle.gx_node.specs.Trees.{Node, Pair}

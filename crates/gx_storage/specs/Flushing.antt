@@ -52,8 +52,8 @@ pub record HelpsFrames (s : State) (wanted : ℕ) (result : Option Help) : Type 
   pub enough : wanted ≤ clean_count s → result ≡ None
   pub few : clean_count s < wanted → (least : Option ℕ) × IsLeastWritable s least × (result ≡ Some (frame_by least))
 
--- What helps against a fault: for want of room the log's next call; for want of frames what gives one; and nothing against a device
--- that fails or lies.
+-- What helps after a fault: where room lacked, the log's next call; where clean frames lacked, what gives one; and
+-- nothing where the device fails or lies.
 abbrev pub Helps : {D : Type 0} → Shelf D → StoreFault → Option Help → Type 0
 Helps s NoRoom result = result ≡ Some help.Log
 Helps s (TooFewFrames wanted) result = HelpsFrames s.frames wanted result
@@ -119,7 +119,8 @@ module _ {B : Type 0} (k : Known (Entry B) (Page B)) (r : Reading (Entry B) (Pag
   StepsLog d e v w result = (bodies : List (List (Record (Entry B) (Page B)))) (s : Logged (Entry B) (Page B)) → IsLawful k → Keeps k r f passes d v bodies s
       → Becomes d e w (bodies_stepped result bodies (with_batch v.log.stage v.log.filling s)) s (stepped result (with_batch v.log.stage v.log.filling s))
 
-  -- The same records stand over the page area that is read now, which is as it was on each page that no gated record gives.
+  -- The records are the same, over the page area that is read now, which is as it was on each page that no gated record
+  -- gives.
   pub record Rewrites {D : Type 0} (d e : Device) (w : Volume D) (bodies : List (List (Record (Entry B) (Page B)))) (s : Logged (Entry B) (Page B)) : Type 0 where
     pub keeps : Keeps k r f passes e w bodies (rewritten r k.pages e.seen s)
     pub beside : AgreesBeside s.gated s.area (area_of r k.pages e.seen)

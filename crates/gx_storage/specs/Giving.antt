@@ -17,15 +17,15 @@ placed a (b ∷ rest) = if nat_lt a b then a ∷ b ∷ rest else b ∷ placed a 
 abbrev pub rising : ℕ → ℕ → ℕ → List ℕ
 rising a b c = placed c (min a b ∷ max a b ∷ [])
 
--- pages with their contents, as they stand
+-- pages with their contents of now
 abbrev pub contents_at : {D : Type 0} → List ℕ → Shelf D → List ℕ → List (ℕ × Contents)
 contents_at seen s pages = map (λ page. (page, standing s.frames seen page)) pages
 
--- pages that were changed, as they stand now, with the numbers as they are now
+-- pages that were changed, with their contents and the numbers of now
 abbrev pub pages_given : {D : Type 0} → List ℕ → List ℕ → Shelf D → Rec
 pages_given pages seen s = Pages s.counter s.used (images_of (contents_at seen s pages))
 
--- a page that is held has an image, as it stands, under its own number
+-- a page that is held has an image of its content, under its own number
 pub record IsGiven {D : Type 0} (seen : List ℕ) (s : Shelf D) (page : ℕ) : Type 0 where
   pub held : IsHeld s page
   pub well : IsWellFormed (standing s.frames seen page)

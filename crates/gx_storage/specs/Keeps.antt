@@ -35,9 +35,10 @@ use Rattle.gx_storage.specs.State.{Volume}
 
 -- the entries and pages of a class, as its log's theory has them
 module _ {B : Type 0} (k : Known (Entry B) (Page B)) (r : Reading (Entry B) (Page B)) (f : Format B) (passes : ℕ → Contents → Bool) where
-  -- A volume keeps a state: log and frames run on the device that carries it; each dirty page is given by a record, and was changed
-  -- for a batch that began or for the one that fills; what is read is what stands there, and can be read; each page is as all records
-  -- leave it; and so are the numbers; each kept page has an image; and the log gives each page whose bit is set.
+  -- A volume keeps a state: log and frames run on the device that carries it; each dirty page is given by a record, and
+  -- was changed for a batch that began or for the one that fills; pages are steady, and can be read; each page is as
+  -- all records leave it; and so are the numbers; each kept page has an image; and the log gives each page whose bit is
+  -- set.
   pub record Keeps {D : Type 0} (d : Device) (v : Volume D) (bodies : List (List (Record (Entry B) (Page B)))) (s : Logged (Entry B) (Page B)) : Type 0 where
     pub runs : Runs k r v.log v.shelf.frames d bodies s
     pub said : AllSaid v.shelf.frames s

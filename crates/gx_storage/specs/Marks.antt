@@ -20,8 +20,8 @@ module _ {B : Type 0} (IsKey : B → Type 0) (shape : Members B) where
     pub wanted : IsOfEntry entry wants
     pub has : HasWanted wants node
 
-  -- The mark of the entry's pair in a leaf is set; or it isn't in the leaf, and nothing has changed. So it is where what is read is what
-  -- stands there.
+  -- The mark of the entry's pair in a leaf is set; or it isn't in the leaf, and nothing has changed. So it is where
+  -- pages are steady.
   pub record MarksEntry (steady : Type 0) (old new : Store B) (entry : Entry B) (a : ℕ) (marked : Bool) (sought : Sought) : Type 0 where
     pub wants : Pair B → Bool
     pub wanted : IsOfEntry entry wants

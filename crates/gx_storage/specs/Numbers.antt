@@ -6,7 +6,7 @@ use Rattle.gx_tree.specs.declared.seek.Sought.{Sought}
 use Rattle.gx_tree.specs.declared.seek.Sought.TheVariants.{Here, Right}
 use Rattle.gx_storage.specs.Changes.{image_at}
 
--- the image of a page, as it stands now, has that page's number as its own
+-- the image of a page's content of now has that page's number as its own
 abbrev pub HasOwnNumber : {D : Type 0} → List ℕ → Shelf D → ℕ → Type 0
 HasOwnNumber seen s page = (read_of (image_at seen s page)).number ≡ page
 

@@ -39,15 +39,15 @@ use Rattle.gx_storage.specs.State.{Volume}
 use Rattle.gx_storage.specs.Sweeping.{SweepIsLogged, SweepIsRefused}
 
 module _ {D : Type 0} (state : D → Device) where
-  -- what is read of the device is what stands there, and each clean page is what the device has
+  -- the device reads steadily, and each clean page is what the device has
   abbrev pub IsSteadyAs : Shelf D → Type 0
   IsSteadyAs s = IsSteady (state s.disk) s.frames
 
-  -- the image of a page, as it stands, has that page's number as its own
+  -- the image of a page's content has that page's number as its own
   abbrev pub OwnNumberAs : Shelf D → ℕ → Type 0
   OwnNumberAs s page = HasOwnNumber (state s.disk).seen s page
 
-  -- a page that was changed, as it stands, with the numbers as they are; and several
+  -- a page that was changed, with its content and the numbers of now; and several
   abbrev pub page_given_at : ℕ → Shelf D → Rec
   page_given_at page s = page_given page (state s.disk).seen s
 

@@ -1,5 +1,5 @@
--- What is logged of a change of one page, by the page's bit: where the selected extent has an image of the page, the change
--- alone, else the page as it then stands. And how many bytes that record has.
+-- What is logged of a change of one page, by the page's bit: where the selected extent has an image of the page, the
+-- change alone, otherwise the page after it. And how many bytes that record has.
 use Rattle.std.specs.Prelude.{ℕ, ◌+◌, ◌*◌, ◌<◌, ◌^◌, Bool, true, false, List}
 use Rattle.gx_page.specs.Bytes.{AreBytes}
 use Rattle.gx_record.specs.Rec.{Rec, Bit, Add, Widen, Sweep}

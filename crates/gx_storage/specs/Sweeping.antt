@@ -26,7 +26,7 @@ use Rattle.gx_storage.specs.Imaged.{is_imaged}
 use Rattle.gx_storage.specs.Small.{sweep_room, sweep_said}
 use Rattle.gx_storage.specs.State.{Volume}
 
--- the slots of a node's marked pairs that nobody claims, rising
+-- the slots of a node's marked pairs that no session claims, rising
 abbrev pub swept_slots : {B : Type 0} → (Entry B → Bool) → Node B → List ℕ
 swept_slots claimed node = slots_from 0 (map (is_sweepable (λ x. claimed (entry_of x))) node.pairs)
 
@@ -56,8 +56,8 @@ module _ {B : Type 0} (known : Limits → Known (Entry B) (Page B)) (r : Reading
     pub exact : IsSteady d v.shelf.frames → AreSwept slots
     pub logged : IsLoggedIf known r f passes (room_for slots) d e v w (sweep_said (is_imaged v.imaged page) page slots e.seen w.shelf) any
 
-  -- A sweep was refused, and nothing is logged: for want of room only where the log had none for the record of just these slots. They are
-  -- no more than a record may have.
+  -- A sweep was refused, and nothing is logged: with `NoRoom` only where the log had no room for the record of just
+  -- these slots. They are no more than a record may have.
   pub record SweepIsRefused (fault : StepFault StoreFault) : Type 0 where
     pub slots : List ℕ
     pub exact : fault ≡ Pages NoRoom → IsSteady d v.shelf.frames → AreSwept slots

@@ -56,8 +56,8 @@ impl<D: SectorDisk, K: ReadKeys> Storage<D, K> {
         self.log.is_idle() && self.log.has_head() && self.store.dirty_frames() == 0
     }
 
-    /// Settles all that was written, in one device call. Pages and log are left as they stand. Refused with `Device`
-    /// exactly where the device failed.
+    /// Settles all that was written, in one device call. Pages and log don't change. Refused with `Device` exactly
+    /// where the device failed.
     ///
     /// Of an honest device, whether it succeeds or not: the same state is kept, and at each moment what a crash may
     /// leave stands for a kept set.
@@ -123,9 +123,9 @@ impl<D: SectorDisk, K: ReadKeys> Storage<D, K> {
     }
 
     /// Makes the next device call of the turn to the other extent, exactly one, in this order: its gates closed, its
-    /// first body, sync, its gate, sync, the selector, sync. Answers which call it was; with `Done` the log goes on
-    /// in the other extent behind the head, of no page an image was appended there, and the frames are told. Pages are
-    /// left as they stand. Refused with `Device` exactly where the device failed; the call is then still due.
+    /// first body, sync, its gate, sync, the selector, sync. Returns which call it was. With `Done` the log goes on in
+    /// the other extent behind the head, where no page has an image yet, and the frames begin again at batch 0. Pages
+    /// don't change. Refused with `Device` exactly where the device failed; the call is then still due.
     ///
     /// Of an honest device whose pages are settled, where the head is the log renewed: the same state is kept until
     /// the last call, and after it the one with the renewed log alone. Whether it succeeds or not, no set changes,

@@ -23,7 +23,7 @@ use gx_glog::{Appended, Stage};
 use gx_record::Record;
 use gx_store::StoreFault;
 
-/// What an event waits for that was refused for want of room or of clean frames.
+/// What an event waits for that was refused because room or clean frames lacked.
 #[derive(Clone, Copy, Debug, PartialEq, Eq)]
 pub enum Help {
     /// The log's next device call.
@@ -53,11 +53,11 @@ impl<D: SectorDisk, K: ReadKeys> Storage<D, K> {
         }
     }
 
-    /// What helps an event that was refused so. Want of room in the log: the log's next call, since its filling
-    /// buffer is emptied when a batch begins. Want of clean frames, where still fewer are clean: the write of the
-    /// least page whose changes are all in gated batches, and where no page is such, the log's next call, which gates
-    /// more. Nothing helps against a device that fails or lies, and nothing is to be done where as many frames are
-    /// clean by now.
+    /// What helps an event that was refused so. Where room in the log lacked: the log's next call, since its filling
+    /// buffer is emptied when a batch begins. Where clean frames lacked, and still do: the write of the least page
+    /// whose changes are all in gated batches, and where there is no such page, the log's next call, which gates more.
+    /// Nothing helps against a device that fails or lies, and nothing is to be done where as many frames are clean by
+    /// now.
     pub fn help(&self, fault: StoreFault) -> Option<Help>
         ensures { Helps self.now.shelf fault result }
     {
@@ -76,9 +76,9 @@ impl<D: SectorDisk, K: ReadKeys> Storage<D, K> {
         self.log.used()
     }
 
-    /// Makes the log's next device call, at most one, and tells the frames of a batch whose gate is synced. Answers
-    /// which call it was, and Idle where nothing is logged and none was made. Pages are left as they stand. Refused
-    /// with `Device` exactly where the device failed; the call is then still due.
+    /// Makes the log's next device call, at most one; once a gate is synced the frames learn of its batch. Returns
+    /// which call it was, and Idle where nothing is logged and none was made. Pages don't change. Refused with `Device`
+    /// exactly where the device failed; the call is then still due.
     ///
     /// Of an honest device: what filled is in flight from its first call on, and its commits are durable from its
     /// gate's sync on, and not before. Whether it succeeds or not, no set changes, and at each moment what a crash
@@ -99,11 +99,11 @@ impl<D: SectorDisk, K: ReadKeys> Storage<D, K> {
         self.store.log_step::<OfClass<K>>(&mut self.log)
     }
 
-    /// Writes a page to its sectors, where it has changes and all of them are in gated batches, and answers whether
+    /// Writes a page to its sectors, where it has changes and all of them are in gated batches, and returns whether
     /// that was so; else nothing is done. A page that was written is clean. Refused with `Device` exactly where the
     /// device failed; the page is then kept as it was, with its changes.
     ///
-    /// Of an honest device, while no turn is under way: whether it succeeds or not, the same records stand over the
+    /// Of an honest device, while no turn is under way: whether it succeeds or not, the records are the same, over the
     /// page area that is read now, no set changes, and at each moment what a crash may leave stands for a kept set of
     /// the state before.
     pub fn write_page(&mut self, page: u32) -> Result<bool, Refusal>
@@ -145,7 +145,7 @@ impl<D: SectorDisk, K: ReadKeys> Storage<D, K> {
     }
 
     /// Appends the record that a transaction commits, as the commit of that number. Nothing is written to the device,
-    /// and the pages stay as they stand. `NoRoom` exactly where the log has no room for it; nothing then changes.
+    /// and no page changes. `NoRoom` exactly where the log has no room for it; nothing then changes.
     pub fn append_commit(&mut self, transaction: u64, number: u64) -> Result<(), StoreFault>
         requires place { self.old.log.used < PLACES }
         ensures recorded { Recorded (rec.Commit transaction number) self.old self.new result }
@@ -158,8 +158,8 @@ impl<D: SectorDisk, K: ReadKeys> Storage<D, K> {
         })
     }
 
-    /// Appends the record that a transaction's undo is done. Nothing is written to the device, and the pages stay as
-    /// they stand. `NoRoom` exactly where the log has no room for it; nothing then changes.
+    /// Appends the record that a transaction's undo is done. Nothing is written to the device, and no page changes.
+    /// `NoRoom` exactly where the log has no room for it; nothing then changes.
     pub fn append_end(&mut self, transaction: u64) -> Result<(), StoreFault>
         requires place { self.old.log.used < PLACES }
         ensures recorded { Recorded (rec.End transaction) self.old self.new result }

@@ -1,4 +1,4 @@
-//! A page that is brought and lent as it stands, and whether a sweep takes anything from it.
+//! A page that is brought and lent, and whether a sweep removes anything from it.
 ghost use Rattle.std.specs.Prelude.{◌≡◌, ◌≢◌, ◌≤◌, ◌<◌, nat_lt, Bool, true, Some, Err, IfErr, OnOk, length, slice_get};
 ghost use Rattle.gx_machine.specs.declared.entry.Entry.{Entry};
 ghost use Rattle.gx_node.specs.Edits.{entry_of};
@@ -23,7 +23,7 @@ use gx_page::Page;
 use gx_store::StoreFault;
 use gx_tree::Pages;
 
-/// Whether a slot's pair is marked and nobody claims it.
+/// Whether a slot's pair is marked and no session claims it.
 fn is_removable<K: KeyClass, F: Fn(Entry<K::Key>) -> bool>(
     leaf: &Leaf<K>,
     slot: usize,
@@ -39,7 +39,7 @@ fn is_removable<K: KeyClass, F: Fn(Entry<K::Key>) -> bool>(
     marked && !claimed(entry)
 }
 
-/// Whether a leaf has a marked pair that nobody claims.
+/// Whether a leaf has a marked pair that no session claims.
 fn any_removable<K: KeyClass, F: Fn(Entry<K::Key>) -> bool>(leaf: &Leaf<K>, claimed: &F) -> bool
     requires claimed { F.IsAlwaysCallable claimed.now }
     ensures { (test : Entry K.Key → Bool)
@@ -74,7 +74,7 @@ impl<D: SectorDisk, K: ReadKeys> Storage<D, K> {
         self.store.bring(&[page])
     }
 
-    /// A page that is held, as it stands.
+    /// A page that is held.
     pub fn held_page(&self, page: u32) -> &Page
         requires { IsHeld self.now.shelf page }
         ensures stands { result.now ≡ standing self.now.shelf.frames (D.state self.now.shelf.disk).seen page }
@@ -87,7 +87,7 @@ impl<D: SectorDisk, K: ReadKeys> Storage<D, K> {
         self.store.held_page(page)
     }
 
-    /// Whether a sweep takes anything from a page that is held: it is a leaf that has a marked pair that nobody
+    /// Whether a sweep removes anything from a page that is held: it is a leaf that has a marked pair that no session
     /// claims. Nothing changes.
     pub fn has_removable<F: Fn(Entry<K::Key>) -> bool>(&self, page: u32, claimed: F) -> bool
         requires held { IsHeld self.now.shelf page }

@@ -86,7 +86,7 @@ impl<D: SectorDisk, K: ReadKeys> Storage<D, K> {
         self.store.used()
     }
 
-    /// How many splits were made, but for the root's: the greatest node sequence number.
+    /// How many splits were made, except for the root's: the greatest node sequence number.
     pub fn counter(&self) -> u64
         ensures { result ≡ self.now.shelf.counter }
     {

@@ -9,6 +9,7 @@ use Rattle.gx_store.specs.State.{Shelf}
 abbrev pub ready_pages : {D : Type 0} → Shelf D → ℕ
 ready_pages s = cond s.has_room (min (clean_count s.frames) (s.pages - s.used)) 0
 
--- what an event is told that takes so many pages: that its record has no room, or how many frames it wants, where fewer are clean
+-- what an event learns that takes so many pages: that its record has no room, or how many frames it wants, where fewer
+-- are clean
 abbrev pub prepared : {D : Type 0} → Shelf D → ℕ → Result (Unit {0}) StoreFault
 prepared s taken = cond s.has_room (cond (nat_lt (clean_count s.frames) taken) (Err (TooFewFrames taken)) (Ok tt)) (Err NoRoom)

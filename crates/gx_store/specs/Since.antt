@@ -9,8 +9,8 @@ use Rattle.gx_store.specs.Faults.{CanBeRead}
 use Rattle.gx_store.specs.Standing.{standing}
 use Rattle.gx_store.specs.State.{Shelf, IsSteady}
 
--- A page is as it was: it has the same stamp, and what it has is the same where it is dirty. And on a device that it is read from as
--- it stands, it stands as it did, though it may have come into a frame or gone from it.
+-- A page is as it was: it has the same stamp, and what it has is the same where it is dirty. And on a device that reads
+-- steadily the store shows it as before, though it may have come into a frame or gone from it.
 pub record IsAsItWas (d e : Device) (old new : State) (page : ℕ) : Type 0 where
   pub stamp : stamp_of (kept new page) ≡ stamp_of (kept old page)
   pub dirty : IsSome (stamp_of (kept old page)) → kept new page ≡ kept old page

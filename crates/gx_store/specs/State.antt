@@ -43,7 +43,7 @@ pub record IsHeld {D : Type 0} (s : Shelf D) (page : ℕ) : Type 0 where
   pub kept : IsSome (kept s.frames page)
   pub stays : may_go s.frames page ≡ false
 
--- what is read of the device is what stands there, and each clean page is what the device has
+-- the device reads steadily, and each clean page is what the device has
 pub record IsSteady (d : Device) (frames : State) : Type 0 where
   pub honest : d.honest ≡ true
   pub backed : IsBacked frames d.seen

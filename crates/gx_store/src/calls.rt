@@ -1,4 +1,4 @@
-//! What whoever keeps the log beside the pages has the store's frames and device do.
+//! What the owner of the log has the store's frames and device do.
 ghost use Rattle.std.specs.Prelude.{◌≡◌, ◌↔◌, ◌≤◌, ℕ, [], true, false, Ok};
 ghost use Rattle.std.specs.Prelude.{IfSome, IfNone, IfOk, IfErr, OnOk, length};
 ghost use Rattle.gx_disk.specs.Device.{Counts, IsSettled, SameDevice, CountsFault};
@@ -61,8 +61,8 @@ impl<D: SectorDisk, K: KeyClass> PageStore<D, K> {
         self.pool.dirty()
     }
 
-    /// Makes the next device call of a log on the store's device, and tells the frames of a batch whose gate is synced.
-    /// Pages are left as they stand, in frames and on the device.
+    /// Makes the next device call of a log on the store's device; once a gate is synced the frames learn of its batch.
+    /// No page changes, in frames or on the device.
     ///
     /// Refused as the log's own step.
     pub fn log_step<M: Spelled>(&mut self, log: &mut Glog) -> Result<Stage, Refusal>
@@ -81,8 +81,8 @@ impl<D: SectorDisk, K: KeyClass> PageStore<D, K> {
         log_step::<M, NodeTest<K>, D>(log, &mut self.pool, &mut self.disk)
     }
 
-    /// Writes a page to its sectors, where it has changes and all of them are in gated batches, and answers whether
-    /// that was so; else nothing is done. Once it is written it is clean. Each page is left as it stands.
+    /// Writes a page to its sectors, where it has changes and all of them are in gated batches, and returns whether
+    /// that was so; otherwise nothing is done. Once it is written it is clean. No page changes.
     ///
     /// Refused with `Device` where the device failed. The page is then kept as it was, with its changes.
     pub fn write_page<M: Spelled>(&mut self, page: u32) -> Result<bool, Refusal>
@@ -111,7 +111,7 @@ impl<D: SectorDisk, K: KeyClass> PageStore<D, K> {
         write_page::<M, NodeTest<K>, D>(&mut self.pool, &mut self.disk, page)
     }
 
-    /// Settles all that was written to the store's device. Pages are left as they stand.
+    /// Settles all that was written to the store's device. No page changes.
     ///
     /// Refused with `Device` where the device failed.
     pub fn sync<M: Spelled>(&mut self) -> Result<(), Refusal>
@@ -126,8 +126,8 @@ impl<D: SectorDisk, K: KeyClass> PageStore<D, K> {
         sync::<M, D>(&mut self.disk)
     }
 
-    /// Makes the next device call of a log's turn to the other extent, and tells the frames of one that has ended.
-    /// Pages are left as they stand; none is dirty.
+    /// Makes the next device call of a log's turn to the other extent; the frames learn of one that has ended. No page
+    /// changes; none is dirty.
     ///
     /// Refused as the log's own step of a turn.
     pub fn turn_step<M: Spelled>(&mut self, log: &mut Glog) -> Result<Turn, Refusal>

@@ -9,7 +9,7 @@ use gx_disk::SectorDisk;
 use gx_page::Page;
 
 impl<D: SectorDisk, K: KeyClass> PageStore<D, K> {
-    /// A page that is held, as it is kept: so a record has its image.
+    /// A page that is held: so a record has its image.
     pub fn held_page(&self, page: u32) -> &Page
         requires { IsHeld self.now page }
         ensures { IfSome (kept self.now.frames page) (λ k. result.now ≡ k.page) }

@@ -1,5 +1,5 @@
-//! The pages of a tree in frames over a device:
-//! what the tree's steps ask of whoever keeps pages, and what an event tells of its record.
+//! The pages of a tree in frames over a device: the store that the tree's steps ask for, and what an event says of its
+//! record.
 #![tactic(auto)]
 
 mod calls;

@@ -9,8 +9,8 @@ use gx_disk::SectorDisk;
 use gx_pool::Pool;
 use std::marker::Model;
 
-/// The pages of a tree in frames over a device. Its log is no part of it, so that no step of the tree touches that; an
-/// event tells it what it has to know of the log by `begin_event`.
+/// The pages of a tree in frames over a device. Its log is no part of it, so that no step of the tree touches that;
+/// `begin_event` says what the store has to know of the log.
 #[derive(Drop)]
 pub struct PageStore<D: SectorDisk, K: KeyClass> {
     pub(crate) disk: D,

@@ -1,4 +1,4 @@
-//! Short logs told record by record: where the first refusal comes, and what is kept.
+//! Short logs taken record by record: where the first refusal comes, and what is kept.
 use crate::asserts::{got, same};
 use Step::{Commit, Counters, End, Note, Pages, Write};
 use gx_geom::Box2;
@@ -60,7 +60,7 @@ fn tells(
     same(rt, &tell_step(rt, analysis, step), &wanted);
 }
 
-/// An analysis that was told nothing.
+/// An analysis that has taken nothing.
 fn untold<R: Abort + AllocGlobal>(rt: &R) -> Analysis<Entry<Box2>> {
     got(rt, Analysis::new(rt.alloc(), PAGES))
 }

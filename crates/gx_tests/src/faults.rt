@@ -1,5 +1,5 @@
 //! Readers and writers that fail with each common kind of error, once or for ever: what a script makes of it, and that
-//! nobody is asked again after an error or after the end.
+//! neither is called again after an error or after the end.
 use crate::asserts::{got, holds, same};
 use gx_geom::Box2;
 use gx_plain::{PlainIndex, run_plain};
@@ -33,7 +33,7 @@ enum Failing {
 }
 
 // The errors of a reader or a writer with the last that it gave, how often it was called, and how often after one of
-// them, but for interrupted calls.
+// them, except for interrupted calls.
 #[derive(Drop)]
 struct Errors {
     failing: Failing,

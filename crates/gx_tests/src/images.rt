@@ -10,7 +10,7 @@ use std::process::Abort;
 /// How many sectors 16 pages take.
 const SECTORS: usize = 4296;
 
-/// Reads a device from its first sector on, and answers whether that was done.
+/// Reads a device from its first sector on, and returns whether that was done.
 fn read_whole<D: SectorDisk>(disk: &mut D, bytes: &mut [u8]) -> bool {
     let size = bytes.len() as u64;
     if size == 0 || size % 512 != 0 || size / 512 > disk.sectors() {
@@ -52,7 +52,7 @@ fn damage(
     found
 }
 
-/// Sets a byte, and answers what it was.
+/// Sets a byte, and returns what it was.
 fn set(bytes: &mut [u8], at: usize, value: u8) -> u8 {
     match bytes.get_mut(at) {
         Some(place) => std::mem::replace(place, value),

@@ -9,13 +9,13 @@ use std::process::Abort;
 
 const ROWS: u64 = 3000;
 
-// The box of a row: rows stand in a line, each touching none.
+// The box of a row: rows are in a line, and none touches another.
 fn place(row: u64) -> Option<Box2> {
     let x = 10 * i32::from(u16::try_from(row).ok()?);
     Box2::new(x, 0, x + 1, 1).ok()
 }
 
-// Inserts the rows in transactions of 500, and answers whether each was.
+// Inserts the rows in transactions of 500, and returns whether each was.
 fn fill(index: &mut PlainIndex<Box2>) -> bool {
     let mut all = true;
     for row in 0..ROWS {

@@ -1,4 +1,4 @@
-//! Tests by public calls of what no contract says. Drawn runs, and what no contract says of devices, records, frames,
+//! Tests by public calls of what no contract says. Random runs, and what no contract says of devices, records, frames,
 //! the log and the index, are lines of `stdin` of the programs named `_runs`.
 #![tactic(auto)]
 

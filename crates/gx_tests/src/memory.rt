@@ -9,7 +9,7 @@ fn second_number(text: &str) -> Option<u64> {
     text.split(' ').nth(1)?.parse::<u64>().ok()
 }
 
-// How many pages of 4,096 bytes the process has in memory; none where that isn't told.
+// How many pages of 4,096 bytes the process has in memory; none where the system doesn't say.
 fn resident<R: Files + AllocGlobal>(rt: &R) -> Option<u64> {
     match fs::read_to_string(rt, "/proc/self/statm") {
         Ok(text) => second_number(text.as_str()),
@@ -17,7 +17,7 @@ fn resident<R: Files + AllocGlobal>(rt: &R) -> Option<u64> {
     }
 }
 
-// Makes a page with so many items of 20 bytes, and another one of its image. Answers whether both were made.
+// Makes a page with so many items of 20 bytes, and another one of its image. Returns whether both were made.
 fn is_made(alloc: Global, number: u32, items: u32) -> bool {
     let Ok(mut page) = Page::fresh(alloc, 0, number) else {
         return false;

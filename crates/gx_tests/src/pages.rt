@@ -8,7 +8,7 @@ use gx_page::{PAGE_SIZE, Page, PageFault};
 use std::process::Abort;
 use std::thread::{self, Threads};
 
-/// A part of a block: where it stands, and its bytes.
+/// A part of a block: its place, and its bytes.
 type Part<'a> = (usize, &'a [u8]);
 
 /// Writes bytes over those of a block from a place on.

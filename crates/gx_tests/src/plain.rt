@@ -56,7 +56,7 @@ static SCRIPTS: [Row; 11] = [
         b"1 COMMIT\n9 BEGIN\n1 HELLO\n1 BEGIN\n1 BEGIN\n",
         b"1 refused 1 no transaction\n9 refused 15 bad session\nline 3 bad\n1 ok\n1 refused 2 in transaction\n",
     ),
-    // sixteen predicates of its own are a session's most; one that it holds takes no second place
+    // a session has sixteen predicates at most; one that it holds takes no second place
     (
         b"1 BEGIN\n1 INSERT 1 0 0 2 2\n1 INSERT 2 1 1 3 3\n1 COMMIT\n1 BEGIN\n1 WITHIN 0 0 2 2\n1 EQUAL 1 1 3 3\n1 OVERLAP 2 2 2 2\n\
         1 EQUAL 10 0 10 0\n1 EQUAL 11 0 11 0\n1 EQUAL 12 0 12 0\n1 EQUAL 13 0 13 0\n1 EQUAL 14 0 14 0\n1 EQUAL 15 0 15 0\n1 EQUAL 16 0 16 0\n\
@@ -163,7 +163,7 @@ fn ask_told(asked: Asked<Box2>) -> Told {
     }
 }
 
-// A session asks this, or is answered, and what is told of it.
+// A session asks this, or is answered, and what comes of it.
 type Step = (u8, Option<Word>, Told);
 
 static STEPS: [Step; 16] = [

@@ -28,7 +28,7 @@ const WIDENED: [u8; 23] = [
 /// Slots 0, 3 and 258 leave page 2.
 const SWEPT: [u8; 12] = [10, 0, 0, 0, 2, 3, 0, 0, 0, 3, 1, 2];
 
-/// Whether all of the bytes are one record, which is spelled as they are, and no shorter front is one.
+/// Whether all of the bytes are one record, whose spelling they are, and no shorter front is one.
 fn is_one_record(bytes: &[u8]) -> bool {
     let mut again = [0; 64];
     for end in 0..bytes.len() {

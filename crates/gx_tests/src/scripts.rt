@@ -60,7 +60,7 @@ impl Answers for List {
     }
 }
 
-// Gives so many bytes a read, each time after an interrupted read, and fails after the last where it is told to.
+// Gives so many bytes a read, each time after an interrupted read, and fails after the last where that is asked.
 #[derive(Drop)]
 struct Drip<'a> {
     rest: &'a [u8],

@@ -268,7 +268,7 @@ fn goes(
     has_third(rt, pages, third);
 }
 
-// A step of a descent widens the bound by which it goes down, once, and remembers the child with the counter as it is.
+// A step of a descent widens the bound by which it goes down, once, and remembers the child with the counter of now.
 #[test]
 fn a_descent_widens_a_bound(rt: HostRuntime) {
     let far = make_box(&rt, FAR);

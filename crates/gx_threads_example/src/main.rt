@@ -9,24 +9,31 @@
 //! inserts and a search.
 //!
 //! A line may have the word `storm` first, and then a seed, how many sessions there are and how many calls each makes;
-//! so their calls are drawn, and the record is replayed by the plain index.
+//! so their calls are random, and the plain index replays the record.
+//!
+//! Behind `paced` the first thread commits so many single inserts, while each of the others commits one a millisecond;
+//! behind `reads` it commits without pause, while each of the others reads so often in one transaction. What they did
+//! is printed, with the time that it took.
 //!
 //! The program prints what the record says of each session, how many calls were finished in all, how many commits there
 //! are, and how many entries the index has once it is opened again: the same in whatever order the threads came.
 #![tactic(auto)]
 
+mod beside;
 mod index;
 mod share;
 mod storms;
 mod trouble;
 mod work;
 
+use beside::{Beside, work_beside};
 use gx_disk::{FileDisk, MemDisk, SectorDisk};
 use gx_format::sectors_for;
 use index::{count, make, open_index, settle};
 use share::share;
 use std::alloc::Global;
 use std::fs::{File, Files};
+use std::rt::Clock;
 use std::sync::Wait;
 use std::thread::Threads;
 use storms::{read_storm, storm};
@@ -44,13 +51,13 @@ const MOST: u16 = 100;
 struct Wanted<'l> {
     threads: u8,
     transactions: u16,
-    kind: Kind,
+    job: Job,
     file: Option<&'l str>,
 }
 
 /// A line's two numbers, and the file behind them, if there is one.
 fn read_line(line: &str) -> Result<Wanted<'_>, Trouble> {
-    let (kind, line) = Kind::read(line);
+    let (job, line) = Job::read(line);
     let Some((threads, rest)) = line.split_once(' ') else {
         return Err(Trouble::BadLine);
     };
@@ -62,15 +69,38 @@ fn read_line(line: &str) -> Result<Wanted<'_>, Trouble> {
         (Ok(threads), Ok(transactions)) => Ok(Wanted {
             threads,
             transactions,
-            kind,
+            job,
             file,
         }),
         _ => Err(Trouble::BadLine),
     }
 }
 
+/// What a line has before its numbers.
+#[derive(Clone, Copy)]
+enum Job {
+    /// All threads make transactions of this kind.
+    Alike(Kind),
+    /// The first does something else than the others.
+    Beside(Beside),
+}
+
+impl Job {
+    /// The job that a line's first word names, and the rest of the line.
+    fn read(line: &str) -> (Job, &str) {
+        if let Some(rest) = line.strip_prefix("paced ") {
+            return (Job::Beside(Beside::Paced), rest);
+        }
+        if let Some(rest) = line.strip_prefix("reads ") {
+            return (Job::Beside(Beside::Reads), rest);
+        }
+        let (kind, rest) = Kind::read(line);
+        (Job::Alike(kind), rest)
+    }
+}
+
 /// Makes an index on a device, opens it, has the threads work on it, settles it, and opens it again.
-fn serve<D: SectorDisk + Drop + Send, W: Threads + Wait + Sync + Print>(
+fn serve<D: SectorDisk + Drop + Send, W: Threads + Wait + Clock + Sync + Print>(
     rt: &W,
     alloc: Global,
     disk: D,
@@ -78,14 +108,11 @@ fn serve<D: SectorDisk + Drop + Send, W: Threads + Wait + Sync + Print>(
 ) -> Result<(), Trouble> {
     let disk = make(alloc, disk, PAGES, MOST)?;
     let engine = open_index(alloc, disk)?;
-    let engine = share(
-        rt,
-        alloc,
-        engine,
-        wanted.threads,
-        wanted.transactions,
-        wanted.kind,
-    )?;
+    let (threads, each) = (wanted.threads, wanted.transactions);
+    let engine = match wanted.job {
+        Job::Alike(kind) => share(rt, alloc, engine, threads, each, kind)?,
+        Job::Beside(what) => work_beside(rt, alloc, engine, threads, each, what)?,
+    };
     let disk = settle(engine)?;
     let entries = count(alloc, disk)?;
     println!(rt; "opened again: {entries} entries")?;
@@ -113,7 +140,7 @@ fn run_storm<W: Threads + Wait + Sync + Print + Files<File = File>>(
 }
 
 /// Does what a line says.
-fn run_line<W: Threads + Wait + Sync + Print + Files<File = File>>(
+fn run_line<W: Threads + Wait + Clock + Sync + Print + Files<File = File>>(
     rt: &W,
     alloc: Global,
     line: &str,
@@ -130,7 +157,7 @@ fn run_line<W: Threads + Wait + Sync + Print + Files<File = File>>(
 }
 
 /// Does what each line says.
-fn run_lines<W: Threads + Wait + Sync + Print + Input + Files<File = File>>(
+fn run_lines<W: Threads + Wait + Clock + Sync + Print + Input + Files<File = File>>(
     rt: &W,
     alloc: Global,
 ) -> Result<(), Trouble> {

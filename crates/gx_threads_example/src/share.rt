@@ -16,7 +16,7 @@ use std::sync::ledger::Blank;
 use std::thread::{Threads, map_vec};
 
 /// So many workers, by the first sessions.
-fn workers<R: Run<Box2>>(
+pub(crate) fn workers<R: Run<Box2>>(
     alloc: Global,
     sessions: &mut Vec<Session<R>>,
     threads: u8,

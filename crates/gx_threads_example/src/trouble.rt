@@ -13,7 +13,7 @@ pub(crate) enum Trouble {
     File,
     /// The index can't be made, opened or settled, or refuses a call.
     Index,
-    /// Memory lacks.
+    /// Memory was refused.
     Memory,
     /// A line can't be read or written.
     Stream,

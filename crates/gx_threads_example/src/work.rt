@@ -62,7 +62,7 @@ impl<R: Ledger> Worker<R> {
     }
 
     /// One call, to its end; its reply is kept where the session's share rose.
-    fn call<E: Events<Box2>, W: Wait>(
+    pub(crate) fn call<E: Events<Box2>, W: Wait>(
         &mut self,
         rt: &W,
         shared: &Shared<Box2, E, R>,
@@ -96,7 +96,7 @@ impl<R: Ledger> Worker<R> {
     }
 
     /// Searches the strip's first places.
-    fn search<E: Events<Box2>, W: Wait>(
+    pub(crate) fn search<E: Events<Box2>, W: Wait>(
         &mut self,
         rt: &W,
         shared: &Shared<Box2, E, R>,
@@ -115,7 +115,7 @@ impl<R: Ledger> Worker<R> {
     }
 
     /// A transaction.
-    fn transact<E: Events<Box2>, W: Wait>(
+    pub(crate) fn transact<E: Events<Box2>, W: Wait>(
         &mut self,
         rt: &W,
         shared: &Shared<Box2, E, R>,

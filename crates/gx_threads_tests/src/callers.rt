@@ -3,19 +3,15 @@ ghost use Rattle.std.specs.Prelude.{◌≡◌};
 ghost use Rattle.gx_machine.specs.declared.limits.TheConstants.{SESSIONS};
 ghost use Rattle.gx_shared.specs.Books.{MayBeShared};
 
+use crate::asserts::{got, holds};
 use gx_events::Events;
 use gx_geom::Box2;
 use gx_machine::{Call, Entry, Query, Reply};
 use gx_shared::{Between, NoBetween, Run, Session, Shared};
-use std::alloc::{AllocError, Global};
+use std::alloc::Global;
+use std::process::Abort;
 use std::sync::Wait;
 use std::sync::ledger::{Blank, Ledger};
-use std::test::Fail;
-
-/// Fails unless this holds.
-pub fn wanted(holds: bool, what: &'static str) -> Result<(), Fail> {
-    if holds { Ok(()) } else { Err(Fail::new(what)) }
-}
 
 /// A box with this corner, one wide and one high.
 pub fn at(x: i32, y: i32) -> Box2 {
@@ -52,84 +48,72 @@ impl<R: Ledger> Caller<R> {
     }
 
     /// One call, with what comes between its events.
-    pub fn held<E: Events<Box2>, G: Between, W: Wait>(
+    pub fn held<E: Events<Box2>, G: Between, W: Wait + Abort>(
         &mut self,
         rt: &W,
         shared: &Shared<Box2, E, R>,
         call: Call<Box2>,
         between: &G,
-    ) -> Result<(), AllocError>
+    )
     where
         R: Run<Box2>,
     {
         let reply = self.session.call(rt, shared, call, between);
-        self.replies.push(reply)?;
-        Ok(())
-    }
-
-    /// One call.
-    pub fn call<E: Events<Box2>, W: Wait>(
-        &mut self,
-        rt: &W,
-        shared: &Shared<Box2, E, R>,
-        call: Call<Box2>,
-    ) -> Result<(), AllocError>
-    where
-        R: Run<Box2>,
-    {
-        self.held(rt, shared, call, &NoBetween)
+        got(rt, self.replies.push(reply), "no memory for a reply");
     }
 
     /// Calls, one after another.
-    pub fn calls<E: Events<Box2>, W: Wait>(
+    pub fn calls<E: Events<Box2>, W: Wait + Abort>(
         &mut self,
         rt: &W,
         shared: &Shared<Box2, E, R>,
         calls: &[Call<Box2>],
-    ) -> Result<(), AllocError>
+    )
     where
         R: Run<Box2>,
     {
         for call in calls {
-            self.call(rt, shared, *call)?;
+            self.held(rt, shared, *call, &NoBetween);
         }
-        Ok(())
     }
 }
 
 /// An engine with nothing committed, shared by eight sessions.
 pub fn start<E: Events<Box2> + Drop, R: Run<Box2>>(
+    rt: &impl Abort,
     alloc: Global,
     blank: Blank,
     engine: E,
-) -> Result<(Shared<Box2, E, R>, Vec<Session<R>>), Fail>
+) -> (Shared<Box2, E, R>, Vec<Session<R>>)
     requires name { blank.name ≡ R.name }
     requires parts { (blank.parts ≡ R.parts) × (R.parts ≡ SESSIONS) }
     requires starts { E.granted → MayBeShared E.sees R.starts engine }
 {
-    match Shared::new(alloc, blank, engine) {
-        Ok(made) => Ok(made),
-        Err(_) => Err(Fail::new("no memory for the record")),
-    }
+    got(
+        rt,
+        Shared::new(alloc, blank, engine),
+        "no memory for the record",
+    )
 }
 
 /// A caller by the first session that is left.
 pub fn next_caller<R: Run<Box2>>(
+    rt: &impl Abort,
     alloc: Global,
     sessions: &mut Vec<Session<R>>,
-) -> Result<Caller<R>, Fail> {
-    if sessions.is_empty() {
-        return Err(Fail::new("no session is left"));
-    }
-    Ok(Caller::new(alloc, sessions.remove(0)))
+) -> Caller<R> {
+    let some = !sessions.is_empty();
+    holds(rt, some, "no session is left");
+    Caller::new(alloc, sessions.remove(0))
 }
 
 /// A caller's session back among the others; its replies.
 pub fn back<R: Run<Box2>>(
+    rt: &impl Abort,
     sessions: &mut Vec<Session<R>>,
     caller: Caller<R>,
-) -> Result<Vec<Reply<Box2>>, AllocError> {
+) -> Vec<Reply<Box2>> {
     let Caller { session, replies } = caller;
-    sessions.push(session)?;
-    Ok(replies)
+    got(rt, sessions.push(session), "no memory for a session");
+    replies
 }

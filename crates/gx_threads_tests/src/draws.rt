@@ -1,12 +1,12 @@
-//! Calls that are drawn.
+//! Random calls.
 use crate::callers::{Caller, at, entry};
 use gx_events::Events;
 use gx_geom::Box2;
 use gx_machine::{Call, Query};
-use gx_shared::{Run, Shared};
+use gx_shared::{NoBetween, Run, Shared};
 use rand_core::utils::NextWord;
 use rand_pcg::Pcg32;
-use std::alloc::AllocError;
+use std::process::Abort;
 use std::sync::Wait;
 
 /// A small coordinate.
@@ -31,19 +31,19 @@ fn drawn(draw: &mut Pcg32) -> Call<Box2> {
     }
 }
 
-/// Calls that are drawn, one after another.
-pub(crate) fn draws<E: Events<Box2>, R: Run<Box2>, W: Wait>(
+/// So many random calls, one after another.
+pub(crate) fn draws<E: Events<Box2>, R: Run<Box2>, W: Wait + Abort>(
     rt: &W,
     shared: &Shared<Box2, E, R>,
     caller: Caller<R>,
     seed: u64,
     calls: u32,
-) -> Result<Caller<R>, AllocError> {
+) -> Caller<R> {
     let mut caller = caller;
     let mut draw = Pcg32::new(seed, 54);
     for _ in 0..calls {
         let call = drawn(&mut draw);
-        caller.call(rt, shared, call)?;
+        caller.held(rt, shared, call, &NoBetween);
     }
-    Ok(caller)
+    caller
 }

@@ -1,4 +1,4 @@
-//! A flusher's rounds over an engine on which nobody calls any more.
+//! A flusher's rounds over an engine after all calls.
 ghost use Rattle.std.specs.Prelude.{◌≡◌};
 ghost use Rattle.gx_machine.specs.declared.limits.TheConstants.{SESSIONS};
 ghost use Rattle.gx_shared.specs.Books.{MayBeShared};
@@ -9,25 +9,25 @@ use gx_geom::Box2;
 use gx_machine::Call;
 use gx_shared::{NoBetween, Run, flusher};
 use std::alloc::Global;
+use std::process::Abort;
 use std::sync::Wait;
 use std::sync::ledger::Blank;
-use std::test::Fail;
 
 /// Two rows are committed, and one of them deleted and that committed; then a flusher makes so many rounds. Gives the
 /// engine back.
-pub fn flushed<E: Events<Box2> + Drop, R: Run<Box2>, W: Wait>(
+pub fn flushed<E: Events<Box2> + Drop, R: Run<Box2>, W: Wait + Abort>(
     rt: &W,
     alloc: Global,
     blank: Blank,
     engine: E,
     rounds: u64,
-) -> Result<E, Fail>
+) -> E
     requires name { blank.name ≡ R.name }
     requires parts { (blank.parts ≡ R.parts) × (R.parts ≡ SESSIONS) }
     requires starts { E.granted → MayBeShared E.sees R.starts engine }
 {
-    let (shared, mut sessions) = start::<E, R>(alloc, blank, engine)?;
-    let mut caller = next_caller(alloc, &mut sessions)?;
+    let (shared, mut sessions) = start::<E, R>(rt, alloc, blank, engine);
+    let mut caller = next_caller(rt, alloc, &mut sessions);
     let calls = [
         Call::Begin,
         Call::Insert(entry(1, 0, 0)),
@@ -37,8 +37,8 @@ pub fn flushed<E: Events<Box2> + Drop, R: Run<Box2>, W: Wait>(
         Call::Delete(entry(1, 0, 0)),
         Call::Commit,
     ];
-    caller.calls(rt, &shared, &calls)?;
+    caller.calls(rt, &shared, &calls);
     flusher(rt, &shared, rounds, &NoBetween);
-    let _replies = back(&mut sessions, caller)?;
-    Ok(shared.close(sessions).into_engine())
+    let _replies = back(rt, &mut sessions, caller);
+    shared.close(sessions).into_engine()
 }

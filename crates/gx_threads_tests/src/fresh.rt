@@ -34,8 +34,8 @@ pub(crate) fn fresh(
     }
 }
 
-/// The same in a file, which is made, or loses what it held. Where files keep what they are told, the engine is seen as
-/// the machine with nothing committed.
+/// The same in a file, which is made, or loses what it held. Where files keep what they acknowledge, the engine is seen
+/// as the machine with nothing committed.
 pub(crate) fn fresh_in_file<T: Files<File = File>>(
     rt: &T,
     alloc: Global,

@@ -3,63 +3,63 @@ ghost use Rattle.std.specs.Prelude.{◌≡◌};
 ghost use Rattle.gx_machine.specs.declared.limits.TheConstants.{SESSIONS};
 ghost use Rattle.gx_shared.specs.Books.{MayBeShared};
 
-use crate::callers::{Caller, at, back, entry, next_caller, overlap, start, wanted};
+use crate::asserts::{got, holds};
+use crate::callers::{Caller, at, back, entry, next_caller, overlap, start};
 use crate::draws::draws;
 use crate::held::Hold;
 use gx_events::Events;
 use gx_geom::Box2;
 use gx_machine::{Call, Reply};
 use gx_shared::{Book, NoBetween, Run, Shared, flusher};
-use std::alloc::{AllocError, Global};
+use std::alloc::Global;
+use std::process::Abort;
 use std::sync::Wait;
 use std::sync::ledger::Blank;
-use std::test::Fail;
 use std::thread::{Threads, join};
 
 /// Begins, inserts a row and commits; the commit is held.
-fn commits_held<E: Events<Box2>, R: Run<Box2>, W: Wait>(
+fn commits_held<E: Events<Box2>, R: Run<Box2>, W: Wait + Abort>(
     rt: &W,
     shared: &Shared<Box2, E, R>,
     caller: Caller<R>,
     hold: &Hold,
-) -> Result<Caller<R>, AllocError> {
+) -> Caller<R> {
     let mut caller = caller;
-    caller.call(rt, shared, Call::Begin)?;
-    caller.call(rt, shared, Call::Insert(entry(1, 0, 0)))?;
-    caller.held(rt, shared, Call::Commit, hold)?;
-    Ok(caller)
+    caller.held(rt, shared, Call::Begin, &NoBetween);
+    caller.held(rt, shared, Call::Insert(entry(1, 0, 0)), &NoBetween);
+    caller.held(rt, shared, Call::Commit, hold);
+    caller
 }
 
 /// Makes these calls while another session's call is held, and lets that one go; none where it isn't held.
-fn calls_while_held<E: Events<Box2>, R: Run<Box2>, W: Wait>(
+fn calls_while_held<E: Events<Box2>, R: Run<Box2>, W: Wait + Abort>(
     rt: &W,
     shared: &Shared<Box2, E, R>,
     caller: &mut Caller<R>,
     hold: &Hold,
     calls: &[Call<Box2>],
-) -> Result<(), AllocError> {
+) {
     if hold.is_reached() {
-        caller.calls(rt, shared, calls)?;
+        caller.calls(rt, shared, calls);
     }
     hold.let_go();
-    Ok(())
 }
 
 /// While a call is held: begins and searches; then lets it go.
-fn looks_meanwhile<E: Events<Box2>, R: Run<Box2>, W: Wait>(
+fn looks_meanwhile<E: Events<Box2>, R: Run<Box2>, W: Wait + Abort>(
     rt: &W,
     shared: &Shared<Box2, E, R>,
     caller: Caller<R>,
     hold: &Hold,
-) -> Result<Caller<R>, AllocError> {
+) -> Caller<R> {
     let mut caller = caller;
     let calls = [Call::Begin, overlap(at(50, 50))];
-    calls_while_held(rt, shared, &mut caller, hold, &calls)?;
-    Ok(caller)
+    calls_while_held(rt, shared, &mut caller, hold, &calls);
+    caller
 }
 
 /// While a call is held: a flusher of four rounds runs to its end.
-fn flushes_meanwhile<E: Events<Box2>, R: Run<Box2>, W: Wait>(
+fn flushes_meanwhile<E: Events<Box2>, R: Run<Box2>, W: Wait + Abort>(
     rt: &W,
     shared: &Shared<Box2, E, R>,
     hold: &Hold,
@@ -71,58 +71,63 @@ fn flushes_meanwhile<E: Events<Box2>, R: Run<Box2>, W: Wait>(
 }
 
 /// Fails unless session 2 was answered while session 1's commit was held.
-fn first_judged(hold: &Hold, one: &[Reply<Box2>], two: &[Reply<Box2>]) -> Result<(), Fail> {
-    wanted(!hold.was_late(), "session 2 wasn't answered in a hold")?;
-    wanted(
+fn first_judged(rt: &impl Abort, hold: &Hold, one: &[Reply<Box2>], two: &[Reply<Box2>]) {
+    holds(rt, !hold.was_late(), "session 2 wasn't answered in a hold");
+    holds(
+        rt,
         matches!(two.get(0), Some(Reply::Ok)),
         "session 2 didn't begin",
-    )?;
-    wanted(
+    );
+    holds(
+        rt,
         matches!(two.get(1), Some(Reply::Found(_))),
         "session 2 wasn't answered",
-    )?;
-    wanted(
+    );
+    holds(
+        rt,
         matches!(one.get(2), Some(Reply::Committed(1))),
         "session 1 didn't commit",
-    )
+    );
 }
 
 /// Session 1's commit is held after its first event, until session 2 has begun and has searched.
 pub fn first_hold<
     E: Events<Box2> + Drop + Send,
     R: Run<Box2> + Send + Sync,
-    W: Threads + Wait + Sync,
->(rt: &W, alloc: Global, blank: Blank, engine: E) -> Result<(), Fail>
+    W: Threads + Wait + Abort + Sync,
+>(rt: &W, alloc: Global, blank: Blank, engine: E)
     requires name { blank.name ≡ R.name }
     requires parts { (blank.parts ≡ R.parts) × (R.parts ≡ SESSIONS) }
     requires starts { E.granted → MayBeShared E.sees R.starts engine }
 {
-    let (shared, mut sessions) = start::<E, R>(alloc, blank, engine)?;
+    let (shared, mut sessions) = start::<E, R>(rt, alloc, blank, engine);
     let hold = Hold::new(1);
-    let one = next_caller(alloc, &mut sessions)?;
-    let two = next_caller(alloc, &mut sessions)?;
+    let one = next_caller(rt, alloc, &mut sessions);
+    let two = next_caller(rt, alloc, &mut sessions);
     let (one, two) = join(
         rt,
         || commits_held(rt, &shared, one, &hold),
         || looks_meanwhile(rt, &shared, two, &hold),
     );
-    let one = back(&mut sessions, one?)?;
-    let two = back(&mut sessions, two?)?;
+    let one = back(rt, &mut sessions, one);
+    let two = back(rt, &mut sessions, two);
     let _book = shared.close(sessions);
-    first_judged(&hold, one.as_slice(), two.as_slice())
+    first_judged(rt, &hold, one.as_slice(), two.as_slice())
 }
 
 /// Fails unless a flusher ended while session 1's commit was held, and made it durable.
-fn flusher_judged(hold: &Hold, one: &[Reply<Box2>]) -> Result<(), Fail> {
-    wanted(!hold.was_late(), "the flusher didn't end in a hold")?;
-    wanted(
+fn flusher_judged(rt: &impl Abort, hold: &Hold, one: &[Reply<Box2>]) {
+    holds(rt, !hold.was_late(), "the flusher didn't end in a hold");
+    holds(
+        rt,
         hold.steps() == (2, 2),
         "the flusher didn't make the commit durable",
-    )?;
-    wanted(
+    );
+    holds(
+        rt,
         matches!(one.get(2), Some(Reply::Committed(1))),
         "session 1 didn't commit",
-    )
+    );
 }
 
 /// Session 1's commit is held after its second event, until a flusher of four rounds has ended: it has made the commit
@@ -130,37 +135,37 @@ fn flusher_judged(hold: &Hold, one: &[Reply<Box2>]) -> Result<(), Fail> {
 pub fn flusher_hold<
     E: Events<Box2> + Drop + Send,
     R: Run<Box2> + Send + Sync,
-    W: Threads + Wait + Sync,
->(rt: &W, alloc: Global, blank: Blank, engine: E) -> Result<(), Fail>
+    W: Threads + Wait + Abort + Sync,
+>(rt: &W, alloc: Global, blank: Blank, engine: E)
     requires name { blank.name ≡ R.name }
     requires parts { (blank.parts ≡ R.parts) × (R.parts ≡ SESSIONS) }
     requires starts { E.granted → MayBeShared E.sees R.starts engine }
 {
-    let (shared, mut sessions) = start::<E, R>(alloc, blank, engine)?;
+    let (shared, mut sessions) = start::<E, R>(rt, alloc, blank, engine);
     let hold = Hold::new(2);
-    let one = next_caller(alloc, &mut sessions)?;
+    let one = next_caller(rt, alloc, &mut sessions);
     let (one, ()) = join(
         rt,
         || commits_held(rt, &shared, one, &hold),
         || flushes_meanwhile(rt, &shared, &hold),
     );
-    let one = back(&mut sessions, one?)?;
+    let one = back(rt, &mut sessions, one);
     let _book = shared.close(sessions);
-    flusher_judged(&hold, one.as_slice())
+    flusher_judged(rt, &hold, one.as_slice())
 }
 
 /// Commits two rows, of which a search for what is near the origin finds row 2.
-fn commits_two<E: Events<Box2>, R: Run<Box2>, W: Wait>(
+fn commits_two<E: Events<Box2>, R: Run<Box2>, W: Wait + Abort>(
     rt: &W,
     shared: &Shared<Box2, E, R>,
     caller: Caller<R>,
-) -> Result<Caller<R>, AllocError> {
+) -> Caller<R> {
     let mut caller = caller;
-    caller.call(rt, shared, Call::Begin)?;
-    caller.call(rt, shared, Call::Insert(entry(1, 100, 4)))?;
-    caller.call(rt, shared, Call::Insert(entry(2, 0, 0)))?;
-    caller.call(rt, shared, Call::Commit)?;
-    Ok(caller)
+    caller.held(rt, shared, Call::Begin, &NoBetween);
+    caller.held(rt, shared, Call::Insert(entry(1, 100, 4)), &NoBetween);
+    caller.held(rt, shared, Call::Insert(entry(2, 0, 0)), &NoBetween);
+    caller.held(rt, shared, Call::Commit, &NoBetween);
+    caller
 }
 
 /// The box from 0 to 5 in both coordinates.
@@ -172,25 +177,25 @@ fn near_origin() -> Box2 {
 }
 
 /// Begins, and searches near the origin; the search is held.
-fn searches_held<E: Events<Box2>, R: Run<Box2>, W: Wait>(
+fn searches_held<E: Events<Box2>, R: Run<Box2>, W: Wait + Abort>(
     rt: &W,
     shared: &Shared<Box2, E, R>,
     caller: Caller<R>,
     hold: &Hold,
-) -> Result<Caller<R>, AllocError> {
+) -> Caller<R> {
     let mut caller = caller;
-    caller.call(rt, shared, Call::Begin)?;
-    caller.held(rt, shared, overlap(near_origin()), hold)?;
-    Ok(caller)
+    caller.held(rt, shared, Call::Begin, &NoBetween);
+    caller.held(rt, shared, overlap(near_origin()), hold);
+    caller
 }
 
 /// While a call is held: inserts five rows elsewhere and commits them; then lets it go.
-fn inserts_meanwhile<E: Events<Box2>, R: Run<Box2>, W: Wait>(
+fn inserts_meanwhile<E: Events<Box2>, R: Run<Box2>, W: Wait + Abort>(
     rt: &W,
     shared: &Shared<Box2, E, R>,
     caller: Caller<R>,
     hold: &Hold,
-) -> Result<Caller<R>, AllocError> {
+) -> Caller<R> {
     let mut caller = caller;
     let calls = [
         Call::Begin,
@@ -201,8 +206,8 @@ fn inserts_meanwhile<E: Events<Box2>, R: Run<Box2>, W: Wait>(
         Call::Insert(entry(7, 100, 10)),
         Call::Commit,
     ];
-    calls_while_held(rt, shared, &mut caller, hold, &calls)?;
-    Ok(caller)
+    calls_while_held(rt, shared, &mut caller, hold, &calls);
+    caller
 }
 
 /// Whether a reply has found row 2 with its key and nothing else.
@@ -219,24 +224,28 @@ fn finds_row_2(reply: Option<&Reply<Box2>>) -> bool {
 /// Fails unless session 2 committed while session 1's search was held, which found row 2 all the same, after so many
 /// events.
 fn search_judged(
+    rt: &impl Abort,
     hold: &Hold,
     events: u64,
     one: &[Reply<Box2>],
     two: &[Reply<Box2>],
-) -> Result<(), Fail> {
-    wanted(!hold.was_late(), "session 2 wasn't answered in a hold")?;
-    wanted(
+) {
+    holds(rt, !hold.was_late(), "session 2 wasn't answered in a hold");
+    holds(
+        rt,
         hold.steps() == (events, events),
         "session 1's search took other events",
-    )?;
-    wanted(
+    );
+    holds(
+        rt,
         matches!(two.get(10), Some(Reply::Committed(2))),
         "session 2 didn't commit",
-    )?;
-    wanted(
+    );
+    holds(
+        rt,
         finds_row_2(one.get(1)),
         "session 1 found something else than row 2",
-    )
+    );
 }
 
 /// Session 1's search is held after its second event, until session 2 has inserted five rows and committed them. It
@@ -244,93 +253,102 @@ fn search_judged(
 pub fn search_hold<
     E: Events<Box2> + Drop + Send,
     R: Run<Box2> + Send + Sync,
-    W: Threads + Wait + Sync,
->(rt: &W, alloc: Global, blank: Blank, engine: E, events: u64) -> Result<(), Fail>
+    W: Threads + Wait + Abort + Sync,
+>(rt: &W, alloc: Global, blank: Blank, engine: E, events: u64)
     requires name { blank.name ≡ R.name }
     requires parts { (blank.parts ≡ R.parts) × (R.parts ≡ SESSIONS) }
     requires starts { E.granted → MayBeShared E.sees R.starts engine }
 {
-    let (shared, mut sessions) = start::<E, R>(alloc, blank, engine)?;
+    let (shared, mut sessions) = start::<E, R>(rt, alloc, blank, engine);
     let hold = Hold::new(2);
-    let one = next_caller(alloc, &mut sessions)?;
-    let two = next_caller(alloc, &mut sessions)?;
-    let two = commits_two(rt, &shared, two)?;
+    let one = next_caller(rt, alloc, &mut sessions);
+    let two = next_caller(rt, alloc, &mut sessions);
+    let two = commits_two(rt, &shared, two);
     let (one, two) = join(
         rt,
         || searches_held(rt, &shared, one, &hold),
         || inserts_meanwhile(rt, &shared, two, &hold),
     );
-    let one = back(&mut sessions, one?)?;
-    let two = back(&mut sessions, two?)?;
+    let one = back(rt, &mut sessions, one);
+    let two = back(rt, &mut sessions, two);
     let _book = shared.close(sessions);
-    search_judged(&hold, events, one.as_slice(), two.as_slice())
+    search_judged(rt, &hold, events, one.as_slice(), two.as_slice())
 }
 
 /// Fails unless the record has what both sessions were handed, each for its own session.
 fn paired<E: Events<Box2>, R: Run<Box2>>(
+    rt: &impl Abort,
     book: &Book<Box2, E, R>,
     one: &[Reply<Box2>],
     two: &[Reply<Box2>],
-) -> Result<(), Fail> {
-    wanted(
+) {
+    holds(
+        rt,
         book.agrees(1, one),
         "the record has other replies of session 1",
-    )?;
-    wanted(
+    );
+    holds(
+        rt,
         book.agrees(2, two),
         "the record has other replies of session 2",
-    )?;
-    wanted(
+    );
+    holds(
+        rt,
         !book.agrees(2, one),
         "the record has session 1's replies for session 2",
-    )
+    );
 }
 
 /// Two sessions keep the replies that they were handed; the record has just these, and not others.
-pub fn pairing<E: Events<Box2> + Drop + Send, R: Run<Box2> + Send + Sync, W: Threads + Wait + Sync>(
-    rt: &W,
-    alloc: Global,
-    blank: Blank,
-    engine: E,
-) -> Result<(), Fail>
+pub fn pairing<
+    E: Events<Box2> + Drop + Send,
+    R: Run<Box2> + Send + Sync,
+    W: Threads + Wait + Abort + Sync,
+>(rt: &W, alloc: Global, blank: Blank, engine: E)
     requires name { blank.name ≡ R.name }
     requires parts { (blank.parts ≡ R.parts) × (R.parts ≡ SESSIONS) }
     requires starts { E.granted → MayBeShared E.sees R.starts engine }
 {
-    let (shared, mut sessions) = start::<E, R>(alloc, blank, engine)?;
-    let one = next_caller(alloc, &mut sessions)?;
-    let two = next_caller(alloc, &mut sessions)?;
+    let (shared, mut sessions) = start::<E, R>(rt, alloc, blank, engine);
+    let one = next_caller(rt, alloc, &mut sessions);
+    let two = next_caller(rt, alloc, &mut sessions);
     let (one, two) = join(
         rt,
         || draws(rt, &shared, one, 1, 100),
         || draws(rt, &shared, two, 2, 100),
     );
-    let mut one = back(&mut sessions, one?)?;
-    let two = back(&mut sessions, two?)?;
+    let mut one = back(rt, &mut sessions, one);
+    let two = back(rt, &mut sessions, two);
     let book = shared.close(sessions);
-    paired(&book, one.as_slice(), two.as_slice())?;
+    paired(rt, &book, one.as_slice(), two.as_slice());
     let _ = one.pop();
-    one.push(Reply::Committed(1_000))?;
-    wanted(
+    got(
+        rt,
+        one.push(Reply::Committed(1_000)),
+        "no memory for a reply",
+    );
+    holds(
+        rt,
         !book.agrees(1, one.as_slice()),
         "a changed reply is accepted",
-    )
+    );
 }
 
 /// A run without calls has an empty record, and no share counts a call.
 pub fn empty<E: Events<Box2> + Drop, R: Run<Box2>>(
+    rt: &impl Abort,
     alloc: Global,
     blank: Blank,
     engine: E,
-) -> Result<(), Fail>
+)
     requires name { blank.name ≡ R.name }
     requires parts { (blank.parts ≡ R.parts) × (R.parts ≡ SESSIONS) }
     requires starts { E.granted → MayBeShared E.sees R.starts engine }
 {
-    let (shared, sessions) = start::<E, R>(alloc, blank, engine)?;
+    let (shared, sessions) = start::<E, R>(rt, alloc, blank, engine);
     let none = sessions.iter().all(|session| session.share() == 0);
     let eight = sessions.len() == 8;
     let book = shared.close(sessions);
-    wanted(none && eight, "a share counts a call")?;
-    wanted(book.calls().is_empty(), "the record isn't empty")
+    holds(rt, none && eight, "a share counts a call");
+    holds(rt, book.calls().is_empty(), "the record isn't empty");
 }

@@ -1,8 +1,10 @@
 //! Tests of sessions in threads over the engine of pages and a log: sessions that keep the replies that they were
-//! handed, calls that are held between two events, and calls that are drawn. What runs the threads takes any engine of
+//! handed, calls that are held between two events, and random calls. What runs the threads takes any engine of
 //! events.
 #![tactic(auto)]
 
+#[cfg(test)]
+mod asserts;
 #[cfg(test)]
 mod callers;
 #[cfg(test)]
@@ -16,6 +18,12 @@ mod held;
 #[cfg(test)]
 mod holds;
 #[cfg(test)]
+mod known;
+#[cfg(test)]
+mod records;
+#[cfg(test)]
 mod runs;
 #[cfg(test)]
 mod stormed;
+#[cfg(test)]
+mod watched;

@@ -1,4 +1,4 @@
--- What a look found, as the pairs that it stands for.
+-- What a look found, as pairs.
 use Rattle.std.specs.Prelude.{ℕ, List, map}
 use Rattle.gx_node.specs.Trees.{Pair}
 use Rattle.gx_tree.specs.declared.found.Found.{Found}

@@ -21,8 +21,9 @@ below counter leads children = map (λ c. record { page = c.page; seen = counter
 abbrev pub item_of : {B : Type 0} → ℕ → Child B → TraversalItem
 item_of counter c = record { page = c.page; seen = counter }
 
--- a look has read the node of its stack's last item: in its place stand the rightlink, if the node was split since, and
--- the entries that may lead to something wanted; and what is wanted of the node's pairs is found, in that page
+-- a look has read the node of its stack's last item: the item is replaced by the rightlink, if the node was split
+-- since, and by the entries that may lead to something wanted; and what is wanted of the node's pairs is found, in that
+-- page
 pub record Reads {B : Type 0} (counter : ℕ) (wants : Pair B → Bool) (leads : B → Bool) (node : Node B) (rest : List TraversalItem) (item : TraversalItem)
     (after : List TraversalItem) (old new : List (Found B)) : Type 0 where
   pub stack : after ≡ rest ++ (beyond node item ++ below counter leads node.children)

@@ -5,7 +5,7 @@ use Rattle.gx_node.specs.Trees.{Pair, Node}
 use Rattle.gx_tree.specs.declared.seek.Sought.{Sought}
 use Rattle.gx_tree.specs.declared.seek.Sought.TheVariants.{Here, Right}
 
--- whether the pair stands in the leaf
+-- whether the leaf has the pair
 abbrev pub is_here : Sought → Bool
 is_here (Here slot marked) = true
 is_here (Right page) = false

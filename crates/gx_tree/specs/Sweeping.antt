@@ -1,4 +1,4 @@
--- What a sweep takes out of a leaf, as it is planned.
+-- What a sweep removes from a leaf, as it is planned.
 use Rattle.std.specs.Prelude.{◌≡◌, ℕ, suc, ◌==◌, Bool, true, false, List, [], ◌∷◌, length, map}
 use Rattle.gx_machine.specs.declared.entry.Entry.{Entry}
 use Rattle.gx_node.specs.Edits.{entry_of}
@@ -33,7 +33,7 @@ pub record FitsLeaf {B : Type 0} (plan : Planned) (node : Node B) : Type 0 where
   pub childless : node.children ≡ []
   pub as_many : length plan.sides ≡ length node.pairs
 
--- what goes of a leaf is marked and nobody claims it, and all of that goes
+-- what goes of a leaf is marked and no session claims it, and all of that goes
 pub record PlansSweep {B : Type 0} (claimed : Entry B → Bool) (node : Node B) (plan : Planned) : Type 0 where
   pub leaf : node.level ≡ 0
   pub sides : plan.sides ≡ map (is_sweepable (λ x. claimed (entry_of x))) node.pairs

@@ -23,7 +23,7 @@ impl Model for TraversalItem {
 }
 
 impl TraversalItem {
-    /// A page and the counter as it is.
+    /// A page and the counter of now.
     pub fn new(page: u32, seen: u64) -> TraversalItem
         ensures { result ≡ record { page = page; seen = seen } }
     {

@@ -125,8 +125,8 @@ pub fn never_damaged<K>()
         → length (t.node a).children ≢ 0 }
 {}
 
-/// A live pair that is appended to a leaf is added to the tree, where its row and key stand nowhere yet and each
-/// entry that names the leaf covers the key.
+/// A live pair that is appended to a leaf is added to the tree, where no pair has its row and key yet and each entry
+/// that names the leaf covers the key.
 pub fn adding_is_a_step<K>()
     ensures { (r : Rules K) (old new : Tree K) → Legal r old → (a : ℕ) (entry : Entry K)
         → Appends r.most old new a entry → standing (is_entry r entry.row entry.key) old ≡ 0

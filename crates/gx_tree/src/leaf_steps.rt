@@ -108,7 +108,7 @@ pub fn add_step<K: KeyClass, P: PagesMut<K>>(
 }
 
 /// Sets or clears the mark of the wanted pair in the leaf on a page. A pair that was found in a leaf is there or
-/// further to the right; where it isn't in this leaf, the next one is told, as `seek_step` does.
+/// further to the right; where it isn't in this leaf, the next leaf is returned, as by `seek_step`.
 ///
 /// Refused with `Pages` where the page could not be brought or made ready, and with `Damaged` only where it isn't a
 /// leaf that is taken. Nothing has changed then.

@@ -90,8 +90,8 @@ fn gather<K: Probing>(
     Ok(())
 }
 
-/// Stacks those children of a block of an inner node's slots below which something wanted may stand, with the counter
-/// as it is.
+/// Stacks those children of a block of an inner node's slots below which something wanted may be, with the counter of
+/// now.
 fn descend_block<K: Probing>(
     inner: &Inner<K>,
     from: usize,
@@ -111,7 +111,7 @@ fn descend_block<K: Probing>(
     Ok(())
 }
 
-/// Stacks the children of an inner node below which something wanted may stand, with the counter as it is.
+/// Stacks the children of an inner node below which something wanted may be, with the counter of now.
 fn descend<K: Probing>(
     inner: &Inner<K>,
     counter: u64,
@@ -192,8 +192,7 @@ fn read<K: Probing>(
 
 /// Reads the page of the look's next item. What is wanted there is found; where the page was split since its number was
 /// read, the look goes on to its rightlink too, with the number that it remembers; and it will go down to the children
-/// below which something wanted may stand, each remembered with the counter as it is now (Kornacker, Mohan, Hellerstein
-/// 1997).
+/// below which something wanted may be, each remembered with the counter of now (Kornacker, Mohan, Hellerstein 1997).
 ///
 /// Refused with `Pages` where the page could not be brought, and `Damaged` where the item names no page that is
 /// taken: the look is then as it was. And with `Memory` where that is refused; the look is of no use then.

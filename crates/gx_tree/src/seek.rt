@@ -15,7 +15,7 @@ use gx_node::{Leaf, Pages, StepFault};
 /// What a seek comes to at a leaf.
 #[derive(Clone, Copy, Debug, PartialEq, Eq)]
 pub enum Sought {
-    /// The pair stands in this slot; whether it is marked as deleted.
+    /// The pair is in this slot; whether it is marked as deleted.
     Here(usize, bool),
     /// It doesn't: the leaf to the right, 0 for none.
     Right(u32),
@@ -40,8 +40,8 @@ fn next_wanted<K: Probing>(leaf: &Leaf<K>, wanted: &Wanted<K>, from: usize) -> O
 }
 
 /// Looks for a pair in the leaf on a page, by `Wanted::entry`. A pair that was found in a leaf is there or further to
-/// the right, since splits move pairs to the right only (Lehman, Yao 1981); where it isn't in this leaf, the next one
-/// is told.
+/// the right, since splits move pairs to the right only (Lehman, Yao 1981); where it isn't in this leaf, the next leaf
+/// is returned.
 ///
 /// Refused with `Pages` where the page could not be brought, and with `Damaged` only where it isn't a leaf that is
 /// taken.

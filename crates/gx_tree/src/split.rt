@@ -242,11 +242,11 @@ fn make_split<K: KeyClass, P: PagesMut<K>>(
 }
 
 /// Splits the node on a page, which is full, below its parent. The counter of splits rises by one. The node gets its
-/// new value as its sequence number, and a new sibling as its rightlink; the sibling gets the number and the
-/// rightlink that the node had, so that whoever remembers an older number goes on to it (Kornacker, Mohan,
-/// Hellerstein 1997). In the parent the node's entry gets the union of the keys that stay, and the sibling's entry is
-/// put behind the last. `None` where the parent doesn't name the page, names it twice, or is full: the descent begins
-/// again at the root.
+/// new value as its sequence number, and a new sibling as its rightlink; the sibling gets the number and the rightlink
+/// that the node had, so that a search that remembers an older number goes on to it (Kornacker, Mohan, Hellerstein
+/// 1997). In the parent the node's entry gets the union of the keys that stay, and the sibling's entry is put behind
+/// the last. `None` where the parent doesn't name the page, names it twice, or is full: the descent begins again at the
+/// root.
 ///
 /// Refused with `PagesFull` only where no page is left; with `Pages` where a page could not be brought, or what the
 /// changes need could not be had; and with `Damaged` where the two aren't a full node and an inner node above it, or

@@ -126,9 +126,9 @@ fn make_root_split<K: KeyClass, P: PagesMut<K>>(
     }
 }
 
-/// Splits the root, which is full. Its entries move to two new pages of its level, with the sequence number 0, of
-/// which the first has the second as its rightlink; the root, a level higher, holds an entry for each. So the root
-/// stays on page 1, and the counter of splits is as it was: nobody goes on from the root to the right.
+/// Splits the root, which is full. Its entries move to two new pages of its level, with the sequence number 0, of which
+/// the first has the second as its rightlink; the root, a level higher, holds an entry for each. So the root stays on
+/// page 1, and the counter of splits doesn't change: no search goes on from the root to the right.
 ///
 /// Refused with `PagesFull` only where fewer than two pages are left; with `Pages` where the root could not be
 /// brought, or what the changes need could not be had; and with `Damaged` where page 1 isn't a full inner node, or

@@ -1,4 +1,4 @@
-//! The sweep of a leaf: what goes is told before it goes.
+//! The sweep of a leaf: it is planned before it is made.
 ghost use Rattle.std.specs.Prelude.{◌≡◌, ◌≤◌, ◌<◌, ℕ, Bool, true, false, length, map, take, Some, slice_get, Err};
 ghost use Rattle.std.specs.Prelude.{OnOk, OnErr, IfOk, IfErr, ◌∷◌, []};
 ghost use Rattle.gx_machine.specs.declared.entry.Entry.{Entry};
@@ -19,8 +19,8 @@ use gx_machine::Entry;
 use gx_node::{Leaf, MAX_ENTRIES, PagesMut, StepFault};
 use std::marker::Model;
 
-/// What a sweep takes out of a leaf: a page, and the slots of the pairs that go. So whoever makes ready for a sweep
-/// knows before it how much it changes.
+/// What a sweep removes from a leaf: a page, and the slots of the pairs that go. So the caller knows before the sweep
+/// how much it changes.
 #[derive(Drop)]
 pub struct Sweep {
     page: u32,
@@ -107,7 +107,7 @@ fn list_slots(sides: &[bool], slots: &mut [u16]) -> usize
     gone
 }
 
-/// Whether a slot's pair is marked and nobody claims it.
+/// Whether a slot's pair is marked and no session claims it.
 fn is_unclaimed<K: KeyClass, F: Fn(Entry<K::Key>) -> bool>(
     leaf: &Leaf<K>,
     slot: usize,
@@ -123,7 +123,7 @@ fn is_unclaimed<K: KeyClass, F: Fn(Entry<K::Key>) -> bool>(
     marked && !claimed(entry)
 }
 
-/// Says of each pair of a leaf whether a sweep takes it: whether it is marked and nobody claims it.
+/// Says of each pair of a leaf whether a sweep removes it: whether it is marked and no session claims it.
 fn choose_sides<K: KeyClass, F: Fn(Entry<K::Key>) -> bool>(
     leaf: &Leaf<K>,
     claimed: &F,
@@ -140,7 +140,7 @@ fn choose_sides<K: KeyClass, F: Fn(Entry<K::Key>) -> bool>(
     }
 }
 
-/// Brings the leaf on a page, and says which of its pairs a sweep takes out: those that are marked and that nobody
+/// Brings the leaf on a page, and returns which of its pairs a sweep removes: those that are marked and that no session
 /// claims. Nothing changes.
 ///
 /// Refused with `Pages` where the page could not be brought, and with `Damaged` only where it isn't a leaf that is
@@ -212,9 +212,9 @@ pub fn make_sweep<K: KeyClass, P: PagesMut<K>>(pages: &mut P, sweep: &Sweep) -> 
     Ok(())
 }
 
-/// Takes the marked pairs that nobody claims out of the leaf on a page, as pairs that were deleted by their mark are
-/// removed later (Kornacker, Mohan, Hellerstein 1997). Whether there were any; where there were none the page isn't
-/// changed.
+/// Removes the marked pairs that no session claims from the leaf on a page: pairs that were deleted by their mark are
+/// removed later (Kornacker, Mohan, Hellerstein 1997). Returns whether there were any; where there were none the page
+/// isn't changed.
 ///
 /// Refused with `Pages` where the page could not be brought or made ready, and with `Damaged` only where it isn't a
 /// leaf that is taken, or has more than `MAX_ENTRIES` pairs. Nothing has changed then.

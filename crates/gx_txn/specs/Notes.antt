@@ -1,4 +1,4 @@
--- Notes: what a transaction has written, each entry once, with its mark from before and the leaf where it stands.
+-- Notes: what a transaction has written, each entry once, with its mark from before and its leaf.
 use Rattle.std.specs.Prelude.{if◌then◌else◌, Option, None, Some, List, [], ◌∷◌, map}
 use Rattle.std.specs.Ordering.{match_ordering}
 use Rattle.gx_machine.specs.declared.entry.Entry.{Entry}

@@ -15,7 +15,7 @@ use std::alloc::{AllocError, Global};
 use std::marker::Model;
 
 /// The entries that a session claims, in the order in which they are put, with room for all of them. Beside them are
-/// their keys alone, which a search goes over, and marks of their rows, which most other entries lack.
+/// their keys alone, which a search goes over, and marks of their rows, which most other entries don't have.
 #[derive(Drop)]
 pub struct Claims<B: Shape> {
     entries: Vec<Entry<B>>,

@@ -151,7 +151,7 @@ impl<B: Shape> Transactions<B> {
     /// Notes that a session wrote an entry in a leaf: `before` is the entry's mark from before this write, set where it
     /// was marked or absent. The session claims the entry.
     ///
-    /// Of all writes of the entry, the first one's `before` and the last one's leaf stand.
+    /// Of all writes of the entry, the first one's `before` and the last one's leaf are kept.
     pub fn note(&mut self, session: u8, entry: Entry<B>, before: bool, leaf: u32)
         requires session { is_session session ≡ true }
         requires claimed { claims (keys_of B.Shape) entry (held_by session self.old) ≡ true }

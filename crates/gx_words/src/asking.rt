@@ -37,9 +37,9 @@ pub enum AskedCommand<'a> {
         /// The file's path.
         file: &'a str,
     },
-    /// Sessions in threads that draw their calls, on an index in memory.
+    /// Sessions in threads that make random calls, on an index in memory.
     Storm {
-        /// What the calls are drawn by.
+        /// The seed of the random calls.
         seed: u32,
         /// How many sessions, 1 to 8.
         sessions: u8,

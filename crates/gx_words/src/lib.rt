@@ -2,7 +2,9 @@
 #![tactic(auto)]
 
 mod asking;
+mod source;
 mod words;
 
 pub use asking::AskedCommand;
-pub use words::{WordsFault, given, read};
+pub use source::{Answer, Source, WordsFault, given};
+pub use words::read;

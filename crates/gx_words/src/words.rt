@@ -1,4 +1,4 @@
-//! The words that the program is called with.
+//! The words that the program takes, and what they say of it.
 ghost use Rattle.std.specs.Prelude.{◌≡◌, [], map, codes, OnOk, IfOk, IfErr};
 ghost use Rattle.clap.specs.Words.{app_of, new_app, fault_of, HasKind};
 ghost use Rattle.gx_words.specs.Asking.{WordsAsk};
@@ -9,50 +9,6 @@ use crate::asking::{AskedCommand, what_is_asked};
 use clap::{Arg, Command, Error, value_parser};
 use std::alloc::{AllocError, Global};
 use std::convert::AsStr;
-use std::env::FillError;
-use std::rt::Env;
-
-/// Why the words couldn't be read.
-#[derive(Clone, Copy, Debug, PartialEq, Eq)]
-pub enum WordsFault {
-    /// The word at this place isn't text; the program's own name is at place 0.
-    NotText(usize),
-    /// Memory was refused.
-    Memory,
-}
-
-/// The words that the program was called with, its own name first. `NotText` with the place of the first that isn't
-/// text, and `Memory` where memory for them is refused.
-pub fn given<R: Env + AllocGlobal>(rt: &R) -> Result<Vec<String>, WordsFault> {
-    let mut words = Vec::new(rt.alloc());
-    for place in 0..usize::MAX {
-        match word_at(rt, place)? {
-            Some(bytes) => {
-                let word = String::from_utf8(bytes).map_err(|_| WordsFault::NotText(place))?;
-                words.push(word).map_err(|_| WordsFault::Memory)?;
-            }
-            None => break,
-        }
-    }
-    Ok(words)
-}
-
-// The bytes of the word at this place, if there is one.
-fn word_at<R: Env + AllocGlobal>(rt: &R, place: usize) -> Result<Option<Vec<u8>>, WordsFault> {
-    let mut room = 64;
-    for _longer in 0..32 {
-        let mut bytes = Vec::from_elem(rt.alloc(), 0u8, room).map_err(|_| WordsFault::Memory)?;
-        match rt.arg(place, &mut bytes) {
-            Ok(length) => {
-                bytes.truncate(length);
-                return Ok(Some(bytes));
-            }
-            Err(FillError::NotPresent) => return Ok(None),
-            Err(FillError::TooLong) => room = room.saturating_mul(2),
-        }
-    }
-    Err(WordsFault::Memory)
-}
 
 /// What a script looks like.
 const SCRIPT: &str =
@@ -66,7 +22,7 @@ const FORMAT: &str =
 const RUN: &str =
     "The script in the file changes, on the index that places.gist holds:\n\ngist run places.gist < changes\n\nWhat was answered as committed is in the file from then on. docs/SCRIPT.md has all lines, replies and refusals.";
 
-/// How a tree is told.
+/// How a tree is dumped.
 const DUMP: &str =
     "The tree of the index in the file places.gist, page by page:\n\ngist dump places.gist\n\ndocs/SCRIPT.md has its lines and the refusals.";
 
@@ -76,7 +32,7 @@ const VERIFY: &str =
 
 /// What a storm is.
 const STORM: &str =
-    "Four sessions in threads, each of which makes 200 calls that are drawn by the seed 1; a plain index replays what they asked and were answered:\n\ngist storm 1 4 200\n\nIt touches no file. docs/SCRIPT.md has what it prints.";
+    "Four sessions in threads, each of which makes 200 random calls by the seed 1; a plain index replays what they asked and were answered:\n\ngist storm 1 4 200\n\nIt touches no file. docs/SCRIPT.md has what it prints.";
 
 /// The program, which calls itself `gist` whatever its file is called, and wants a command.
 fn program<'a>(alloc: Global) -> Result<Command<'a>, AllocError>
@@ -180,7 +136,7 @@ fn seed<'a>(alloc: Global) -> Arg<'a>
     Arg::new(alloc, "SEED")
         .required(true)
         .value_parser(value_parser!(u32).range(0..=4294967295))
-        .help("What the calls are drawn by, 0 to 4294967295")
+        .help("The seed of the random calls, 0 to 4294967295")
 }
 
 fn sessions<'a>(alloc: Global) -> Arg<'a>

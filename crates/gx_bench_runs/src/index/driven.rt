@@ -55,7 +55,7 @@ pub(crate) struct Index {
 }
 
 impl Index {
-    /// A new one. `None` where memory lacks.
+    /// A new one. `None` where memory is refused.
     pub(crate) fn fresh(alloc: Global) -> Option<Index> {
         let sectors = usize::try_from(sectors_for(PAGES)).ok()?;
         let disk = Counted::new(MemDisk::new(alloc, sectors).ok()?);

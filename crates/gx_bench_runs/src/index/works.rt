@@ -51,7 +51,7 @@ fn delete(index: &mut Index, entry: &Entry<Box2>) -> Option<()> {
     }
 }
 
-/// Inserts so many drawn boxes, `each` in a transaction, and answers the pairs.
+/// Inserts so many random boxes, `each` in a transaction, and returns the pairs.
 pub(crate) fn insert_many(
     alloc: Global,
     index: &mut Index,
@@ -89,7 +89,7 @@ fn query(index: &mut Index, window: Box2) -> Option<u64> {
     Some(sum)
 }
 
-/// Makes so many queries of drawn windows, as many in a transaction as it may make, and answers the sum.
+/// Makes so many queries of random windows, as many in a transaction as it may make, and returns the sum.
 pub(crate) fn query_many(index: &mut Index, queries: u64) -> Option<u64> {
     let each = MAX_PREDICATES as u64;
     let mut state = 11;
@@ -107,7 +107,7 @@ pub(crate) fn query_many(index: &mut Index, queries: u64) -> Option<u64> {
     Some(sum)
 }
 
-/// Deletes so many of these pairs, `each` in a transaction, and answers how many that were.
+/// Deletes so many of these pairs, `each` in a transaction, and returns how many that were.
 pub(crate) fn delete_many(
     index: &mut Index,
     entries: &[Entry<Box2>],
@@ -130,7 +130,7 @@ pub(crate) fn delete_many(
     Some(marks)
 }
 
-/// Deletes these pairs, as many in a transaction as it may write, undoes each transaction, and answers how many deletes
+/// Deletes these pairs, as many in a transaction as it may write, undoes each transaction, and returns how many deletes
 /// that were.
 pub(crate) fn undo_many(index: &mut Index, entries: &[Entry<Box2>]) -> Option<u64> {
     let each = MAX_CLAIMS as u64;

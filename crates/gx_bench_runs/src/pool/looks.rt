@@ -80,7 +80,7 @@ fn look_at<D: SectorDisk>(
     Ok(u64::from(brought.number()).wrapping_add(brought.nsn()))
 }
 
-/// Looks at drawn pages so often, and answers the sum.
+/// Looks at random pages so often, and returns the sum.
 pub(crate) fn look_at_many<D: SectorDisk>(
     pool: &mut Pool<Leaves>,
     disk: &mut D,

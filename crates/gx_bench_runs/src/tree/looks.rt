@@ -32,7 +32,7 @@ fn query(alloc: Global, tree: &mut Tree, window: Box2) -> Option<u64> {
     Some(sum)
 }
 
-/// Makes so many queries of drawn windows, and answers the sum.
+/// Makes so many queries of random windows, and returns the sum.
 pub(crate) fn query_many(alloc: Global, tree: &mut Tree, queries: u64) -> Option<u64> {
     let mut state = 11;
     let mut sum: u64 = 0;
@@ -58,7 +58,7 @@ fn mark(alloc: Global, tree: &mut Tree, entry: &Entry<Box2>) -> Option<u64> {
     }
 }
 
-/// Marks so many drawn pairs of these, and answers the sum.
+/// Marks so many random pairs of these, and returns the sum.
 pub(crate) fn mark_many(
     alloc: Global,
     tree: &mut Tree,

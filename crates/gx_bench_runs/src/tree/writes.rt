@@ -29,7 +29,7 @@ fn fresh_root(alloc: Global) -> Option<Page> {
     Some(root)
 }
 
-/// A tree without entries. `None` where memory lacks.
+/// A tree without entries. `None` where memory is refused.
 pub(crate) fn fresh_tree(alloc: Global) -> Option<Tree> {
     let mut pages = Vec::new(alloc);
     pages.push(fresh_root(alloc)?).ok()?;

@@ -30,7 +30,7 @@ impl Found {
     }
 }
 
-/// Whether a slot stands at a place among slots that pass.
+/// Whether a slot is at a place among slots that pass.
 fn stands_at(slots: &[u16], place: usize, slot: usize) -> bool {
     match slots.get(place) {
         Some(found) => usize::from(*found) == slot,

@@ -58,7 +58,7 @@ pub(crate) struct Book {
     pub(crate) number: u64,
     /// The greatest number of a transaction that has begun.
     pub(crate) begun: u64,
-    /// The next transaction's number, as the records tell it.
+    /// The next transaction's number, by the records.
     pub(crate) next: u64,
 }
 
@@ -224,7 +224,7 @@ impl Book {
     }
 }
 
-/// Whether somebody claims an entry.
+/// Whether a session claims an entry.
 pub(crate) fn is_claimed(rows: &[Row], entry: &Entry<Box2>) -> bool {
     let mut place = 0_u64;
     for row in rows.iter() {

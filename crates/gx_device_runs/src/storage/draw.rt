@@ -1,4 +1,4 @@
-//! Numbers that are drawn.
+//! Random numbers.
 ghost use Rattle.std.specs.Prelude.{◌<◌};
 
 use rand_core::utils::NextWord;

@@ -39,7 +39,7 @@ fn draw_torn(draw: &mut Pcg32) -> Torn {
     }
 }
 
-/// Crashes a device, and answers what was left.
+/// Crashes a device, and returns what was left.
 fn crash(alloc: Global, disk: &mut MemDisk, draw: &mut Pcg32) -> Result<Left, StorageFault> {
     let mut torn = Vec::new(alloc);
     let left = match below(draw, 4) {
@@ -92,7 +92,7 @@ fn read_back(alloc: Global, disk: &mut MemDisk) -> Result<Reading, StorageFault>
     }
 }
 
-/// What was read back, where it is one of those that are to stand.
+/// What was read back, where it is one of those that are expected.
 fn judge(expected: &Expected, left: Left, found: &Reading) -> Result<Stood, StorageFault> {
     let Some(flight) = &expected.flight else {
         expected.gated.stands(found)?;
@@ -146,7 +146,7 @@ fn came_to_its_end(taken: Result<(), StorageFault>) -> Result<bool, StorageFault
     }
 }
 
-/// Makes a run. Answers whether it came to its end, what was read back then, and how often each thing was done.
+/// Makes a run. Returns whether it came to its end, what was read back then, and how often each thing was done.
 pub(crate) fn make_run(
     alloc: Global,
     setting: Setting,

@@ -3,7 +3,7 @@ use gx_geom::Refusal;
 use gx_page::PageFault;
 use std::alloc::{AllocError, AllocFailed};
 
-/// What a call answered, or what stands, where that isn't as it is to be.
+/// What a call returned, or what the device has, where that isn't as expected.
 #[derive(Clone, Copy)]
 pub(crate) enum What {
     Base,
@@ -66,7 +66,7 @@ impl What {
 /// Why a run ends before its end.
 #[derive(Clone, Copy)]
 pub(crate) enum StorageFault {
-    /// Memory lacks.
+    /// Memory was refused.
     Memory,
     /// The machine stopped at a call of the device.
     Stopped,
@@ -74,7 +74,7 @@ pub(crate) enum StorageFault {
     PagesFull,
     /// A call answered what it never should.
     Unexpected(What),
-    /// What stands isn't what is to stand: in what, and where.
+    /// The device doesn't have what is expected: in what, and where.
     Differs(What, u64),
 }
 

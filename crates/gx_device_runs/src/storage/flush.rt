@@ -64,7 +64,7 @@ impl Run {
         }
     }
 
-    /// Before a batch begins: what is to stand once it is gated.
+    /// Before a batch begins: what is expected once it is gated.
     fn prepare_batch(&mut self) -> Result<(), StorageFault> {
         if self.expected.flight.is_none() && self.expected.fills {
             let next = snapshot(self.alloc, &self.tree, &self.book)?;
@@ -132,7 +132,7 @@ impl Run {
         }
     }
 
-    /// Writes the least page that may be written, if there is one. Answers whether there was.
+    /// Writes the least page that may be written, if there is one. Returns whether there was.
     pub(crate) fn write_least(&mut self) -> Result<bool, StorageFault> {
         match self.volume.dirty() {
             Some(page) => {

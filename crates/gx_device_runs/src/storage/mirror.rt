@@ -142,7 +142,7 @@ impl Mirror {
         set_mark_step(&mut self.pages, wanted, page, marked).map_err(refused)
     }
 
-    /// Takes the marked pairs that nobody claims out of a leaf.
+    /// Removes the marked pairs that no session claims from a leaf.
     pub(crate) fn sweep(&mut self, page: u32, rows: &[Row]) -> Result<bool, StorageFault> {
         let swept = sweep_step(&mut self.pages, page, |entry: Entry<Box2>| {
             is_claimed(rows, &entry)
@@ -172,7 +172,7 @@ impl Mirror {
         split_root_step(&mut self.pages, most, &mut self.keys).map_err(split_refused)
     }
 
-    /// Inserts a pair that stands nowhere.
+    /// Inserts a pair that the tree doesn't have.
     pub(crate) fn insert(&mut self, entry: &Entry<Box2>) -> Result<(), StorageFault> {
         let most = self.most();
         let mut place = self.top();

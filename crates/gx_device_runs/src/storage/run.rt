@@ -1,4 +1,4 @@
-//! A run: the storage, and beside it the tree in memory and what is to stand on the device.
+//! A run: the storage, and beside it the tree in memory and what is expected on the device.
 use crate::storage::base::{Device, make_device, open};
 use crate::storage::book::Book;
 use crate::storage::counts::Counts;
@@ -31,7 +31,7 @@ pub(crate) struct Failing {
     pub(crate) done: bool,
 }
 
-/// What is to stand on the device.
+/// What is expected on the device.
 #[derive(Drop)]
 pub(crate) struct Expected {
     /// After the records that are gated.
@@ -61,7 +61,7 @@ pub(crate) struct Run {
     pub(crate) keys: Vec<Box2>,
 }
 
-/// The pages, the set and the numbers as they are.
+/// The pages, the set and the numbers of now.
 pub(crate) fn snapshot(
     alloc: Global,
     tree: &Mirror,
@@ -102,7 +102,7 @@ fn fused(disk: MemDisk, failing: Failing) -> Device {
     FuseDisk::new(disk, failing.call, fuse, failing.done)
 }
 
-/// The storage over a device with a quarter of the rows, and what stands there.
+/// The storage over a device with a quarter of the rows, and what the device has.
 fn begin_storage(
     alloc: Global,
     setting: Setting,
@@ -147,7 +147,7 @@ pub(crate) fn start(
 }
 
 impl Run {
-    /// What is left once a run has ended: the device, what is to stand on it, and the draw.
+    /// What is left once a run has ended: the device, what is expected on it, and the random numbers.
     pub(crate) fn into_parts(self) -> (MemDisk, Expected, Pcg32) {
         let Run {
             alloc: _,

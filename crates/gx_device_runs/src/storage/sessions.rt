@@ -1,4 +1,4 @@
-//! What is drawn: a session's next step, or one of the flusher.
+//! Random steps: a session's next one, or one of the flusher.
 use crate::storage::book::{Coming, SESSIONS};
 use crate::storage::draw::below;
 use crate::storage::fault::{StorageFault, What};
@@ -43,7 +43,7 @@ impl Run {
         Ok(())
     }
 
-    /// Sweeps a page that is drawn, if it is a leaf.
+    /// Sweeps a random page, if it is a leaf.
     fn sweep_one(&mut self) -> Result<(), StorageFault> {
         let before = below(&mut self.draw, self.tree.used() as usize);
         let page = u32::try_from(before).unwrap_or(0).saturating_add(1);
@@ -82,7 +82,7 @@ impl Run {
         Ok(())
     }
 
-    /// Deletes a row that is live, or inserts one that isn't: where its pair stands its mark is set or cleared.
+    /// Deletes a row that is live, or inserts one that isn't: if the tree has its pair, the mark is set or cleared.
     fn write(&mut self, number: usize) -> Result<(), StorageFault> {
         let row = below(&mut self.draw, self.book.rows.len());
         let found = self.book.row(row)?;
@@ -139,7 +139,7 @@ impl Run {
         }
     }
 
-    /// Makes a step that is drawn.
+    /// Makes a random step.
     pub(crate) fn take_step(&mut self) -> Result<(), StorageFault> {
         if self.volume.places() >= DUE {
             return self.checkpoint();

@@ -1,4 +1,4 @@
-//! What is to stand on a device, and whether it does.
+//! What is expected on a device, and whether it has that.
 use crate::storage::fault::{StorageFault, What};
 use gx_class::Box2Class;
 use gx_geom::Box2;

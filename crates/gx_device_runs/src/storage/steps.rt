@@ -114,7 +114,7 @@ impl Run {
         Err(StorageFault::Unexpected(What::Addition))
     }
 
-    /// Sets or clears a pair's mark in a leaf, where it stands there.
+    /// Sets or clears a pair's mark in a leaf, if the leaf has it.
     fn set_mark(
         &mut self,
         transaction: u64,
@@ -136,8 +136,8 @@ impl Run {
         Err(StorageFault::Unexpected(What::Mark))
     }
 
-    /// Sets or clears the mark of a row's pair, from the leaf on which it was last written to the right. Answers
-    /// whether it stands there.
+    /// Sets or clears the mark of a row's pair, from the leaf on which it was last written to the right. Returns
+    /// whether it was found.
     pub(crate) fn mark(
         &mut self,
         transaction: u64,
@@ -201,7 +201,7 @@ impl Run {
         Err(StorageFault::Unexpected(What::Split))
     }
 
-    /// Takes the marked pairs that nobody claims out of a leaf. Answers whether there were any.
+    /// Removes the marked pairs that no session claims from a leaf. Returns whether there were any.
     pub(crate) fn sweep(&mut self, page: u32) -> Result<bool, StorageFault> {
         for _try in 0..TRIES {
             let rows = &self.book.rows;

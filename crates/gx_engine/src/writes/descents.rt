@@ -354,9 +354,10 @@ impl<D: SectorDisk, K: ReadKeys> Engine<D, K> {
 
     /// A move of a session's insert, which is open, while it descends: its pair stands nowhere yet. The step at the
     /// page of its item goes down to the entry of least penalty, whose bound is widened first where it doesn't cover
-    /// the key; or adds the pair to a leaf that has room, and the call is answered; or sweeps a full leaf, or splits
-    /// a full node, and the descent begins again at the root, as it does where its page was split meanwhile: `More`.
-    /// Whatever it changes is logged. It makes no write and no sync of the device and takes no memory.
+    /// the key; or adds the pair to a leaf that has room, and the call is answered; or sweeps a full leaf that has
+    /// something to sweep, and stays there; or splits any other full node, and the descent begins again at the root,
+    /// as it does where its page was split meanwhile: `More`. Pages are taken by splits alone. Whatever it changes is
+    /// logged. It makes no write and no sync of the device and takes no memory.
     ///
     /// `Help(Checkpoint)` exactly where a checkpoint runs or 24 places of the extent are taken, and nothing has
     /// changed. `Help` where the record doesn't fit the batch that fills or a page couldn't be brought, with what has

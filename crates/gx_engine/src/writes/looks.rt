@@ -13,6 +13,7 @@ ghost use Rattle.gx_engine.specs.declared.work.Work.TheVariants.{Looks, Rests};
 ghost use Rattle.gx_engine.specs.Looks.{IsFirstUnless, LooksFor, turned_by, work_before};
 ghost use Rattle.gx_engine.specs.Moves.{calling};
 ghost use Rattle.gx_engine.specs.Writes.{AreWriting, OnlyReads, WritesAs, brought, is_looking, write_events};
+ghost use Rattle.gx_storage.specs.Setting.{StaysAs};
 ghost use Rattle.gx_engine.specs.Setting.{MovesAs, MovesOnAs, MovesSoAs, ReachesAs, phase_in};
 
 use crate::Engine;
@@ -56,6 +57,7 @@ impl<D: SectorDisk, K: ReadKeys + Probing> Engine<D, K> {
         requires first { IsFirstUnless begun self.old look }
         ensures done { IfOk result (λ after. length after.stack.items ≡ 0) }
         ensures rest { OnOk result (self.new ≡ brought self.old self.new) }
+        ensures stays { OnOk result (StaysAs K.KeyClass D.state self.old.volume.shelf self.new.volume.shelf) }
         ensures goes_on { IfOk result (λ after. (call : Call K.Key) → WritesEntry entry.now call
             → phase_in session self.old ≡ Open call Rests
             → MovesOnAs K.Key.Shape K.is_proper K.said K.KeyClass D.state session
@@ -105,6 +107,7 @@ impl<D: SectorDisk, K: ReadKeys + Probing> Engine<D, K> {
             → LooksFor entry.now call work (phase_in session self.old)
             → (phase_in session self.new ≡ Open call Rests) × (self.new
             ≡ calling session call Rests (brought self.old self.new))) }
+        ensures stays { OnOk result (StaysAs K.KeyClass D.state self.old.volume.shelf self.new.volume.shelf) }
         ensures reaches { IfOk result (λ look. (call : Call K.Key) (work : declared.Work K.Key)
             → LooksFor entry.now call work (phase_in session self.old)
             → ReachesAs K.Key.Shape K.is_proper K.said K.KeyClass D.state session self.old

@@ -1,4 +1,4 @@
-//! What a test of legality tells, whoever keeps the pages.
+//! What a test of legality returns, over any store of pages.
 use crate::legality::built::{Corners, a_box};
 use gx_class::Box2Class;
 use gx_legality::{LegalityFault, NotedPair, Rule, are_in_order, test_tree};
@@ -6,7 +6,7 @@ use gx_machine::Entry;
 use gx_tree::Pages;
 use std::process::Abort;
 
-/// What a test tells.
+/// What a test returns.
 #[derive(Clone, Copy, Debug, PartialEq, Eq)]
 pub(crate) enum Told {
     Legal,
@@ -23,7 +23,7 @@ fn answer_of<F: Drop>(tested: Result<(), LegalityFault<F>>) -> Told {
     }
 }
 
-/// What the whole test tells of a tree whose nodes have four entries at most, with a buffer for four pairs.
+/// What the whole test returns of a tree whose nodes have four entries at most, with a buffer for four pairs.
 pub(crate) fn told_of<R: AllocGlobal, P: Pages<Box2Class>>(rt: &R, pages: &mut P) -> Told
 where
     P::Fault: Drop,
@@ -31,7 +31,7 @@ where
     answer_of(test_tree(rt.alloc(), pages, 4, 2, &[]))
 }
 
-/// What is told of one note: a row's box, and the leaf that it was left on.
+/// What is returned of one note: a row's box, and the leaf that it was left on.
 pub(crate) fn told_of_note<R: Abort + AllocGlobal, P: Pages<Box2Class>>(
     rt: &R,
     pages: &mut P,

@@ -138,7 +138,7 @@ fn event_of(next: &Next<Box2>) -> Option<Event<Box2>> {
     }
 }
 
-// Makes a session's next event, if it has one. Answers whether it had.
+// Makes a session's next event, if it has one. Returns whether it had.
 fn turn(engine: &mut Working, plain: &mut Plain, asking: &mut Asking<'_>) -> Option<bool> {
     match asking.due() {
         Some(event) => {

@@ -11,7 +11,7 @@ use super::pages::in_pages;
 use crate::formatted_for;
 use gx_disk::SectorDisk;
 use gx_durable::ReadKeys;
-use gx_found_log::{LogFault, examine_class_log};
+use gx_found_log::{LogFault, LogRoom, examine_class_log};
 use gx_glog::Parameters;
 use std::alloc::Global;
 
@@ -37,8 +37,11 @@ fn in_index<D: SectorDisk, K: ReadKeys>(
         → IfSome result.1 (IndexShowsAs K.Key.Shape K.is_proper K.said K.KeyClass D parameters (D.state disk).seen) }
 {
     let Parameters { pages, most, .. } = parameters;
+    let Ok(room) = LogRoom::new(alloc) else {
+        return (disk, None);
+    };
     let mut disk = disk;
-    match examine_class_log::<K, D>(alloc, &mut disk, pages, most) {
+    match examine_class_log::<K, D>(room, &mut disk, pages, most) {
         Ok(found) => in_pages::<D, K>(alloc, disk, &found.analysis, pages, most),
         Err(fault) => (disk, in_log(fault)),
     }

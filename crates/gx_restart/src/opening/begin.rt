@@ -1,5 +1,5 @@
 //! An engine over what stands on a device: the gates behind its log are closed, and it starts there.
-ghost use Rattle.std.specs.Prelude.{◌≡◌, ◌≤◌, ◌<◌, ◌+◌, ◌*◌, ℕ, false, true, IfOk, MatchResult};
+ghost use Rattle.std.specs.Prelude.{◌≡◌, ◌≤◌, ◌<◌, ◌+◌, ◌*◌, ℕ, false, true, length, IfOk, MatchResult};
 ghost use Rattle.gx_disk.specs.declared.layout.TheConstants.{PAGES_AT, PAGE_SECTORS};
 ghost use Rattle.gx_node.specs.Reading.{format_of};
 ghost use Rattle.gx_opening.specs.Formatted.{IsAllowed};
@@ -60,6 +60,7 @@ pub(crate) fn begin_engine<D: SectorDisk, K: ReadKeys>(
         (λ n. IsSameDevice (D.state disk) (D.state n.disk)) }
     ensures faults { MatchResult result (λ engine. (D.state disk).faults ≤ (D.state engine.volume.shelf.disk).faults)
         (λ n. n.why ≡ Refusal.Device → (D.state disk).faults < (D.state n.disk).faults) }
+    ensures count { IfOk result (λ engine. length engine.volume.shelf.frames.marks ≡ frames) }
     ensures undoes { IfOk result OnlyUndoes }
     ensures works { IfOk result (λ engine. engine.sessions.failed ≡ false) }
     ensures begun { (a : D) → (D.state disk).honest ≡ true

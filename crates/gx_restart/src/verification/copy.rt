@@ -1,42 +1,19 @@
 //! A copy in memory of what an opening may read of a device.
-ghost use Rattle.std.specs.Prelude.{◌≡◌, ◌⊎◌, ◌≤◌, ◌*◌, length, true, IfErr, IfOk, OnOk};
+ghost use Rattle.std.specs.Prelude.{◌≡◌, ◌≤◌, ◌*◌, length, true, IfErr, IfOk, OnOk};
 ghost use Rattle.gx_disk.specs.Looks.{Looks};
 ghost use Rattle.gx_disk.specs.Sectors.{span_of};
-ghost use Rattle.gx_format.specs.Formatting.{sectors_of};
-ghost use Rattle.gx_opening.specs.Formatted.{Counted, Says};
+ghost use Rattle.gx_node.specs.Reading.{format_of};
+ghost use Rattle.gx_opening.specs.Formatted.{Counted};
 ghost use Rattle.gx_restart.specs.Beginning.{HasFailed};
-ghost use Rattle.gx_restart.specs.Copied.{IsCopy, IsFront, memory_state};
+ghost use Rattle.gx_restart.specs.Copied.{IsFront, memory_state};
+ghost use Rattle.gx_restart.specs.Verified.{IsCopyOf, IsUncopied};
 
-use gx_disk::{MAX_PAGES, MIN_PAGES, MIN_SECTORS, MemDisk, SECTOR_SIZE, SectorDisk};
+use gx_disk::{MIN_SECTORS, MemDisk, SECTOR_SIZE, SectorDisk};
+use gx_durable::ReadKeys;
 use gx_format::sectors_for;
 use gx_geom::Refusal;
-use gx_glog::{PARAMETERS, Parameters};
+use gx_opening::read_parameters;
 use std::alloc::{AllocError, Global};
-
-// What a device says that it is formatted for. Any numbers may stand there.
-fn parameters_told<D: SectorDisk>(disk: &mut D) -> Result<Parameters, Refusal>
-    requires { MIN_SECTORS ≤ (D.state disk.old).sectors }
-    ensures counted { Counted 0 (D.state disk.old) (D.state disk.new) result }
-    ensures looks { (D.state disk.old).honest ≡ true → Looks (D.state disk.old) (D.state disk.new) }
-    ensures told { (D.state disk.old).honest ≡ true → IfOk result (Says (D.state disk.old).seen) }
-    ensures refused { IfErr result (λ why. why ≡ Refusal.Device) }
-{
-    let mut bytes = [0; SECTOR_SIZE];
-    disk.read(PARAMETERS, &mut bytes)?;
-    Ok(Parameters::decode(&bytes))
-}
-
-// How many sectors are copied of a device of so many, which says that it is formatted for so many pages.
-fn sectors_copied(sectors: u64, pages: u32) -> u64
-    requires { MIN_SECTORS ≤ sectors }
-    ensures least { MIN_SECTORS ≤ result }
-    ensures inside { result ≤ sectors }
-    ensures few { result ≤ 528456 }
-    ensures enough { MIN_PAGES ≤ pages → pages ≤ MAX_PAGES → (result ≡ sectors) ⊎ (sectors_of pages ≤ result) }
-{
-    let pages = pages.max(MIN_PAGES as u32).min(MAX_PAGES as u32);
-    sectors.min(sectors_for(pages))
-}
 
 // Room for so many sectors.
 fn room_for(alloc: Global, sectors: u64) -> Result<Vec<u8>, AllocError>
@@ -81,20 +58,24 @@ fn copy_first<D: SectorDisk>(alloc: Global, disk: &mut D, sectors: u64) -> Resul
     Ok(MemDisk::from_bytes(alloc, bytes))
 }
 
-/// Copies what an opening may read of a device: all that the index takes that it says it is formatted for, or all that
-/// there is.
+/// Copies what an opening may read of a device, and no more: the sectors of the index that it is formatted for.
 ///
-/// Refused with `Device` where a read fails, and with `Memory`. It makes no write and no sync.
-pub(crate) fn copied<D: SectorDisk>(alloc: Global, disk: &mut D) -> Result<MemDisk, Refusal>
+/// Refused where it isn't formatted for an index of the class, before memory is taken for the copy: `NotFormatted`,
+/// `BadParameter`, `TooSmall`; with `Device` where a read fails, and with `Memory`. It makes no write and no sync.
+pub(crate) fn copied<D: SectorDisk, K: ReadKeys>(
+    alloc: Global,
+    disk: &mut D,
+) -> Result<MemDisk, Refusal>
     requires { MIN_SECTORS ≤ (D.state disk.old).sectors }
     ensures counted { Counted 0 (D.state disk.old) (D.state disk.new) result }
     ensures looks { (D.state disk.old).honest ≡ true → Looks (D.state disk.old) (D.state disk.new) }
     ensures large { IfOk result (λ copy. MIN_SECTORS ≤ (memory_state copy).sectors) }
     ensures copy { (D.state disk.old).honest ≡ true
-        → IfOk result (λ copy. IsCopy (D.state disk.old) (memory_state copy)) }
-    ensures refused { IfErr result HasFailed }
+        → IfOk result (λ copy. IsCopyOf K.Key.Shape K.is_proper K.said (format_of K.KeyClass) K.CLASS
+        (D.state disk.old) (memory_state copy)) }
+    ensures refused { (D.state disk.old).honest ≡ true
+        → IfErr result (IsUncopied K.Key.Shape K.is_proper K.said (format_of K.KeyClass) K.CLASS (D.state disk.old)) }
 {
-    let parameters = parameters_told(disk)?;
-    let sectors = sectors_copied(disk.sectors(), parameters.pages);
-    copy_first(alloc, disk, sectors)
+    let parameters = read_parameters::<D, K>(disk)?;
+    copy_first(alloc, disk, sectors_for(parameters.pages))
 }

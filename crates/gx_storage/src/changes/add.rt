@@ -20,9 +20,9 @@ use gx_store::StoreFault;
 use gx_tree::{StepFault, add_step};
 
 impl<D: SectorDisk, K: ReadKeys> Storage<D, K> {
-    /// Puts a live pair behind the last of the leaf on a page, and appends the transaction's record of it: small where
-    /// the log's extent has an image of the leaf, else its write with the image of the leaf; the entry wasn't there,
-    /// which is told as a mark.
+    /// Puts a live pair behind the last of the leaf on a page, and appends the transaction's record of it: a small one
+    /// where the log's extent has an image of the leaf, otherwise its write with the image of the leaf. The entry was
+    /// absent, which counts as a mark.
     ///
     /// Refused with `Pages` where the log has no room for the record (`NoRoom`), or the page could not be brought;
     /// with `Damaged` only where it isn't a leaf that is taken, or has no room. Nothing has changed then, and nothing

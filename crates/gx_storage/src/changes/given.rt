@@ -17,7 +17,7 @@ use gx_glog::Glog;
 use gx_record::{PageImage, PageImages, Record};
 use gx_store::PageStore;
 
-/// What always holds of a page that is held: it has an image as it stands, under its own number.
+/// What always holds of a page that is held: its content has an image, under its own number.
 pub(crate) fn has_image<D: SectorDisk, K: ReadKeys>(store: &PageStore<D, K>, page: u32)
     requires { IsHeld store.now page }
     ensures formed { IsWellFormed (standing store.now.frames (D.state store.now.disk).seen page) }
@@ -28,8 +28,8 @@ pub(crate) fn has_image<D: SectorDisk, K: ReadKeys>(store: &PageStore<D, K>, pag
     held.image();
 }
 
-/// Appends the record of a page that was changed, of which the record has the image as it is held, with the counter
-/// and the number of pages in use. The page's bit is set.
+/// Appends the record of a page that was changed: the image of the held page, the counter and the number of pages in
+/// use. Sets the page's bit.
 pub(crate) fn give_page<D: SectorDisk, K: ReadKeys>(
     log: &mut Glog,
     store: &PageStore<D, K>,

@@ -37,7 +37,7 @@ pub(crate) fn in_rising_order(a: u32, b: u32, c: u32) -> (u32, u32, u32)
     (low, high, c)
 }
 
-/// A page that is held, with its image as it stands.
+/// A page that is held, with the image of its content.
 fn held_image<D: SectorDisk, K: ReadKeys>(store: &PageStore<D, K>, page: u32) -> PageImage<'_>
     requires { IsHeld store.now page }
     ensures number { result.page ≡ page }
@@ -53,8 +53,8 @@ fn held_image<D: SectorDisk, K: ReadKeys>(store: &PageStore<D, K>, page: u32) ->
     }
 }
 
-/// Appends the record of three pages that were changed, of which the record has the images as they are held, with the
-/// counter and the number of pages in use as they are now. The pages' bits are set.
+/// Appends the record of three pages that were changed: the images of the held pages, the counter and the number of
+/// pages in use. Sets the pages' bits.
 pub(crate) fn give_three<D: SectorDisk, K: ReadKeys>(
     log: &mut Glog,
     store: &PageStore<D, K>,

@@ -22,8 +22,8 @@ pub(crate) fn begin_reading<D: SectorDisk, K: ReadKeys>(log: &Glog, store: &mut 
     store.begin_event(u64::from(log.used()), true);
 }
 
-/// Begins an event whose record has so many bytes: its changes are of the batch that the log's next place takes, and
-/// the pages are told whether the log has room for the record.
+/// Begins an event whose record has so many bytes: its changes belong to the batch that takes the log's next place, and
+/// the store learns whether the log has room for the record.
 pub(crate) fn begin_event<D: SectorDisk, K: ReadKeys>(
     log: &Glog,
     store: &mut PageStore<D, K>,

@@ -49,9 +49,9 @@ fn read_leaf<D: SectorDisk, K: ReadKeys + Probing>(
 
 impl<D: SectorDisk, K: ReadKeys + Probing> Storage<D, K> {
     /// Sets or clears the mark of an entry's pair in the leaf on a page, and appends the transaction's record of it,
-    /// with the mark that was found: small where the log's extent has an image of the leaf, else its write with the
-    /// image of the leaf. Where the pair isn't in this leaf the next one is told, as `seek_step` does, and nothing is
-    /// logged.
+    /// with the mark that was found: a small one where the log's extent has an image of the leaf, otherwise its write
+    /// with the image of the leaf. Where the pair isn't in this leaf the next leaf is returned, as by `seek_step`, and
+    /// nothing is logged.
     ///
     /// Refused with `Pages` where the pair is in this leaf and the log has no room for the record (`NoRoom`), or the
     /// page could not be brought; with `Damaged` only where it isn't a leaf that is taken. Nothing has changed then,

@@ -72,9 +72,9 @@ fn plan<D: SectorDisk, K: ReadKeys, F: Fn(Entry<K::Key>) -> bool>(
 }
 
 impl<D: SectorDisk, K: ReadKeys> Storage<D, K> {
-    /// Takes the marked pairs that nobody claims out of the leaf on a page, and appends the record of it: small where
-    /// the log's extent has an image of the leaf, else with the image of the leaf. Whether there were any; where there
-    /// were none nothing has changed and nothing is logged, and no room is asked for.
+    /// Removes the marked pairs that no session claims from the leaf on a page, and appends the record of it: a small
+    /// one where the log's extent has an image of the leaf, otherwise one with the image of the leaf. Returns whether
+    /// there were any; where there were none nothing has changed, nothing is logged, and no room is asked for.
     ///
     /// Refused with `Pages` where the page could not be brought, or a pair goes and the log has no room for the
     /// record (`NoRoom`); with `Damaged` only where it isn't a leaf that is taken, or has more than `MAX_ENTRIES`

@@ -37,8 +37,8 @@ pub(crate) fn spell<K: ReadKeys>(key: K::Key, spelled: &mut [u8])
     K::encode(key, spelled);
 }
 
-/// Appends the record of a write: the transaction changed the entry's mark, or added it, on a leaf, of which the
-/// record has the image as it is held, and whose bit is set. The key's bytes are written over `spelled`.
+/// Appends the record of a write: the transaction changed the entry's mark, or added it, on a held leaf, whose image
+/// the record has. Sets the leaf's bit. The key's bytes are written over `spelled`.
 pub(crate) fn write_record<D: SectorDisk, K: ReadKeys>(
     log: &mut Glog,
     store: &PageStore<D, K>,

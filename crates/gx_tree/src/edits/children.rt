@@ -4,7 +4,7 @@ use gx_class::KeyClass;
 use gx_node::{Edit, inner_edits};
 use gx_page::Page;
 
-/// A bound for the child in a slot of an inner node, in place of its own.
+/// A new bound for the child in a slot of an inner node.
 #[derive(Drop)]
 pub struct SetBound<B> {
     /// The slot.

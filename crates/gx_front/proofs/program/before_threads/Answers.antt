@@ -11,5 +11,12 @@ returns-in-Err-2-clause-ended g c =
     no_memory_fault c.kind.result c.if-eq.ensures (c.kind.ensures ∙ (ap kind_of c.in-Err-2.error-is ∙ same)) in
     rw c.in-Ok.is (inl (
       some_fault (fault_of gist_app (map g.S.AsStr.text c.in-Ok.given.now)) c.in-Err-2.error c.in-Err-2.ensures.wrong other,
-      record { status_is = c.refuse_words.ensures; unread = search rules; unwritten = search rules },
+      record {
+        status_is = c.refuse_words.ensures.status;
+        untouched = record { unopened = search rules; unread = search rules };
+        unwritten = search rules;
+        text = c.refuse_words.ensures.told.0;
+        text_is = c.refuse_words.ensures.told.1.0;
+        told = c.refuse_words.ensures.told.1.1;
+      },
     ))

@@ -1,4 +1,4 @@
-use Rattle.std.proofs.Common.{◌<◌, subst}
+use Rattle.std.proofs.Common.{◌≡◌, ◌<◌, subst}
 use Rattle.std.specs.Prelude.{◌^◌}
 use Rattle.gx_opening.specs.Standing.{limits_of}
 use Rattle.gx_lives.proofs.Fitting.{fit_of}
@@ -12,4 +12,4 @@ returns g c = λ p allowed m old new why bears refused.
     let lawful = c.a_class_is_lawful.ensures (limits_of p) allowed.range.least_entries in
     let state = g.D.SectorDisk.state in
     let formatted = formatted_so _ _ _ g.K.KeyClass state p lawful m (state old) bears code allowed (fit_of code p few allowed) in
-    only_fails _ _ _ g.K.KeyClass state p lawful m (state old) bears code formatted (state new) why refused
+    only_fails _ _ _ g.K.KeyClass state p lawful m (state old) bears code formatted (new ≡ old) (state new) why refused

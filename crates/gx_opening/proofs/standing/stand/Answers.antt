@@ -9,7 +9,7 @@ use Rattle.gx_node.specs.Reading.{format_of}
 use Rattle.gx_opening.specs.Standing.{limits_of}
 use Rattle.gx_opening.proofs.Faults.{are_told, found_told, told_later, told_same}
 use Rattle.gx_opening.proofs.Ordering.{laid_in_order, synced_so, unlaid_in_order, unwritten_so}
-use Rattle.gx_opening.proofs.Stood.{formatted_so, laid_so, stood_safe, told_cause, unlaid_so}
+use Rattle.gx_opening.proofs.Stood.{formatted_so, laid_so, one_cause, stood_safe, told_cause, unlaid_so}
 use Rattle.gx_opening.proofs.standing.stand.Goals as goal
 
 pub returns-clause-safe : goal.returns-clause-safe
@@ -20,30 +20,30 @@ returns-clause-safe g c = λ honest.
     let f = format_of g.K.KeyClass in
     let state = g.D.SectorDisk.state in
     let a = state c.args.disk.now in
-    let b = state c.formatted_for.new.disk in
+    let b = state c.formatted_behind.new.disk in
     let e = state c.lay_log.new.disk in
     let p = c.in_ok-parameters.parameters in
     let settles = c.in_ok-parameters.ensures.settles honest in
     let allowed = c.in_ok-parameters.ensures.allowed in
-    let enough : MIN_SECTORS ≤ a.sectors = (let least = allowed.0.range.least_pages in let large = allowed.1 in omega (arith, least, large)) in
+    let enough : MIN_SECTORS ≤ a.sectors = c.requires in
     let formatted = formatted_so shape proper said f _ a b p enough settles in
     let lays = c.in_ok-log.ensures.lays (limits_of p) refl refl (c.what_stands_is_legal.ensures.lawful (limits_of p)) (c.in_ok-parameters.ensures.counted.honest ∙ honest) settles.settled in
     stood_safe shape proper said f 0 a b e p formatted.says settles.only lays.leaves)
 
 pub returns-clause-stood : goal.returns-clause-stood
-returns-clause-stood g c = λ honest large.
+returns-clause-stood g c = λ honest.
     (let shape : Members g.row.K-Key.Denot = record { partial_cmp = g.K.Key.PartialOrd.partial_cmp; eq = g.K.Key.PartialEq.eq; cmp = g.K.Key.Ord.cmp; overlap = g.K.Key.Shape.overlap; inside = g.K.Key.Shape.inside } in
     let proper = g.K.ReadKeys.is_proper in
     let said = g.K.ReadKeys.said in
     let f = format_of g.K.KeyClass in
     let state = g.D.SectorDisk.state in
     let a = state c.args.disk.now in
-    let b = state c.formatted_for.new.disk in
+    let b = state c.formatted_behind.new.disk in
     let e = state c.lay_log.new.disk in
     let p = c.in_ok-parameters.parameters in
     let settles = c.in_ok-parameters.ensures.settles honest in
     let allowed = c.in_ok-parameters.ensures.allowed in
-    let enough : MIN_SECTORS ≤ a.sectors = (let least = allowed.0.range.least_pages in let large = allowed.1 in omega (arith, least, large)) in
+    let enough : MIN_SECTORS ≤ a.sectors = c.requires in
     let formatted = formatted_so shape proper said f _ a b p enough settles in
     let lays = c.in_ok-log.ensures.lays (limits_of p) refl refl (c.what_stands_is_legal.ensures.lawful (limits_of p)) (c.in_ok-parameters.ensures.counted.honest ∙ honest) settles.settled in
     (formatted, laid_so shape proper said f 0 a b e p formatted.says settles.only c.in_ok-log.log lays))
@@ -56,18 +56,18 @@ returns-in_err-log-clause-safe g c = λ honest.
     let f = format_of g.K.KeyClass in
     let state = g.D.SectorDisk.state in
     let a = state c.args.disk.now in
-    let b = state c.formatted_for.new.disk in
+    let b = state c.formatted_behind.new.disk in
     let e = state c.lay_log.new.disk in
     let p = c.in_ok-parameters.parameters in
     let settles = c.in_ok-parameters.ensures.settles honest in
     let allowed = c.in_ok-parameters.ensures.allowed in
-    let enough : MIN_SECTORS ≤ a.sectors = (let least = allowed.0.range.least_pages in let large = allowed.1 in omega (arith, least, large)) in
+    let enough : MIN_SECTORS ≤ a.sectors = c.requires in
     let formatted = formatted_so shape proper said f _ a b p enough settles in
     let lays = c.in_err-log.ensures.lays (limits_of p) refl refl (c.what_stands_is_legal.ensures.lawful (limits_of p)) (c.in_ok-parameters.ensures.counted.honest ∙ honest) settles.settled in
     stood_safe shape proper said f 0 a b e p formatted.says settles.only lays.leaves)
 
 pub returns-in_err-log-clause-stood : goal.returns-in_err-log-clause-stood
-returns-in_err-log-clause-stood g c = λ honest large.
+returns-in_err-log-clause-stood g c = λ honest.
     let p = err_from_is_err_and c.from_residual-in_err-log.result c.from_residual-in_err-log.ensures.1 in
     rw (p.1, p.2) ((let shape : Members g.row.K-Key.Denot = record { partial_cmp = g.K.Key.PartialOrd.partial_cmp; eq = g.K.Key.PartialEq.eq; cmp = g.K.Key.Ord.cmp; overlap = g.K.Key.Shape.overlap; inside = g.K.Key.Shape.inside } in
     let proper = g.K.ReadKeys.is_proper in
@@ -75,15 +75,15 @@ returns-in_err-log-clause-stood g c = λ honest large.
     let f = format_of g.K.KeyClass in
     let state = g.D.SectorDisk.state in
     let a = state c.args.disk.now in
-    let b = state c.formatted_for.new.disk in
+    let b = state c.formatted_behind.new.disk in
     let e = state c.lay_log.new.disk in
     let p = c.in_ok-parameters.parameters in
     let settles = c.in_ok-parameters.ensures.settles honest in
     let allowed = c.in_ok-parameters.ensures.allowed in
-    let enough : MIN_SECTORS ≤ a.sectors = (let least = allowed.0.range.least_pages in let large = allowed.1 in omega (arith, least, large)) in
+    let enough : MIN_SECTORS ≤ a.sectors = c.requires in
     let formatted = formatted_so shape proper said f _ a b p enough settles in
     let lays = c.in_err-log.ensures.lays (limits_of p) refl refl (c.what_stands_is_legal.ensures.lawful (limits_of p)) (c.in_ok-parameters.ensures.counted.honest ∙ honest) settles.settled in
-    inr (unlaid_so shape proper said f _ a b e p formatted.says settles.only c.in_err-log.field-0.0 formatted c.in_err-log.ensures.faults lays)))
+    inr (unlaid_so shape proper said f _ a b e p formatted.says settles.only c.in_err-log.field-0.0 c.in_err-log.ensures.memory formatted c.in_err-log.ensures.faults lays)))
 
 pub returns-clause-faults : goal.returns-clause-faults
 returns-clause-faults g c =
@@ -109,13 +109,13 @@ returns-clause-order g c = λ honest.
     let f = format_of g.K.KeyClass in
     let state = g.D.SectorDisk.state in
     let a = state c.args.disk.now in
-    let b = state c.formatted_for.new.disk in
+    let b = state c.formatted_behind.new.disk in
     let p = c.in_ok-parameters.parameters in
     let settles = c.in_ok-parameters.ensures.settles honest in
     let allowed = c.in_ok-parameters.ensures.allowed in
-    let enough : MIN_SECTORS ≤ a.sectors = (let least = allowed.0.range.least_pages in let large = allowed.1 in omega (arith, least, large)) in
+    let enough : MIN_SECTORS ≤ a.sectors = c.requires in
     let lays = c.in_ok-log.ensures.lays (limits_of p) refl refl (c.what_stands_is_legal.ensures.lawful (limits_of p)) (c.in_ok-parameters.ensures.counted.honest ∙ honest) settles.settled in
-    laid_in_order shape proper said f state a (state c.lay_log.new.disk) c.formatted_for.new.disk p (formatted_so shape proper said f _ a b p enough settles).says
+    laid_in_order shape proper said f state a (state c.lay_log.new.disk) c.formatted_behind.new.disk p (formatted_so shape proper said f _ a b p enough settles).says
     (synced_so _ a b p c.in_ok-parameters.ensures.counted c.in_ok-parameters.ensures.synced settles) c.in_ok-log.log lays)
 
 pub returns-in_err-log-clause-order : goal.returns-in_err-log-clause-order
@@ -127,21 +127,21 @@ returns-in_err-log-clause-order g c = λ honest.
     let f = format_of g.K.KeyClass in
     let state = g.D.SectorDisk.state in
     let a = state c.args.disk.now in
-    let b = state c.formatted_for.new.disk in
+    let b = state c.formatted_behind.new.disk in
     let e = state c.lay_log.new.disk in
     let p = c.in_ok-parameters.parameters in
     let settles = c.in_ok-parameters.ensures.settles honest in
     let allowed = c.in_ok-parameters.ensures.allowed in
-    let enough : MIN_SECTORS ≤ a.sectors = (let least = allowed.0.range.least_pages in let large = allowed.1 in omega (arith, least, large)) in
+    let enough : MIN_SECTORS ≤ a.sectors = c.requires in
     let lays = c.in_err-log.ensures.lays (limits_of p) refl refl (c.what_stands_is_legal.ensures.lawful (limits_of p)) (c.in_ok-parameters.ensures.counted.honest ∙ honest) settles.settled in
     let why = c.in_err-log.field-0.0 in
-    unlaid_in_order shape proper said f state a e c.formatted_for.new.disk p (formatted_so shape proper said f _ a b p enough settles).says
-    (synced_so _ a b p c.in_ok-parameters.ensures.counted c.in_ok-parameters.ensures.synced settles) why (told_cause (FoundLog (Entry g.row.K-Key.Denot)) b.faults e.faults why c.in_err-log.ensures.faults) lays))
+    unlaid_in_order shape proper said f state a e c.formatted_behind.new.disk p (formatted_so shape proper said f _ a b p enough settles).says
+    (synced_so _ a b p c.in_ok-parameters.ensures.counted c.in_ok-parameters.ensures.synced settles) why (one_cause why (told_cause (FoundLog (Entry g.row.K-Key.Denot)) b.faults e.faults why c.in_err-log.ensures.memory c.in_err-log.ensures.faults)) lays))
 
 pub returns-in_err-parameters-clause-order : goal.returns-in_err-parameters-clause-order
 returns-in_err-parameters-clause-order g c = λ honest.
     let p = err_from_is_err_and c.from_residual.result c.from_residual.ensures.1 in
     rw (p.1, p.2) ((let a = g.D.SectorDisk.state c.args.disk.now in
-    let b = g.D.SectorDisk.state c.formatted_for.new.disk in
+    let b = g.D.SectorDisk.state c.formatted_behind.new.disk in
     let unwritten = unwritten_so _ a b c.in_err-parameters.field-0.0 c.in_err-parameters.ensures.counted (c.in_err-parameters.ensures.settles honest) in
     (inl unwritten, λ unfit. unwritten)))

@@ -1,6 +1,6 @@
 use Rattle.std.proofs.lemmas.Result.{err_from_is_err_and}
 use Rattle.gx_node.specs.Reading.{format_of}
-use Rattle.gx_restart.proofs.Ends.{device_later, fails_later, later}
+use Rattle.gx_restart.proofs.Ends.{began_with, device_later, fails_later, later}
 use Rattle.gx_restart.proofs.opening.open_over.Goals as goal
 
 pub returns-clause-keeps : goal.returns-clause-keeps
@@ -14,6 +14,9 @@ pub returns-in_err-engine-clause-keeps : goal.returns-in_err-engine-clause-keeps
 returns-in_err-engine-clause-keeps g c = λ a honest st.
     let p = err_from_is_err_and c.from_residual.result c.from_residual.ensures.1 in
     rw (p.1, p.2) (c.in_err-engine.ensures.begun a honest st)
+
+pub returns-clause-began : goal.returns-clause-began
+returns-clause-began g c = began_with _ c.args.frames c.in_ok-engine.engine c.finished.result c.in_ok-engine.ensures.count c.finished.ensures.goes
 
 pub returns-clause-faults : goal.returns-clause-faults
 returns-clause-faults g c = fails_later g.D.SectorDisk.state _ _ c.in_ok-engine.ensures.faults c.finished.result c.finished.ensures.faults

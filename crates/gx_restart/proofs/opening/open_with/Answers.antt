@@ -19,7 +19,7 @@ returns-in-Ok-clause-safe g c = λ honest.
     let m = c.find-disk.result.0 in
     let s = c.in-Ok.standing in
     let enough = enough_of shape proper said (format_of class) _ (state a) (state m) c.find-disk.result.1 s c.in-Ok.is c.find-disk.ensures.allowed in
-    let st = stands_of shape proper said (format_of class) _ (state a) (state m) c.find-disk.result.1 s c.in-Ok.is (c.find-disk.ensures.tested honest enough) in
+    let st = stands_of shape proper said (format_of class) _ (state a) (state m) c.find-disk.result.1 s c.in-Ok.is _ (c.find-disk.ensures.tested honest enough) in
     let came = c.open_over.ensures.keeps a (c.find-disk.ensures.device.1 ∙ honest) st in
     came_safe shape proper said class state _ a m s st (c.find-disk.ensures.safe honest) c.open_over.result came)
 
@@ -33,7 +33,7 @@ returns-in-Ok-clause-opened g c = λ honest enough.
     let a = c.args.disk in
     let m = c.find-disk.result.0 in
     let s = c.in-Ok.standing in
-    let st = stands_of shape proper said (format_of class) _ (state a) (state m) c.find-disk.result.1 s c.in-Ok.is (c.find-disk.ensures.tested honest enough) in
+    let st = stands_of shape proper said (format_of class) _ (state a) (state m) c.find-disk.result.1 s c.in-Ok.is _ (c.find-disk.ensures.tested honest enough) in
     let came = c.open_over.ensures.keeps a (c.find-disk.ensures.device.1 ∙ honest) st in
     came_opened shape proper said class state _ a m s st (c.a_class_is_lawful.ensures (limits_of s.parameters) st.formatted.allowed.range.least_entries) c.open_over.result
     c.open_over.ensures.idle came)
@@ -48,7 +48,7 @@ returns-in-Ok-clause-refused g c = λ honest enough.
     let a = c.args.disk in
     let m = c.find-disk.result.0 in
     let s = c.in-Ok.standing in
-    let st = stands_of shape proper said (format_of class) _ (state a) (state m) c.find-disk.result.1 s c.in-Ok.is (c.find-disk.ensures.tested honest enough) in
+    let st = stands_of shape proper said (format_of class) _ (state a) (state m) c.find-disk.result.1 s c.in-Ok.is _ (c.find-disk.ensures.tested honest enough) in
     let came = c.open_over.ensures.keeps a (c.find-disk.ensures.device.1 ∙ honest) st in
     came_refused shape proper said class state _ a m s st c.open_over.result came)
 
@@ -66,7 +66,7 @@ returns-in-Ok-clause-order g c = λ honest.
     let m = c.find-disk.result.0 in
     let s = c.in-Ok.standing in
     let enough = enough_of shape proper said (format_of class) _ (state a) (state m) c.find-disk.result.1 s c.in-Ok.is c.find-disk.ensures.allowed in
-    let st = stands_of shape proper said (format_of class) _ (state a) (state m) c.find-disk.result.1 s c.in-Ok.is (c.find-disk.ensures.tested honest enough) in
+    let st = stands_of shape proper said (format_of class) _ (state a) (state m) c.find-disk.result.1 s c.in-Ok.is _ (c.find-disk.ensures.tested honest enough) in
     let came = c.open_over.ensures.keeps a (c.find-disk.ensures.device.1 ∙ honest) st in
     let first = subst (λ (x : Result (Standing g.row.K-Key.Denot) Refusal). FindsInOrder shape proper said (format_of class) state (state a) (state m) x) c.in-Ok.is (c.find-disk.ensures.order honest) in
     found_in_order shape proper said class state _ a m s st first c.open_over.result came)
@@ -82,3 +82,6 @@ returns-in-Err-clause-order g c = λ honest.
     let m = state c.find-disk.result.0 in
     let finds = subst (λ (x : Result (Standing g.row.K-Key.Denot) Refusal). FindsInOrder shape proper said (format_of class) state a m x) c.in-Err.is (c.find-disk.ensures.order honest) in
     not_found shape proper said class state a m c.in-Err.why finds)
+
+pub returns-in-Ok-clause-began : goal.returns-in-Ok-clause-began
+returns-in-Ok-clause-began g c = c.open_over.ensures.began

@@ -18,7 +18,7 @@ returns-in-Ok-clause-device g c = memory_only c.report_of.result c.report_of.ens
 pub returns-in-Err-clause-refused : goal.returns-in-Err-clause-refused
 returns-in-Err-clause-refused g c = λ honest.
     rw c.told_of_copy.ensures
-    (refused_so (record { partial_cmp = g.K.Key.PartialOrd.partial_cmp; eq = g.K.Key.PartialEq.eq; cmp = g.K.Key.Ord.cmp; overlap = g.K.Key.Shape.overlap; inside = g.K.Key.Shape.inside }) g.K.ReadKeys.is_proper g.K.ReadKeys.said (format_of g.K.KeyClass) g.D.SectorDisk.state _ (g.D.SectorDisk.state c.args.copy) (g.D.SectorDisk.state c.in-Err.refused.disk)
+    (refused_so (record { partial_cmp = g.K.Key.PartialOrd.partial_cmp; eq = g.K.Key.PartialEq.eq; cmp = g.K.Key.Ord.cmp; overlap = g.K.Key.Shape.overlap; inside = g.K.Key.Shape.inside }) g.K.ReadKeys.is_proper g.K.ReadKeys.said (format_of g.K.KeyClass) g.D.SectorDisk.state _ c.args.copy c.in-Err.refused.disk
     c.in-Err.refused.why (c.in-Err.ensures.refused honest c.requires.frames.0 c.requires.frames.1 c.requires.large))
 
 pub returns-in-Err-clause-device : goal.returns-in-Err-clause-device

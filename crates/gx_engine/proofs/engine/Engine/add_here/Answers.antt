@@ -27,7 +27,8 @@ use Rattle.gx_engine.proofs.engine.Engine.add_here.Goals as goal
 pub returns-in-Ok-clause-comes : goal.returns-in-Ok-clause-comes
 returns-in-Ok-clause-comes g c =
     added_comes c.args.session c.args.entry (keys g.K.Key.Ord.cmp g.K.Key.Shape.overlap g.K.Key.Shape.inside) c.args.item.page c.args.self.now c.add_pair.new.self c.note_added.new.self
-    c.add_pair.ensures.only (search rules) c.note_added.result c.note_added.ensures.outcome _ _ _ g.D.SectorDisk.state c.in-Ok.ensures.adds.logged.most
+    c.add_pair.ensures.only (search rules) c.note_added.result c.note_added.ensures.outcome
+    (λ size. size ≡ add_room (is_imaged c.args.self.now.volume.imaged c.args.item.page) g.K.KeyClass.KEY) ⊥ (λ x y. ⊥) (is_node (format_of g.K.KeyClass)) g.D.SectorDisk.state c.in-Ok.ensures.adds.logged.most
 
 pub returns-in-Ok-clause-moves : goal.returns-in-Ok-clause-moves
 returns-in-Ok-clause-moves g c leaf =
@@ -57,7 +58,7 @@ pub returns-in-Err-Pages-clause-comes : goal.returns-in-Err-Pages-clause-comes
 returns-in-Err-Pages-clause-comes g c =
     let did = c.in-Err-Pages.ensures.adds in
     let short = g.met.K.KeyClass.key_is_short in
-    stopped_comes _ _ (keys g.K.Key.Ord.cmp g.K.Key.Shape.overlap g.K.Key.Shape.inside) (is_node (format_of g.K.KeyClass)) g.D.SectorDisk.state c.args.self.now c.args.session c.args.entry c.add_pair.new.self.volume did.stops.unlogged.most did.stops.unlogged.log did.stops.unlogged.imaged
+    stopped_comes (λ size. size ≡ add_room (is_imaged c.args.self.now.volume.imaged c.args.item.page) g.K.KeyClass.KEY) ⊥ (λ x y. ⊥) (keys g.K.Key.Ord.cmp g.K.Key.Shape.overlap g.K.Key.Shape.inside) (is_node (format_of g.K.KeyClass)) g.D.SectorDisk.state c.args.self.now c.args.session c.args.entry c.add_pair.new.self.volume did.stops.unlogged.most did.stops.unlogged.log did.stops.unlogged.imaged
     c.requires.early (λ page. (did.stops.unlogged.since page).same.stamp) (add_room (is_imaged c.args.self.now.volume.imaged c.args.item.page) g.K.KeyClass.KEY) refl
     (add_is_short (is_imaged c.args.self.now.volume.imaged c.args.item.page) g.K.KeyClass.KEY short) c.in-Err-Pages.fault (why_pages _ c.in-Err-Pages.field-0 c.in-Err-Pages.fault c.in-Err-Pages.field-0-is did.stops.why)
     c.refuse.new.self c.refuse.result
@@ -89,7 +90,7 @@ returns-in-Err-Damaged g c =
     let damaged : c.in-Err-Damaged.field-0 ≡ Damaged = search rules in
     record {
       comes =
-          lost_comes _ _ k (is_node (format_of g.K.KeyClass)) state old c.args.session c.args.entry c.add_pair.new.self.volume un.most un.log un.imaged c.break_off.new.self c.break_off.result c.break_off.ensures.outcome
+          lost_comes (λ size. size ≡ add_room (is_imaged c.args.self.now.volume.imaged c.args.item.page) g.K.KeyClass.KEY) ⊥ (λ x y. ⊥) k (is_node (format_of g.K.KeyClass)) state old c.args.session c.args.entry c.add_pair.new.self.volume un.most un.log un.imaged c.break_off.new.self c.break_off.result c.break_off.ensures.outcome
           (c.break_off.ensures.failed ∙ ap (λ (x : Parts g.row.K-Key.Denot g.row.D.Denot). record x { sessions = failed_state x.sessions }) c.add_pair.ensures.only);
       device = then_read g.D.SectorDisk.state c.args.self.now c.add_pair.new.self c.break_off.new.self c.add_pair.ensures.device c.break_off.ensures.device;
       moves = λ leaf l.

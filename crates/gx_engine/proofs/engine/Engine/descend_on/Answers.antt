@@ -1,4 +1,4 @@
-use Rattle.std.proofs.Common.{◌≡◌, ◌≤◌, length, ◌-◌, ◌∙◌, ap, refl, subst, rules}
+use Rattle.std.proofs.Common.{◌≡◌, ◌⊎◌, ◌≤◌, length, ◌-◌, ◌∙◌, ap, refl, subst, rules}
 use Rattle.gx_machine.specs.declared.call.Call.TheVariants.{Insert}
 use Rattle.gx_machine.specs.Keys.{Members, keys}
 use Rattle.gx_node.specs.Reading.{format_of, is_node}
@@ -9,17 +9,17 @@ use Rattle.gx_phases.specs.States.{IsKept, phase_at}
 use Rattle.gx_store.specs.declared.fault.StoreFault.{StoreFault}
 use Rattle.gx_record.specs.declared.sizes.TheConstants.{SPLIT_RECORD}
 use Rattle.gx_engine.specs.declared.work.Work.TheVariants.{Descends}
-use Rattle.gx_engine.specs.Moves.{Moves}
+use Rattle.gx_engine.specs.Moves.{Moves, calling}
 use Rattle.gx_engine.specs.Refusals.{IsRefused}
 use Rattle.gx_engine.specs.States.{Parts}
-use Rattle.gx_engine.specs.Writes.{AsksHere, AsksRoom, IsFull, LacksPages, LeftFew, write_events}
+use Rattle.gx_engine.specs.Writes.{AsksHere, AsksRoom, HasNoneToSweep, IsFull, IsOnlySwept, LacksPages, LeftFew, MakesRoom, write_events}
 use Rattle.gx_tree.specs.declared.descent.Descended.TheVariants.{Again, Down, FullInner, FullLeaf, Leaf, Widened}
 use Rattle.gx_tree.specs.declared.descent.Way.TheVariants.{Add}
 use Rattle.gx_tree.specs.declared.descent.Descended.{Descended}
 use Rattle.gx_tree.specs.Descending.{WayAt, next_of}
 use Rattle.gx_node.specs.Store.{tree_of}
 use Rattle.gx_node.specs.Trees.{size}
-use Rattle.gx_store.specs.State.{IsInOrder}
+use Rattle.gx_store.specs.State.{IsInOrder, IsSteady}
 use Rattle.gx_storage.specs.Imaged.{is_imaged}
 use Rattle.gx_storage.specs.Small.{add_room, widen_room}
 use Rattle.gx_storage.proofs.Descending.{IsJoin}
@@ -29,7 +29,8 @@ use Rattle.gx_engine.proofs.Serving.{flies_on}
 use Rattle.gx_engine.proofs.DescentMoves.{full_inner, full_leaf, inner_removable, never_stepped, removable_again, said_again, stepped_as}
 use Rattle.gx_engine.proofs.Descents.{again_moves, down_moves, widened_moves}
 use Rattle.gx_engine.proofs.SweepRoom.{asks_again}
-use Rattle.gx_engine.proofs.MakingRoom.{asks_add, asks_split, asks_sweep, asks_widen, comes_more, lacks_pages, on_comes, on_is, widen_is_short}
+use Rattle.gx_engine.proofs.MakingRoom.{asks_add, asks_split, asks_sweep, asks_widen, comes_more, lacks_pages, on_comes, on_is, to_split, widen_is_short}
+use Rattle.gx_engine.proofs.RoomMade.{again_made, down_made, inner_made, lacks_before, made_before, room_made, widened_made}
 use Rattle.gx_engine.proofs.ReadFirst.{comes_then, few_then, moves_then}
 use Rattle.gx_engine.proofs.Stopping.{lost_comes, stopped_comes, stopped_moves}
 use Rattle.gx_engine.proofs.UndoMoves.{why_pages}
@@ -46,7 +47,10 @@ returns-in-Widened-clause-comes g c =
     let f = format_of g.K.KeyClass in
     let has = stepped_as (known_at shape g.K.ReadKeys.is_proper) (reading_of g.K.ReadKeys.said f) f (is_node f) (state old.volume.shelf.disk) (state c.step_down.new.self.volume.shelf.disk) old.volume c.step_down.new.self.volume g.K.KeyClass.cost g.K.KeyClass.joined g.K.KeyClass.spelling g.K.KeyClass.KEY c.args.item c.args.entry.key c.in-Ok.did (Widened c.in-Widened.field-0 c.in-Widened.field-1 c.in-Widened.field-2) c.in-Widened.is c.in-Ok.ensures.step in
     let there = c.go_down.ensures.there c.in-Widened.field-0 (ap (λ (x : Descended g.row.K-Key.Denot). next_of x) c.in-Widened.is) (Insert c.args.entry) (Descends c.args.parent c.args.item) (ap (λ (x : Parts g.row.K-Key.Denot g.row.D.Denot). phase_at (c.args.session - 1) x.sessions.phases) c.step_down.ensures.only ∙ c.requires.descends) in
-    on_comes c.args.session (Insert c.args.entry) c.args.item.page c.in-Widened.field-0 old c.step_down.new.self c.go_down.new.self c.step_down.ensures.only there c.go_down.result c.go_down.ensures.outcome _ _ k (is_node f) state has.logged.most
+    on_comes c.args.session (Insert c.args.entry) c.args.item.page c.in-Widened.field-0 old c.step_down.new.self c.go_down.new.self c.step_down.ensures.only there c.go_down.result c.go_down.ensures.outcome
+    (AsksRoom k f g.K.KeyClass.KEY (state old.volume.shelf.disk) c.args.session (Insert c.args.entry) old) (LacksPages k f (state old.volume.shelf.disk) c.args.session (Insert c.args.entry) old) (MakesRoom k f (state old.volume.shelf.disk) c.args.session (Insert c.args.entry) old) k (is_node f) state has.logged.most
+    (widened_made k f (state old.volume.shelf.disk) c.args.session (Insert c.args.entry) old (state c.step_down.new.self.volume.shelf.disk)
+    (calling c.args.session (Insert c.args.entry) (Descends c.args.item.page c.in-Widened.field-0) (record old { volume = c.step_down.new.self.volume })) c.args.parent c.args.item c.requires.descends g.K.KeyClass.cost g.K.KeyClass.joined c.args.entry.key c.in-Widened.field-0 c.in-Widened.field-1 c.in-Widened.field-2 has.steps)
 
 pub returns-in-Widened-clause-moves : goal.returns-in-Widened-clause-moves
 returns-in-Widened-clause-moves g c l =
@@ -85,7 +89,10 @@ returns-in-Down-clause-comes g c =
     let f = format_of g.K.KeyClass in
     let has = stepped_as (known_at shape g.K.ReadKeys.is_proper) (reading_of g.K.ReadKeys.said f) f (is_node f) (state old.volume.shelf.disk) (state c.step_down.new.self.volume.shelf.disk) old.volume c.step_down.new.self.volume g.K.KeyClass.cost g.K.KeyClass.joined g.K.KeyClass.spelling g.K.KeyClass.KEY c.args.item c.args.entry.key c.in-Ok.did (Down c.in-Down.field-0) c.in-Down.is c.in-Ok.ensures.step in
     let there = c.go_down-in-Down.ensures.there c.in-Down.field-0 (ap (λ (x : Descended g.row.K-Key.Denot). next_of x) c.in-Down.is) (Insert c.args.entry) (Descends c.args.parent c.args.item) (ap (λ (x : Parts g.row.K-Key.Denot g.row.D.Denot). phase_at (c.args.session - 1) x.sessions.phases) c.step_down.ensures.only ∙ c.requires.descends) in
-    on_comes c.args.session (Insert c.args.entry) c.args.item.page c.in-Down.field-0 old c.step_down.new.self c.go_down-in-Down.new.self c.step_down.ensures.only there c.go_down-in-Down.result c.go_down-in-Down.ensures.outcome _ _ k (is_node f) state has.logged.most
+    on_comes c.args.session (Insert c.args.entry) c.args.item.page c.in-Down.field-0 old c.step_down.new.self c.go_down-in-Down.new.self c.step_down.ensures.only there c.go_down-in-Down.result c.go_down-in-Down.ensures.outcome
+    (AsksRoom k f g.K.KeyClass.KEY (state old.volume.shelf.disk) c.args.session (Insert c.args.entry) old) (LacksPages k f (state old.volume.shelf.disk) c.args.session (Insert c.args.entry) old) (MakesRoom k f (state old.volume.shelf.disk) c.args.session (Insert c.args.entry) old) k (is_node f) state has.logged.most
+    (down_made k f (state old.volume.shelf.disk) c.args.session (Insert c.args.entry) old (state c.step_down.new.self.volume.shelf.disk)
+    (calling c.args.session (Insert c.args.entry) (Descends c.args.item.page c.in-Down.field-0) (record old { volume = c.step_down.new.self.volume })) c.args.parent c.args.item c.requires.descends g.K.KeyClass.cost g.K.KeyClass.joined c.args.entry.key c.in-Down.field-0 has.steps)
 
 pub returns-in-Down-clause-moves : goal.returns-in-Down-clause-moves
 returns-in-Down-clause-moves g c l =
@@ -123,7 +130,10 @@ returns-in-Again-clause-comes g c =
     let f = format_of g.K.KeyClass in
     let has = stepped_as (known_at shape g.K.ReadKeys.is_proper) (reading_of g.K.ReadKeys.said f) f (is_node f) (state old.volume.shelf.disk) (state c.step_down.new.self.volume.shelf.disk) old.volume c.step_down.new.self.volume g.K.KeyClass.cost g.K.KeyClass.joined g.K.KeyClass.spelling g.K.KeyClass.KEY c.args.item c.args.entry.key c.in-Ok.did Again c.in-Again.is c.in-Ok.ensures.step in
     let there = c.begin_again.ensures.there (Insert c.args.entry) (Descends c.args.parent c.args.item) (ap (λ (x : Parts g.row.K-Key.Denot g.row.D.Denot). phase_at (c.args.session - 1) x.sessions.phases) c.step_down.ensures.only ∙ c.requires.descends) in
-    on_comes c.args.session (Insert c.args.entry) 0 (record { page = 1; seen = c.step_down.new.self.volume.shelf.counter }) old c.step_down.new.self c.begin_again.new.self c.step_down.ensures.only there c.begin_again.result c.begin_again.ensures.outcome _ _ k (is_node f) state has.logged.most
+    on_comes c.args.session (Insert c.args.entry) 0 (record { page = 1; seen = c.step_down.new.self.volume.shelf.counter }) old c.step_down.new.self c.begin_again.new.self c.step_down.ensures.only there c.begin_again.result c.begin_again.ensures.outcome
+    (AsksRoom k f g.K.KeyClass.KEY (state old.volume.shelf.disk) c.args.session (Insert c.args.entry) old) (LacksPages k f (state old.volume.shelf.disk) c.args.session (Insert c.args.entry) old) (MakesRoom k f (state old.volume.shelf.disk) c.args.session (Insert c.args.entry) old) k (is_node f) state has.logged.most
+    (again_made k f (state old.volume.shelf.disk) c.args.session (Insert c.args.entry) old (state c.step_down.new.self.volume.shelf.disk)
+    (calling c.args.session (Insert c.args.entry) (Descends 0 (record { page = 1; seen = c.step_down.new.self.volume.shelf.counter })) (record old { volume = c.step_down.new.self.volume })) c.args.parent c.args.item c.requires.descends g.K.KeyClass.cost g.K.KeyClass.joined c.args.entry.key has.steps)
 
 pub returns-in-Again-clause-moves : goal.returns-in-Again-clause-moves
 returns-in-Again-clause-moves g c l =
@@ -163,8 +173,9 @@ returns-in-Leaf-clause-comes g c =
     comes_more k (is_node f) d e c.args.session (Insert c.args.entry) old c.add_here.new.self (λ size. size ≡ add_room (is_imaged mid.volume.imaged page) key) (AsksRoom k f key d c.args.session (Insert c.args.entry) old)
     (asks_add k f key d c.args.session c.args.entry c.args.parent c.args.item old c.requires.descends (λ steady. ((has.steps steady).0.1, (has.steps steady).0.2))
     mid.volume.imaged has.logged.imaged)
-    ⊥ (LacksPages f d c.args.session (Insert c.args.entry) old) (λ none. absurd none) c.add_here.result
-    (comes_then k known r f (is_node f) (widen_room (is_imaged old.volume.imaged c.args.item.page) g.K.KeyClass.KEY) d m e c.args.session c.args.entry old mid c.step_down.ensures.only has.logged (λ size. size ≡ add_room (is_imaged mid.volume.imaged page) key) ⊥ ⊥ (λ none. none)
+    ⊥ (LacksPages k f d c.args.session (Insert c.args.entry) old) (λ none. absurd none)
+    (λ x y. ⊥) (MakesRoom k f d c.args.session (Insert c.args.entry) old) (λ none. absurd none) c.add_here.result
+    (comes_then k known r f (is_node f) (widen_room (is_imaged old.volume.imaged c.args.item.page) g.K.KeyClass.KEY) d m e c.args.session c.args.entry old mid c.step_down.ensures.only has.logged (λ size. size ≡ add_room (is_imaged mid.volume.imaged page) key) ⊥ ⊥ (λ none. none) (λ x y. ⊥) (λ x y. ⊥) (λ x none. none)
     c.add_here.new.self c.add_here.result c.add_here.ensures.comes)
 
 pub returns-in-Leaf-clause-moves : goal.returns-in-Leaf-clause-moves
@@ -201,15 +212,26 @@ returns-in-FullLeaf-clause-comes g c =
     let key = g.K.KeyClass.KEY in
     let e = state c.make_room.new.self.volume.shelf.disk in
     let full : IsFull f d old page = λ steady. full_leaf (node_shown f d page old) old.volume.most (has.steps steady).0.2 in
+    let steady = (has.logged.since 0).goes_on.steady in
+    let same = λ (still : IsSteady d old.volume.shelf.frames). (has.steps still).1 in
     comes_more k (is_node f) d e c.args.session (Insert c.args.entry) old c.make_room.new.self (AsksHere k f d old page) (AsksRoom k f key d c.args.session (Insert c.args.entry) old)
     (asks_sweep k f key d c.args.session c.args.entry c.args.parent c.args.item old c.requires.descends full)
-    (LeftFew d old page) (LacksPages f d c.args.session (Insert c.args.entry) old)
-    (lacks_pages k f key d c.args.session c.args.entry c.args.parent c.args.item old c.requires.descends full) c.make_room.result
-    (comes_then k known r f (is_node f) (widen_room (is_imaged old.volume.imaged c.args.item.page) g.K.KeyClass.KEY) d m e c.args.session c.args.entry old mid c.step_down.ensures.only has.logged (AsksHere k f d old page) (LeftFew m mid page) (LeftFew d old page)
-    (few_then k known r f (is_node f) (widen_room (is_imaged old.volume.imaged c.args.item.page) g.K.KeyClass.KEY) d m e c.args.session c.args.entry old mid c.step_down.ensures.only has.logged (λ steady. (has.steps steady).1) page)
+    (LeftFew d old page × HasNoneToSweep k f d old page) (LacksPages k f d c.args.session (Insert c.args.entry) old)
+    (λ lacks. lacks_pages k f key d c.args.session c.args.entry c.args.parent c.args.item old c.requires.descends full lacks.1 lacks.0)
+    (λ x y. IsOnlySwept k f d x page old y ⊎ HasNoneToSweep k f d old page) (MakesRoom k f d c.args.session (Insert c.args.entry) old)
+    (room_made k f d c.args.session (Insert c.args.entry) old e c.make_room.new.self c.args.parent c.args.item c.requires.descends full
+    (to_split k f key d c.args.session c.args.entry c.args.parent c.args.item old c.requires.descends full)) c.make_room.result
+    (comes_then k known r f (is_node f) (widen_room (is_imaged old.volume.imaged c.args.item.page) g.K.KeyClass.KEY) d m e c.args.session c.args.entry old mid c.step_down.ensures.only has.logged (AsksHere k f d old page)
+    (LeftFew m mid page × HasNoneToSweep k f m mid page) (LeftFew d old page × HasNoneToSweep k f d old page)
+    (lacks_before k f d m old mid c.step_down.ensures.only steady same page
+    (few_then k known r f (is_node f) (widen_room (is_imaged old.volume.imaged c.args.item.page) g.K.KeyClass.KEY) d m e c.args.session c.args.entry old mid c.step_down.ensures.only has.logged same page))
+    (λ x y. IsOnlySwept k f m x page mid y ⊎ HasNoneToSweep k f m mid page) (λ x y. IsOnlySwept k f d x page old y ⊎ HasNoneToSweep k f d old page)
+    (λ y. made_before k f d m old mid c.step_down.ensures.only steady same page e y)
     c.make_room.new.self c.make_room.result
     (comes_more k (is_node f) m e c.args.session (Insert c.args.entry) mid c.make_room.new.self (AsksHere k f m mid page) (AsksHere k f d old page)
-    (asks_again k f d m old mid c.step_down.ensures.only has.logged.imaged (has.logged.since 0).goes_on.steady (λ steady. (has.steps steady).1) page) (LeftFew m mid page) (LeftFew m mid page) (λ few. few)
+    (asks_again k f d m old mid c.step_down.ensures.only has.logged.imaged steady same page)
+    (LeftFew m mid page × HasNoneToSweep k f m mid page) (LeftFew m mid page × HasNoneToSweep k f m mid page) (λ lacks. lacks)
+    (λ x y. IsOnlySwept k f m x page mid y ⊎ HasNoneToSweep k f m mid page) (λ x y. IsOnlySwept k f m x page mid y ⊎ HasNoneToSweep k f m mid page) (λ made. made)
     c.make_room.result (c.make_room.ensures.comes c.args.entry (ap (λ (x : Parts g.row.K-Key.Denot g.row.D.Denot). phase_at (c.args.session - 1) x.sessions.phases) c.step_down.ensures.only ∙ c.requires.descends))))
 
 pub returns-in-FullLeaf-clause-moves : goal.returns-in-FullLeaf-clause-moves
@@ -247,12 +269,18 @@ returns-in-FullInner-clause-comes g c =
     let key = g.K.KeyClass.KEY in
     let e = state c.split_here.new.self.volume.shelf.disk in
     let full : IsFull f d old page = λ steady. full_inner (node_shown f d page old) old.volume.most (has.steps steady).0.2 in
+    let same = λ (still : IsSteady d old.volume.shelf.frames). (has.steps still).1 in
+    let none : HasNoneToSweep k f d old page = λ still. inner_removable (is_held k old) (node_shown f d page old) (has.steps still).0.1 in
     comes_more k (is_node f) d e c.args.session (Insert c.args.entry) old c.split_here.new.self (λ size. size ≡ SPLIT_RECORD) (AsksRoom k f key d c.args.session (Insert c.args.entry) old)
     (asks_split k f key d c.args.session c.args.entry c.args.parent c.args.item old c.requires.descends full)
-    (LeftFew d old page) (LacksPages f d c.args.session (Insert c.args.entry) old)
-    (lacks_pages k f key d c.args.session c.args.entry c.args.parent c.args.item old c.requires.descends full) c.split_here.result
+    (LeftFew d old page) (LacksPages k f d c.args.session (Insert c.args.entry) old)
+    (lacks_pages k f key d c.args.session c.args.entry c.args.parent c.args.item old c.requires.descends full none)
+    (λ x y. Unit {0}) (MakesRoom k f d c.args.session (Insert c.args.entry) old)
+    (λ made. inner_made k f d c.args.session (Insert c.args.entry) old e c.split_here.new.self c.args.parent c.args.item c.requires.descends full
+    (to_split k f key d c.args.session c.args.entry c.args.parent c.args.item old c.requires.descends full) (λ still. (has.steps still).0.1)) c.split_here.result
     (comes_then k known r f (is_node f) (widen_room (is_imaged old.volume.imaged c.args.item.page) g.K.KeyClass.KEY) d m e c.args.session c.args.entry old mid c.step_down.ensures.only has.logged (λ size. size ≡ SPLIT_RECORD) (LeftFew m mid page) (LeftFew d old page)
-    (few_then k known r f (is_node f) (widen_room (is_imaged old.volume.imaged c.args.item.page) g.K.KeyClass.KEY) d m e c.args.session c.args.entry old mid c.step_down.ensures.only has.logged (λ steady. (has.steps steady).1) page)
+    (few_then k known r f (is_node f) (widen_room (is_imaged old.volume.imaged c.args.item.page) g.K.KeyClass.KEY) d m e c.args.session c.args.entry old mid c.step_down.ensures.only has.logged same page)
+    (λ x y. Unit {0}) (λ x y. Unit {0}) (λ y made. made)
     c.split_here.new.self c.split_here.result (c.split_here.ensures.comes c.args.entry (ap (λ (x : Parts g.row.K-Key.Denot g.row.D.Denot). phase_at (c.args.session - 1) x.sessions.phases) c.step_down.ensures.only ∙ c.requires.descends)))
 
 pub returns-in-FullInner-clause-moves : goal.returns-in-FullInner-clause-moves
@@ -279,7 +307,7 @@ returns-in-Err-Pages-clause-comes g c =
     let k = keys g.K.Key.Ord.cmp g.K.Key.Shape.overlap g.K.Key.Shape.inside in
     let state = g.D.SectorDisk.state in
     let did = c.in-Err-Pages.ensures.step in
-    stopped_comes _ _ k (is_node (format_of g.K.KeyClass)) state old c.args.session c.args.entry c.step_down.new.self.volume did.stops.unlogged.most did.stops.unlogged.log did.stops.unlogged.imaged
+    stopped_comes (AsksRoom k (format_of g.K.KeyClass) g.K.KeyClass.KEY (state old.volume.shelf.disk) c.args.session (Insert c.args.entry) old) (LacksPages k (format_of g.K.KeyClass) (state old.volume.shelf.disk) c.args.session (Insert c.args.entry) old) (MakesRoom k (format_of g.K.KeyClass) (state old.volume.shelf.disk) c.args.session (Insert c.args.entry) old) k (is_node (format_of g.K.KeyClass)) state old c.args.session c.args.entry c.step_down.new.self.volume did.stops.unlogged.most did.stops.unlogged.log did.stops.unlogged.imaged
     c.requires.early (λ page. (did.stops.unlogged.since page).same.stamp) (widen_room (is_imaged old.volume.imaged c.args.item.page) g.K.KeyClass.KEY)
     (asks_widen k (format_of g.K.KeyClass) g.K.KeyClass.KEY (state old.volume.shelf.disk) c.args.session c.args.entry c.args.parent c.args.item old c.requires.descends _ refl)
     (widen_is_short (is_imaged old.volume.imaged c.args.item.page) g.K.KeyClass.KEY g.met.K.KeyClass.key_is_short) c.in-Err-Pages.fault (why_pages _ c.in-Err-Pages.field-0 c.in-Err-Pages.fault c.in-Err-Pages.field-0-is did.stops.why)
@@ -314,7 +342,7 @@ returns-in-Err-Damaged g c =
     let damaged : c.in-Err-Damaged.field-0 ≡ Damaged = search rules in
     record {
       comes =
-          lost_comes _ _ k (is_node f) state old c.args.session c.args.entry c.step_down.new.self.volume un.most un.log un.imaged c.break_off.new.self c.break_off.result c.break_off.ensures.outcome
+          lost_comes (AsksRoom k f g.K.KeyClass.KEY (state old.volume.shelf.disk) c.args.session (Insert c.args.entry) old) (LacksPages k f (state old.volume.shelf.disk) c.args.session (Insert c.args.entry) old) (MakesRoom k f (state old.volume.shelf.disk) c.args.session (Insert c.args.entry) old) k (is_node f) state old c.args.session c.args.entry c.step_down.new.self.volume un.most un.log un.imaged c.break_off.new.self c.break_off.result c.break_off.ensures.outcome
           (c.break_off.ensures.failed ∙ ap (λ (x : Parts g.row.K-Key.Denot g.row.D.Denot). record x { sessions = failed_state x.sessions }) c.step_down.ensures.only);
       device = then_read g.D.SectorDisk.state c.args.self.now c.step_down.new.self c.break_off.new.self c.step_down.ensures.device c.break_off.ensures.device;
       moves = λ l.

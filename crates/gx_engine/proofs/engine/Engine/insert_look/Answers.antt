@@ -8,9 +8,10 @@ use Rattle.gx_engine.specs.declared.work.Work.TheVariants.{Looks}
 use Rattle.gx_engine.specs.Looks.{LooksFor}
 use Rattle.gx_engine.specs.Moves.{calling}
 use Rattle.gx_engine.specs.States.{Parts}
-use Rattle.gx_engine.specs.Writes.{AsksRoom, LacksPages}
+use Rattle.gx_engine.specs.Writes.{AsksRoom, LacksPages, MakesRoom}
 use Rattle.gx_engine.proofs.Calling.{then_read}
 use Rattle.gx_engine.proofs.Further.{reached_more}
+use Rattle.gx_engine.proofs.RoomMade.{look_made, stays_used}
 use Rattle.gx_engine.proofs.WriteLooks.{descends_comes, write_so}
 use Rattle.gx_engine.proofs.engine.Engine.insert_look.Goals as goal
 
@@ -27,11 +28,16 @@ pub returns-in-Ok-clause-comes : goal.returns-in-Ok-clause-comes
 returns-in-Ok-clause-comes g c =
     let k = keys g.K.Key.Ord.cmp g.K.Key.Shape.overlap g.K.Key.Shape.inside in
     let d = g.D.SectorDisk.state c.args.self.now.volume.shelf.disk in
+    let e = g.D.SectorDisk.state c.begin_descent.new.self.volume.shelf.disk in
     let looks : LooksFor c.args.entry (Insert c.args.entry) c.requires.looks.0 (phase_at (c.args.session - 1) c.args.self.now.sessions.phases) = record { writes = refl; at = c.requires.looks.1; looking = c.requires.looks.2 } in
     let rest = c.in-Ok.ensures.rest (Insert c.args.entry) c.requires.looks.0 looks in
     let descends = c.begin_descent.ensures.descends c.args.entry rest.0 in
     rw (c.begin_descent.ensures.outcome)
-    (descends_comes (AsksRoom k (format_of g.K.KeyClass) g.K.KeyClass.KEY d c.args.session (Insert c.args.entry) c.args.self.now) (LacksPages (format_of g.K.KeyClass) d c.args.session (Insert c.args.entry) c.args.self.now) k (is_node (format_of g.K.KeyClass)) d d c.args.session (Insert c.args.entry) descends.0 c.args.self.now c.write_look.new.self c.begin_descent.new.self rest.1 descends.1).0
+    (descends_comes (AsksRoom k (format_of g.K.KeyClass) g.K.KeyClass.KEY d c.args.session (Insert c.args.entry) c.args.self.now) (LacksPages k (format_of g.K.KeyClass) d c.args.session (Insert c.args.entry) c.args.self.now)
+    (MakesRoom k (format_of g.K.KeyClass) d c.args.session (Insert c.args.entry) c.args.self.now) k (is_node (format_of g.K.KeyClass)) d e c.args.session (Insert c.args.entry) descends.0 c.args.self.now c.write_look.new.self c.begin_descent.new.self rest.1 descends.1
+    (look_made k (format_of g.K.KeyClass) d c.args.session (Insert c.args.entry) c.args.self.now e c.begin_descent.new.self
+    (λ steady. ap (λ (x : Parts g.row.K-Key.Denot g.row.D.Denot). x.volume.shelf.used) descends.1 ∙ stays_used (format_of g.K.KeyClass) d.seen (g.D.SectorDisk.state c.write_look.new.self.volume.shelf.disk).seen c.args.self.now.volume.shelf c.write_look.new.self.volume.shelf _ c.in-Ok.ensures.stays)
+    (record { work = c.requires.looks.0; at = c.requires.looks.1; looks = c.requires.looks.2 }))).0
 
 pub returns-in-Ok-clause-reads : goal.returns-in-Ok-clause-reads
 returns-in-Ok-clause-reads g c =
@@ -40,7 +46,8 @@ returns-in-Ok-clause-reads g c =
     let looks : LooksFor c.args.entry (Insert c.args.entry) c.requires.looks.0 (phase_at (c.args.session - 1) c.args.self.now.sessions.phases) = record { writes = refl; at = c.requires.looks.1; looking = c.requires.looks.2 } in
     let rest = c.in-Ok.ensures.rest (Insert c.args.entry) c.requires.looks.0 looks in
     let descends = c.begin_descent.ensures.descends c.args.entry rest.0 in
-    (descends_comes (AsksRoom k (format_of g.K.KeyClass) g.K.KeyClass.KEY d c.args.session (Insert c.args.entry) c.args.self.now) (LacksPages (format_of g.K.KeyClass) d c.args.session (Insert c.args.entry) c.args.self.now) k (is_node (format_of g.K.KeyClass)) d d c.args.session (Insert c.args.entry) descends.0 c.args.self.now c.write_look.new.self c.begin_descent.new.self rest.1 descends.1).1
+    (descends_comes (AsksRoom k (format_of g.K.KeyClass) g.K.KeyClass.KEY d c.args.session (Insert c.args.entry) c.args.self.now) (LacksPages k (format_of g.K.KeyClass) d c.args.session (Insert c.args.entry) c.args.self.now)
+    (λ x y. Unit {0}) k (is_node (format_of g.K.KeyClass)) d d c.args.session (Insert c.args.entry) descends.0 c.args.self.now c.write_look.new.self c.begin_descent.new.self rest.1 descends.1 tt).1
 
 pub returns-in-Ok-clause-moves : goal.returns-in-Ok-clause-moves
 returns-in-Ok-clause-moves g c l =

@@ -1,4 +1,4 @@
-use Rattle.std.proofs.Common.{◌≡◌, ◌≤◌, ℕ, [], sym, refl, subst, ◌-◌, length, arith, rules}
+use Rattle.std.proofs.Common.{◌≡◌, ◌∙◌, ◌≤◌, ℕ, [], ap, sym, refl, subst, ◌-◌, length, arith, rules}
 use Rattle.std.proofs.lemmas.Result.{err_from_is_err_and}
 use Rattle.gx_machine.specs.declared.query.Query.TheVariants.{Equal}
 use Rattle.gx_machine.specs.Keys.{keys}
@@ -16,6 +16,7 @@ use Rattle.gx_engine.specs.States.{Parts}
 use Rattle.gx_engine.specs.Writes.{brought}
 use Rattle.gx_engine.proofs.Further.{hand_on, put_on, read_there}
 use Rattle.gx_engine.proofs.LookMoves.{same_events}
+use Rattle.gx_engine.proofs.RoomMade.{look_made, stays_used}
 use Rattle.gx_engine.proofs.Taking.{put_reads, put_write}
 use Rattle.gx_engine.proofs.WriteLooks.{at_look, may_find_none, none_left, stop_reads, stop_write, turned_moves}
 use Rattle.gx_engine.proofs.engine.Engine.look_on.Goals as goal
@@ -66,8 +67,17 @@ returns-clause-comes g c call writes phase =
     let k = keys g.K.Key.Ord.cmp g.K.Key.Shape.overlap g.K.Key.Shape.inside in
     let kept = subst (λ (x : Parts g.row.K-Key.Denot g.row.D.Denot). IsKept k x.sessions) c.self.view_is c.stands.ensures in
     let only = subst (λ (x : Parts g.row.K-Key.Denot g.row.D.Denot). x ≡ brought e x) (sym c.self-2.view_is) c.in_ok-look.ensures.rest in
-    put_write k e kept c.args.session c.requires.session call Rests phase (work_before c.args.begun c.args.look) there only
-    c.turned.result c.replace_work.new.self c.replace_work.ensures.state
+    let put = put_write k e kept c.args.session c.requires.session call Rests phase (work_before c.args.begun c.args.look) there only
+    c.turned.result c.replace_work.new.self c.replace_work.ensures.state in
+    let used = ap (λ (x : Parts g.row.K-Key.Denot g.row.D.Denot). x.volume.shelf.used) c.self-2.view_is ∙ stays_used (format_of g.K.KeyClass) (g.D.SectorDisk.state e.volume.shelf.disk).seen (g.D.SectorDisk.state c.read_look-read.new.self.volume.shelf.disk).seen e.volume.shelf
+    c.read_look-read.new.self.volume.shelf _ c.in_ok-look.ensures.stays in (
+      put.0,
+      put.1,
+      put.2,
+      look_made k (format_of g.K.KeyClass) (g.D.SectorDisk.state e.volume.shelf.disk) c.args.session call
+          (calling c.args.session call (work_before c.args.begun c.args.look) e) (g.D.SectorDisk.state there.volume.shelf.disk) (record there { sessions = c.replace_work.new.self }) (λ steady. used)
+          (at_look k e kept c.args.session c.requires.session call Rests phase c.args.begun c.args.look),
+    )
 
 pub returns-clause-moves : goal.returns-clause-moves
 returns-clause-moves g c call writes phase l =

@@ -1,4 +1,4 @@
-use Rattle.std.proofs.Common.{◌≡◌, inr, ◌≤◌, ◌-◌, ◌∙◌, ap, sym, subst, rules}
+use Rattle.std.proofs.Common.{◌≡◌, ◌⊎◌, inl, inr, ◌≤◌, ◌-◌, ◌∙◌, ap, sym, subst, rules}
 use Rattle.gx_machine.specs.declared.call.Call.TheVariants.{Insert}
 use Rattle.gx_machine.specs.Keys.{Members, keys}
 use Rattle.gx_node.specs.Reading.{format_of, is_node}
@@ -15,7 +15,7 @@ use Rattle.gx_node.specs.declared.items.TheConstants.{MAX_ENTRIES}
 use Rattle.gx_engine.specs.Moves.{Moves}
 use Rattle.gx_engine.specs.Refusals.{IsRefused}
 use Rattle.gx_engine.specs.States.{Parts}
-use Rattle.gx_engine.specs.Writes.{AsksHere, LeftFew, write_events}
+use Rattle.gx_engine.specs.Writes.{AsksHere, HasNoneToSweep, IsOnlySwept, LeftFew, write_events}
 use Rattle.gx_node.specs.Store.{tree_of}
 use Rattle.gx_node.specs.Trees.{size}
 use Rattle.gx_engine.specs.Sweeping.{is_held, node_shown, slots_room}
@@ -37,7 +37,8 @@ returns-in-Ok-true-clause-comes g c entry at =
     let shape : Members g.row.K-Key.Denot =
     record { partial_cmp = g.K.Key.PartialOrd.partial_cmp; eq = g.K.Key.PartialEq.eq; cmp = g.K.Key.Ord.cmp; overlap = g.K.Key.Shape.overlap; inside = g.K.Key.Shape.inside } in
     let has = swept_true (known_at shape g.K.ReadKeys.is_proper) (reading_of g.K.ReadKeys.said (format_of g.K.KeyClass)) (format_of g.K.KeyClass) (is_node (format_of g.K.KeyClass)) (state old.volume.shelf.disk) (state c.sweep_leaf.new.self.volume.shelf.disk) old.volume c.sweep_leaf.new.self.volume (is_held k old) c.args.item.page c.in-Ok-true.field-0 c.in-Ok-true.field-0-test c.in-Ok-true.ensures.sweeps in
-    yet_comes (AsksHere k (format_of g.K.KeyClass) (state old.volume.shelf.disk) old c.args.item.page) (LeftFew (state old.volume.shelf.disk) old c.args.item.page) k (is_node (format_of g.K.KeyClass)) (state old.volume.shelf.disk) (state c.sweep_leaf.new.self.volume.shelf.disk) c.args.session (Insert entry) (Descends c.args.parent c.args.item) old c.sweep_leaf.new.self c.sweep_leaf.ensures.only has.logged.most at
+    yet_comes (AsksHere k (format_of g.K.KeyClass) (state old.volume.shelf.disk) old c.args.item.page) (LeftFew (state old.volume.shelf.disk) old c.args.item.page × HasNoneToSweep k (format_of g.K.KeyClass) (state old.volume.shelf.disk) old c.args.item.page) (λ x y. IsOnlySwept k (format_of g.K.KeyClass) (state old.volume.shelf.disk) x c.args.item.page old y ⊎ HasNoneToSweep k (format_of g.K.KeyClass) (state old.volume.shelf.disk) old c.args.item.page) k (is_node (format_of g.K.KeyClass)) (state old.volume.shelf.disk) (state c.sweep_leaf.new.self.volume.shelf.disk) c.args.session (Insert entry) (Descends c.args.parent c.args.item) old c.sweep_leaf.new.self c.sweep_leaf.ensures.only has.logged.most at
+    (inl (record { only = c.sweep_leaf.ensures.only; swept = has.swept }))
 
 pub returns-in-Ok-true-clause-moves : goal.returns-in-Ok-true-clause-moves
 returns-in-Ok-true-clause-moves g c entry at leaf l =
@@ -70,12 +71,14 @@ returns-in-Ok-false-clause-comes g c entry at =
     let m = state c.sweep_leaf.new.self.volume.shelf.disk in
     let e = state c.split_here.new.self.volume.shelf.disk in
     let page = c.args.item.page in
+    let none : HasNoneToSweep k f d old page = λ steady. none_removable (is_held k old) (node_shown f d page old) (has.none steady) in
+    let few = few_then k known r f (is_node f) (slots_room old.volume page has.slots) d m e c.args.session entry old c.sweep_leaf.new.self c.sweep_leaf.ensures.only has.unlogged has.same page in
     comes_then k known r f (is_node f) (slots_room old.volume page has.slots) d m e c.args.session entry old c.sweep_leaf.new.self c.sweep_leaf.ensures.only has.unlogged
-    (AsksHere k f d old page) (LeftFew m c.sweep_leaf.new.self page) (LeftFew d old page)
-    (few_then k known r f (is_node f) (slots_room old.volume page has.slots) d m e c.args.session entry old c.sweep_leaf.new.self c.sweep_leaf.ensures.only has.unlogged has.same page)
+    (AsksHere k f d old page) (LeftFew m c.sweep_leaf.new.self page) (LeftFew d old page × HasNoneToSweep k f d old page) (λ lacks. (few lacks, none))
+    (λ x y. Unit {0}) (λ x y. IsOnlySwept k f d x page old y ⊎ HasNoneToSweep k f d old page) (λ y made. inr none)
     c.split_here.new.self c.split_here.result
     (comes_more k (is_node f) m e c.args.session (Insert entry) c.sweep_leaf.new.self c.split_here.new.self (λ size. size ≡ SPLIT_RECORD) (AsksHere k f d old page)
-    (λ size is. inr is) (LeftFew m c.sweep_leaf.new.self page) (LeftFew m c.sweep_leaf.new.self page) (λ few. few) c.split_here.result
+    (λ size is. inr is) (LeftFew m c.sweep_leaf.new.self page) (LeftFew m c.sweep_leaf.new.self page) (λ few. few) (λ x y. Unit {0}) (λ x y. Unit {0}) (λ made. made) c.split_here.result
     (c.split_here.ensures.comes entry (ap (λ (x : Parts g.row.K-Key.Denot g.row.D.Denot). phase_at (c.args.session - 1) x.sessions.phases) c.sweep_leaf.ensures.only ∙ at)))
 
 pub returns-in-Ok-false-clause-moves : goal.returns-in-Ok-false-clause-moves
@@ -110,7 +113,7 @@ returns-in-Err-Pages-clause-comes g c entry at =
     let asks = sweep_asks (is_node f) d e f k old c.args.item.page c.sweep_leaf.new.self.volume.shelf c.in-Err-Pages.fault did.slots
     (λ no_room. did.taken (c.in-Err-Pages.field-0-is ∙ ap (λ (x : StoreFault). Pages x) no_room)) did.few
     (why_pages _ c.in-Err-Pages.field-0 c.in-Err-Pages.fault c.in-Err-Pages.field-0-is did.stops.why) in
-    stopped_comes _ _ k (is_node f) state old c.args.session entry c.sweep_leaf.new.self.volume did.stops.unlogged.most did.stops.unlogged.log did.stops.unlogged.imaged
+    stopped_comes (AsksHere k (format_of g.K.KeyClass) (state old.volume.shelf.disk) old c.args.item.page) (LeftFew (state old.volume.shelf.disk) old c.args.item.page × HasNoneToSweep k (format_of g.K.KeyClass) (state old.volume.shelf.disk) old c.args.item.page) (λ x y. IsOnlySwept k (format_of g.K.KeyClass) (state old.volume.shelf.disk) x c.args.item.page old y ⊎ HasNoneToSweep k (format_of g.K.KeyClass) (state old.volume.shelf.disk) old c.args.item.page) k (is_node f) state old c.args.session entry c.sweep_leaf.new.self.volume did.stops.unlogged.most did.stops.unlogged.log did.stops.unlogged.imaged
     c.requires.early (λ page. (did.stops.unlogged.since page).same.stamp) asks.0 asks.1 asks.2 c.in-Err-Pages.fault asks.3
     c.refuse.new.self c.refuse.result
     (subst (λ (x : Parts g.row.K-Key.Denot g.row.D.Denot). IsRefused c.in-Err-Pages.fault x c.refuse.new.self c.refuse.result) c.sweep_leaf.ensures.only
@@ -137,7 +140,7 @@ returns-in-Err-Damaged-clause-comes g c entry at =
     let k = keys g.K.Key.Ord.cmp g.K.Key.Shape.overlap g.K.Key.Shape.inside in
     let state = g.D.SectorDisk.state in
     let un = c.in-Err-Damaged.ensures.sweeps.stops.unlogged in
-    lost_comes _ _ k (is_node (format_of g.K.KeyClass)) state old c.args.session entry c.sweep_leaf.new.self.volume un.most un.log un.imaged c.break_off.new.self c.break_off.result c.break_off.ensures.outcome
+    lost_comes (AsksHere k (format_of g.K.KeyClass) (state old.volume.shelf.disk) old c.args.item.page) (LeftFew (state old.volume.shelf.disk) old c.args.item.page × HasNoneToSweep k (format_of g.K.KeyClass) (state old.volume.shelf.disk) old c.args.item.page) (λ x y. IsOnlySwept k (format_of g.K.KeyClass) (state old.volume.shelf.disk) x c.args.item.page old y ⊎ HasNoneToSweep k (format_of g.K.KeyClass) (state old.volume.shelf.disk) old c.args.item.page) k (is_node (format_of g.K.KeyClass)) state old c.args.session entry c.sweep_leaf.new.self.volume un.most un.log un.imaged c.break_off.new.self c.break_off.result c.break_off.ensures.outcome
     (c.break_off.ensures.failed ∙ ap (λ (x : Parts g.row.K-Key.Denot g.row.D.Denot). record x { sessions = failed_state x.sessions }) c.sweep_leaf.ensures.only)
 
 pub returns-in-Err-Damaged-clause-moves : goal.returns-in-Err-Damaged-clause-moves

@@ -14,7 +14,7 @@ use Rattle.gx_engine.specs.declared.work.Work.TheVariants.{Descends}
 use Rattle.gx_engine.specs.Moves.{Moves}
 use Rattle.gx_engine.specs.Refusals.{IsRefused}
 use Rattle.gx_engine.specs.States.{Parts}
-use Rattle.gx_engine.specs.Writes.{write_events}
+use Rattle.gx_engine.specs.Writes.{LeftFew, write_events}
 use Rattle.gx_engine.proofs.MakingRoom.{few_top, full_comes, full_is, full_moves, never_split_root, on_comes, on_is, root_any}
 use Rattle.gx_engine.proofs.Stopping.{lost_comes, stopped_comes, stopped_moves}
 use Rattle.gx_engine.proofs.UndoMoves.{why_split_pages}
@@ -31,7 +31,7 @@ returns-in-Ok-clause-comes g c entry at =
     let there = c.begin_again.ensures.there (Insert entry) (Descends c.args.parent c.args.item)
     (ap (λ (x : Parts g.row.K-Key.Denot g.row.D.Denot). phase_at (c.args.session - 1) x.sessions.phases) c.split_root.ensures.only ∙ at) in
     on_comes c.args.session (Insert entry) 0 (record { page = 1; seen = c.split_root.new.self.volume.shelf.counter }) old c.split_root.new.self c.begin_again.new.self c.split_root.ensures.only there c.begin_again.result c.begin_again.ensures.outcome
-    _ _ k (is_node (format_of g.K.KeyClass)) state c.in-Ok.ensures.splits.logged.most
+    (λ size. size ≡ SPLIT_RECORD) (LeftFew (state old.volume.shelf.disk) old c.args.item.page) (λ x y. Unit {0}) k (is_node (format_of g.K.KeyClass)) state c.in-Ok.ensures.splits.logged.most tt
 
 pub returns-in-Ok-clause-moves : goal.returns-in-Ok-clause-moves
 returns-in-Ok-clause-moves g c entry at full l =
@@ -56,7 +56,7 @@ returns-in-Err-Step-Pages-clause-comes g c entry at =
     let k = keys g.K.Key.Ord.cmp g.K.Key.Shape.overlap g.K.Key.Shape.inside in
     let state = g.D.SectorDisk.state in
     let did = c.in-Err-Step-Pages.ensures.splits in
-    stopped_comes _ _ k (is_node (format_of g.K.KeyClass)) state old c.args.session entry c.split_root.new.self.volume did.unlogged.most did.unlogged.log did.unlogged.imaged
+    stopped_comes (λ size. size ≡ SPLIT_RECORD) (LeftFew (state old.volume.shelf.disk) old c.args.item.page) (λ x y. Unit {0}) k (is_node (format_of g.K.KeyClass)) state old c.args.session entry c.split_root.new.self.volume did.unlogged.most did.unlogged.log did.unlogged.imaged
     c.requires.early (λ page. (did.unlogged.since page).same.stamp) SPLIT_RECORD refl (omega arith) c.in-Err-Step-Pages.fault (why_split_pages _ c.in-Err-Step-Pages.field-0 c.in-Err-Step-Pages.field-0-0 c.in-Err-Step-Pages.fault c.in-Err-Step-Pages.field-0-is c.in-Err-Step-Pages.field-0-0-is did.why)
     c.refuse.new.self c.refuse.result
     (subst (λ (x : Parts g.row.K-Key.Denot g.row.D.Denot). IsRefused c.in-Err-Step-Pages.fault x c.refuse.new.self c.refuse.result) c.split_root.ensures.only
@@ -85,7 +85,7 @@ returns-in-Err-PagesFull-clause-comes g c entry at =
     let did = c.in-Err-PagesFull.ensures.splits in
     let full : c.in-Err-PagesFull.field-0 ≡ PagesFull = search rules in
     full_comes c.args.session old c.split_root.new.self c.close.new.self c.split_root.ensures.only c.close.ensures.closed c.close.result c.close.ensures.outcome
-    _ _ k (is_node (format_of g.K.KeyClass)) state (Insert entry) did.unlogged.most did.unlogged.log did.unlogged.imaged
+    (λ size. size ≡ SPLIT_RECORD) (LeftFew (state old.volume.shelf.disk) old c.args.item.page) (λ x y. Unit {0}) k (is_node (format_of g.K.KeyClass)) state (Insert entry) did.unlogged.most did.unlogged.log did.unlogged.imaged
     (few_top (state old.volume.shelf.disk) old c.args.item.page c.requires.top (λ steady. did.full steady full))
 
 pub returns-in-Err-PagesFull-clause-moves : goal.returns-in-Err-PagesFull-clause-moves
@@ -110,7 +110,7 @@ returns-in-Err-Step-Damaged-clause-comes g c entry at =
     let k = keys g.K.Key.Ord.cmp g.K.Key.Shape.overlap g.K.Key.Shape.inside in
     let state = g.D.SectorDisk.state in
     let un = c.in-Err-Step-Damaged.ensures.splits.unlogged in
-    lost_comes _ _ k (is_node (format_of g.K.KeyClass)) state old c.args.session entry c.split_root.new.self.volume un.most un.log un.imaged c.break_off.new.self c.break_off.result c.break_off.ensures.outcome
+    lost_comes (λ size. size ≡ SPLIT_RECORD) (LeftFew (state old.volume.shelf.disk) old c.args.item.page) (λ x y. Unit {0}) k (is_node (format_of g.K.KeyClass)) state old c.args.session entry c.split_root.new.self.volume un.most un.log un.imaged c.break_off.new.self c.break_off.result c.break_off.ensures.outcome
     (c.break_off.ensures.failed ∙ ap (λ (x : Parts g.row.K-Key.Denot g.row.D.Denot). record x { sessions = failed_state x.sessions }) c.split_root.ensures.only)
 
 pub returns-in-Err-Step-Damaged-clause-moves : goal.returns-in-Err-Step-Damaged-clause-moves

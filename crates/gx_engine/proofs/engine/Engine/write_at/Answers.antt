@@ -10,6 +10,8 @@ use Rattle.gx_engine.specs.Refusals.{IsRefused}
 use Rattle.gx_engine.specs.Seeks.{SeekComes, write_call}
 use Rattle.gx_engine.specs.States.{Parts}
 use Rattle.gx_engine.specs.Writes.{write_events}
+use Rattle.gx_engine.proofs.Calling.{then_read}
+use Rattle.gx_engine.proofs.RoomMade.{stays_used}
 use Rattle.gx_engine.proofs.WriteSeeks.{comes_on, damaged_comes, no_room, refused_comes, why_begun}
 use Rattle.gx_engine.proofs.SeekMoves.{moves_on, never_moves, refused_moves}
 use Rattle.gx_engine.proofs.UndoMoves.{why_pages}
@@ -28,7 +30,8 @@ returns-in-Ok-clause-comes g c =
     let w = c.seek_pair.new.self.volume in
     let new = c.write_sought.new.self in
     comes_on old w did.log did.most did.imaged (format_of g.K.KeyClass) g.K.KeyClass.is_key k g.K.KeyClass.KEY (is_node (format_of g.K.KeyClass)) (λ page. (did.since page).same.stamp) (state old.volume.shelf.disk) (state w.shelf.disk) (state new.volume.shelf.disk)
-    (did.since 0).goes_on.faults c.args.session c.args.entry c.args.leaf c.args.marked new c.write_sought.result
+    (did.since 0).goes_on.faults (did.since 0).goes_on.steady
+    (stays_used (format_of g.K.KeyClass) (state old.volume.shelf.disk).seen (state w.shelf.disk).seen old.volume.shelf w.shelf _ c.seek_pair.ensures.stays) c.args.session c.args.entry c.args.leaf c.args.marked new c.write_sought.result
     (subst (λ (x : Parts g.row.K-Key.Denot g.row.D.Denot). SeekComes (format_of g.K.KeyClass) g.K.KeyClass.is_key k g.K.KeyClass.KEY (is_node (format_of g.K.KeyClass)) (state w.shelf.disk)
     (state new.volume.shelf.disk)
     c.args.session c.args.entry c.args.leaf c.args.marked x new c.write_sought.result) c.seek_pair.ensures.only c.write_sought.ensures.comes)
@@ -104,3 +107,7 @@ returns-in-Err-Damaged-clause-moves g c =
     c.requires.seeks state
     w did.most did.log (did.since 0).goes_on.device (did.keeps l) (c.a_volume_shows_the_logs_tree.ensures l w) (c.in-Err-Damaged.ensures.refused.damaged damaged)
     _ c.break_off.new.self c.break_off.result _
+
+pub returns-in-Ok-clause-device : goal.returns-in-Ok-clause-device
+returns-in-Ok-clause-device g c =
+    then_read g.D.SectorDisk.state c.args.self.now c.seek_pair.new.self c.write_sought.new.self c.seek_pair.ensures.device c.write_sought.ensures.device

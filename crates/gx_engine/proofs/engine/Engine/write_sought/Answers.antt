@@ -17,7 +17,7 @@ returns-in-Right-clause-comes g c =
     record { volume = c.self.inside.storage; sessions = c.self.inside.sessions; in_flight = c.self.inside.in_flight; checkpoint = c.self.inside.checkpoint } in
     let at = ap (λ (x : Parts g.row.K-Key.Denot g.row.D.Denot). phase_at (c.args.session - 1) x.sessions.phases) c.self.view_is ∙ c.requires.seeks in
     let placed = replaced c.args.session (write_call c.args.marked c.args.entry) (Seeks c.args.leaf) (Seeks c.in-Right.next) e.sessions c.replace_work.new.self at c.replace_work.ensures.state in
-    rw (← c.self.view_is, placed) (c.in-Right.next, refl)
+    rw (← c.self.view_is, placed) (c.in-Right.next, refl, λ steady. refl)
 
 pub returns-in-Right-clause-moves : goal.returns-in-Right-clause-moves
 returns-in-Right-clause-moves g c =

@@ -1,0 +1,108 @@
+-- How a command over a file ends: which file was opened, and how; what was written; and what became of the file.
+use Rattle.std.specs.Prelude.{ℕ, ◌≡◌, ◌≤◌, ◌⊎◌, List, Option, None, Some, Ok, Err}
+use Rattle.gx_geom.specs.Rectangles.{Rectangle}
+use Rattle.gx_geom.specs.declared.refusal.Refusal.TheVariants.{Device as NoDevice}
+use Rattle.gx_machine.specs.Keys.{Members}
+use Rattle.gx_class.specs.Boxes.{corners_of, in_order}
+use Rattle.gx_class.specs.declared.class.KeyClass.{Ghosts}
+use Rattle.gx_disk.specs.Device.{Device}
+use Rattle.gx_disk.specs.Files.{IsOpened}
+use Rattle.gx_disk.specs.declared.device.DiskFault.{DiskFault}
+use Rattle.gx_disk.specs.declared.file.FileDisk.{FileDisk}
+use Rattle.gx_format.specs.Formatting.{sectors_of}
+use Rattle.gx_format.specs.Fresh.{fresh_root}
+use Rattle.gx_commands.specs.Dumping.{DumpsOver}
+use Rattle.gx_commands.specs.Endings.{FormatsOver, RunsOver}
+use Rattle.gx_commands.specs.Lines.{fault_text, named, refusal_line}
+use Rattle.gx_commands.specs.Opener.{Tries, is_writable}
+use Rattle.gx_commands.specs.Streams.{Outputs, Prints, Stream, TellsPerson}
+use Rattle.gx_commands.specs.Verifying.{VerifiesOver}
+use Rattle.gx_commands.specs.declared.opener.Access.{Access}
+use Rattle.gx_commands.specs.declared.opener.Access.TheVariants.{Create, Write, Read}
+use Rattle.gx_commands.specs.declared.opener.Opener.{Opener}
+
+-- A file that is no device: the user is told why, behind its name.
+pub record HasNoDevice (file : List ℕ) (fault : DiskFault) (from to : Outputs) (status : ℕ) : Type 0 where
+  pub status_is : status ≡ 1
+  pub told : Prints (refusal_line NoDevice) from.replies to.replies
+  pub heard : TellsPerson (named file (fault_text fault)) from.person to.person
+
+-- the user is told why the last call of a file that failed did so, if one did
+abbrev pub TellsCause : List ℕ → Option DiskFault → Stream → Stream → Type 0
+TellsCause file None old new = new ≡ old
+TellsCause file (Some fault) old new = TellsPerson (named file (fault_text fault)) old new
+
+-- The device of a file is kept as it was left, and why a call of it failed is reported.
+pub record Leaves {F : Type 0} (file : List ℕ) (disk : FileDisk) (old new : Opener F) (from to : Stream) : Type 0 where
+  pub kept : new ≡ record old { left = Some disk }
+  pub cause : TellsCause file disk.fault from to
+
+module _ {F : Type 0} (file : List ℕ) (old new : Opener F) where
+  -- The file couldn't be opened so, which is reported. No other was opened.
+  pub record IsNotOpened (access : Access) (from to : Outputs) (status : ℕ) : Type 0 where
+    pub fault : DiskFault
+    pub tries : Tries file access (Err fault) old new
+    pub left : new.left ≡ old.left
+    pub told : HasNoDevice file fault from to status
+
+  -- The file was opened so, and no other: this is its device, of which no call was made by then. This device was left of it, and
+  -- nothing is done to it from then on; why a call of it failed is reported.
+  pub record Uses (access : Access) (disk after : FileDisk) (from to : Outputs) : Type 0 where
+    pub tries : Tries file access (Ok disk.sectors) old new
+    pub opened : IsOpened (is_writable access) disk
+    pub left : new.left ≡ Some after
+    pub quiet : to.replies ≡ from.replies
+    pub cause : TellsCause file after.fault from.person to.person
+
+module _ {C F : Type 0} (class : Ghosts C Rectangle) (state : FileDisk → Device) (file : List ℕ) (old new : Opener F) where
+  -- an index of boxes, class 1, was laid down in the file, which had been extended for it
+  pub record FormatsFile (pages most : ℕ) (from to : Outputs) (status : ℕ) : Type 0 where
+    pub disk : FileDisk
+    pub after : FileDisk
+    pub between : Outputs
+    pub uses : Uses file old new (Create (sectors_of pages)) disk after between to
+    pub room : sectors_of pages ≤ disk.sectors
+    pub formats : FormatsOver state (record { pages = pages; most = most; class = 1 }) (fresh_root class.spelling class.start_key) disk after from between status
+
+  -- how a format of a file may end
+  abbrev pub EndsFormat : ℕ → ℕ → Outputs → Outputs → ℕ → Type 0
+  EndsFormat pages most from to status =
+      IsNotOpened file old new (Create (sectors_of pages)) from to status ⊎ FormatsFile pages most from to status
+
+module _ {C F : Type 0} (shape : Members Rectangle) (class : Ghosts C Rectangle) (state : FileDisk → Device) (file : List ℕ) (old new : Opener F) where
+  -- a script was run on the index of boxes that the file holds
+  pub record RunsFile (frames : ℕ) (had left : Stream) (from to : Outputs) (status : ℕ) : Type 0 where
+    pub disk : FileDisk
+    pub after : FileDisk
+    pub between : Outputs
+    pub uses : Uses file old new Write disk after between to
+    pub runs : RunsOver shape in_order corners_of class state 1 frames disk after had left from between status
+
+  -- how a script on a file may end
+  abbrev pub EndsRun : ℕ → Stream → Stream → Outputs → Outputs → ℕ → Type 0
+  EndsRun frames had left from to status =
+      ((left ≡ had) × IsNotOpened file old new Write from to status) ⊎ RunsFile frames had left from to status
+
+  -- the tree of the index of boxes that the file holds was told, with 64 frames
+  pub record DumpsFile (from to : Outputs) (status : ℕ) : Type 0 where
+    pub disk : FileDisk
+    pub after : FileDisk
+    pub between : Outputs
+    pub uses : Uses file old new Write disk after between to
+    pub dumps : DumpsOver shape in_order corners_of class state 1 64 disk after from between status
+
+  -- how a dump of a file may end
+  abbrev pub EndsDump : Outputs → Outputs → ℕ → Type 0
+  EndsDump from to status = IsNotOpened file old new Write from to status ⊎ DumpsFile from to status
+
+  -- the index of boxes that the file holds was verified, with 64 frames; the file was opened to be read alone
+  pub record VerifiesFile (from to : Outputs) (status : ℕ) : Type 0 where
+    pub disk : FileDisk
+    pub after : FileDisk
+    pub between : Outputs
+    pub uses : Uses file old new Read disk after between to
+    pub verifies : VerifiesOver shape in_order corners_of class state 1 64 disk after from between status
+
+  -- how verifying a file may end
+  abbrev pub EndsVerify : Outputs → Outputs → ℕ → Type 0
+  EndsVerify from to status = IsNotOpened file old new Read from to status ⊎ VerifiesFile from to status

@@ -1,0 +1,163 @@
+//! The commands over a file.
+ghost use Rattle.gx_commands.specs.Files.{EndsDump, EndsFormat, EndsRun, EndsVerify, HasNoDevice, Leaves};
+ghost use Rattle.gx_commands.specs.Streams.{outputs_of, stream_of};
+
+use crate::opener::{Access, Opener};
+use crate::person::tell_file;
+use crate::refusals::print_refusal;
+use crate::{REFUSED, dump_over, format_over, run_over, verify_over};
+use gx_class::{Box2Class, KeyClass};
+use gx_disk::{DiskFault, FileDisk, SectorDisk};
+use gx_format::sectors_for;
+use gx_geom::{Box2, Refusal, Shape};
+use gx_script::Noted;
+use std::alloc::Global;
+use std::fs::{File, Files};
+use std::io::{Read, Write};
+
+/// How many pages a dump holds in memory, and verifying.
+const FRAMES: usize = 64;
+
+/// Opens or makes a file, extends a shorter one, and lays a new index of boxes down in it.
+///
+/// The status is that of `format_over`. It is 1 too where the file can't be opened, made or extended, which writes
+/// `refused 11 device`, and tells the user why, behind the file's name. Why a call of it failed is reported too.
+pub fn format_file<'w, F: Files<File = File>, W: Write, E: Write>(
+    opener: &mut Opener<'w, F>,
+    alloc: Global,
+    file: &'w str,
+    pages: u32,
+    most: u16,
+    writer: &mut Noted<W>,
+    faults: &mut Noted<E>,
+) -> u8
+    ensures { EndsFormat ⟦<Box2Class as KeyClass>⟧ ⟦<FileDisk as SectorDisk>⟧.state file.now opener.old opener.new
+        pages most (outputs_of W.contents E.contents writer.old faults.old)
+        (outputs_of W.contents E.contents writer.new faults.new) result }
+{
+    match opener.open(file, Access::Create(sectors_for(pages))) {
+        Ok(mut disk) => {
+            let status = format_over::<FileDisk, Box2Class, W, E>(
+                alloc, &mut disk, pages, most, writer, faults,
+            );
+            leave(opener, file, disk, faults);
+            status
+        }
+        Err(fault) => refuse_file(file, fault, writer, faults),
+    }
+}
+
+/// Opens a file that is there, and runs a script on the index of boxes that it holds.
+///
+/// The status is that of `run_over`. It is 1 too where the file can't be opened, which writes `refused 11 device`, and
+/// tells the user why, behind the file's name; nothing is read then. Why a call of it failed is reported too.
+pub fn run_file<'w, F: Files<File = File>, R: Read, W: Write, E: Write>(
+    opener: &mut Opener<'w, F>,
+    alloc: Global,
+    file: &'w str,
+    frames: usize,
+    reader: &mut Noted<R>,
+    writer: &mut Noted<W>,
+    faults: &mut Noted<E>,
+) -> u8
+    ensures { EndsRun ⟦<Box2 as Shape>⟧ ⟦<Box2Class as KeyClass>⟧ ⟦<FileDisk as SectorDisk>⟧.state file.now
+        opener.old opener.new frames (stream_of R.remaining reader.old) (stream_of R.remaining reader.new)
+        (outputs_of W.contents E.contents writer.old faults.old)
+        (outputs_of W.contents E.contents writer.new faults.new) result }
+{
+    match opener.open(file, Access::Write) {
+        Ok(disk) => {
+            let (disk, status) = run_over::<FileDisk, Box2Class, R, W, E>(
+                alloc, disk, frames, reader, writer, faults,
+            );
+            leave(opener, file, disk, faults);
+            status
+        }
+        Err(fault) => refuse_file(file, fault, writer, faults),
+    }
+}
+
+/// Opens a file that is there, and writes the text of the tree of the index of boxes that it holds.
+///
+/// The status is that of `dump_over`, with 64 frames. It is 1 too where the file can't be opened, which writes
+/// `refused 11 device`, and tells the user why, behind the file's name. Why a call of it failed is reported too.
+pub fn dump_file<'w, F: Files<File = File>, W: Write, E: Write>(
+    opener: &mut Opener<'w, F>,
+    alloc: Global,
+    file: &'w str,
+    writer: &mut Noted<W>,
+    faults: &mut Noted<E>,
+) -> u8
+    ensures { EndsDump ⟦<Box2 as Shape>⟧ ⟦<Box2Class as KeyClass>⟧ ⟦<FileDisk as SectorDisk>⟧.state file.now
+        opener.old opener.new (outputs_of W.contents E.contents writer.old faults.old)
+        (outputs_of W.contents E.contents writer.new faults.new) result }
+{
+    match opener.open(file, Access::Write) {
+        Ok(disk) => {
+            let (disk, status) = dump_over::<FileDisk, Box2Class, W, E>(
+                alloc, disk, FRAMES, writer, faults,
+            );
+            leave(opener, file, disk, faults);
+            status
+        }
+        Err(fault) => refuse_file(file, fault, writer, faults),
+    }
+}
+
+/// Opens a file that is there to read it alone, and verifies the index of boxes that it holds: the file stays as it is.
+///
+/// The status is that of `verify_over`, with 64 frames. It is 1 too where the file can't be opened, which writes
+/// `refused 11 device`, and tells the user why, behind the file's name. Why a call of it failed is reported too.
+pub fn verify_file<'w, F: Files<File = File>, W: Write, E: Write>(
+    opener: &mut Opener<'w, F>,
+    alloc: Global,
+    file: &'w str,
+    writer: &mut Noted<W>,
+    faults: &mut Noted<E>,
+) -> u8
+    ensures { EndsVerify ⟦<Box2 as Shape>⟧ ⟦<Box2Class as KeyClass>⟧ ⟦<FileDisk as SectorDisk>⟧.state file.now
+        opener.old opener.new (outputs_of W.contents E.contents writer.old faults.old)
+        (outputs_of W.contents E.contents writer.new faults.new) result }
+{
+    match opener.open(file, Access::Read) {
+        Ok(mut disk) => {
+            let status = verify_over::<FileDisk, Box2Class, W, E>(
+                alloc, &mut disk, FRAMES, writer, faults,
+            );
+            leave(opener, file, disk, faults);
+            status
+        }
+        Err(fault) => refuse_file(file, fault, writer, faults),
+    }
+}
+
+// Keeps the device of a file as it was left, and tells the user why its last call that failed did so, if one did.
+fn leave<'w, F: Files<File = File>, E: Write>(
+    opener: &mut Opener<'w, F>,
+    file: &str,
+    disk: FileDisk,
+    faults: &mut Noted<E>,
+)
+    ensures { Leaves file.now disk opener.old opener.new
+        (stream_of E.contents faults.old) (stream_of E.contents faults.new) }
+{
+    if let Some(fault) = disk.fault() {
+        tell_file(faults, file, fault);
+    }
+    opener.keep(disk);
+}
+
+// Writes that there is no such device, tells the user why, and returns the status.
+fn refuse_file<W: Write, E: Write>(
+    file: &str,
+    fault: DiskFault,
+    writer: &mut Noted<W>,
+    faults: &mut Noted<E>,
+) -> u8
+    ensures { HasNoDevice file.now fault (outputs_of W.contents E.contents writer.old faults.old)
+        (outputs_of W.contents E.contents writer.new faults.new) result }
+{
+    tell_file(faults, file, fault);
+    print_refusal(writer, Refusal::Device);
+    REFUSED
+}

@@ -1,0 +1,171 @@
+//! How a file is opened.
+ghost use Rattle.std.specs.Prelude.{◌≡◌, ◌*◌, ◌^◌, ◌<◌, ◌≤◌, IsOk, IsErrAnd, IfOk, MatchResult, true, false};
+ghost use Rattle.gx_disk.specs.Files.{IsFaultOf, IsOpened};
+ghost use Rattle.gx_disk.specs.Streams.{IsNoStream};
+
+use crate::FileDisk;
+use crate::device::{DiskFault, SECTOR_SIZE};
+use crate::tally::Tally;
+use std::fs::{File, Files, OpenOptions, TryLockError};
+use std::io::{self, ErrorKind};
+use std::os::fd::AsRawFd;
+use std::path::AsPath;
+
+/// How many bytes a sector has.
+pub(super) const SECTOR: u64 = SECTOR_SIZE as u64;
+
+/// The greatest descriptor that a standard stream has.
+const LAST_STREAM: i32 = 2;
+
+/// The number of the system's input or output error, for which `ErrorKind` has no name.
+const EIO: i32 = 5;
+
+// The fault that an error of the system is.
+fn fault_of(error: &io::Error) -> DiskFault
+    ensures { IsFaultOf error.now result }
+{
+    if error.raw_os_error() == Some(EIO) {
+        DiskFault::InputOutput
+    } else {
+        DiskFault::File(error.kind())
+    }
+}
+
+// What the system refused, as a fault.
+pub(super) fn file_fault(outcome: io::Result<()>) -> Result<(), DiskFault>
+    ensures { MatchResult outcome (λ _. IsOk result) (λ error. IsErrAnd result (IsFaultOf error)) }
+{
+    match outcome {
+        Ok(()) => Ok(()),
+        Err(error) => Err(fault_of(&error)),
+    }
+}
+
+// Another handle of the file where the system opened it in the place of a standard stream that is closed.
+fn beside_streams(file: File) -> Result<File, DiskFault>
+    ensures { IfOk result IsNoStream }
+{
+    if file.as_raw_fd() > LAST_STREAM {
+        return Ok(file);
+    }
+    match file.try_clone() {
+        Ok(other) if other.as_raw_fd() > LAST_STREAM => Ok(other),
+        Ok(_) => Err(DiskFault::File(ErrorKind::Other)),
+        Err(error) => Err(fault_of(&error)),
+    }
+}
+
+// The lock on the file, which ends with the file's last handle. Those who read alone share it.
+fn lock(file: File, writable: bool) -> Result<File, DiskFault>
+    ensures { IfOk result (λ locked. locked ≡ file) }
+{
+    let locked = if writable {
+        file.try_lock()
+    } else {
+        file.try_lock_shared()
+    };
+    match locked {
+        Ok(()) => Ok(file),
+        Err(TryLockError::WouldBlock) => Err(DiskFault::InUse),
+        Err(TryLockError::Error(error)) => Err(fault_of(&error)),
+    }
+}
+
+// How many bytes the file has. A folder, which can be opened for reading, is none.
+fn size_of_file(file: &File) -> Result<u64, DiskFault> {
+    match file.metadata() {
+        Ok(metadata) if metadata.is_dir() => Err(DiskFault::File(ErrorKind::IsADirectory)),
+        Ok(metadata) => Ok(metadata.len()),
+        Err(error) => Err(fault_of(&error)),
+    }
+}
+
+fn open_file<R: Files<File = File>, P: AsPath>(
+    rt: &R,
+    path: P,
+    writable: bool,
+    create: bool,
+) -> Result<File, DiskFault>
+    ensures { IfOk result IsNoStream }
+{
+    match OpenOptions::new()
+        .read(true)
+        .write(writable)
+        .create(create)
+        .open(rt, path)
+    {
+        Ok(file) => lock(beside_streams(file)?, writable),
+        Err(error) => Err(fault_of(&error)),
+    }
+}
+
+impl FileDisk {
+    /// Opens or makes a file, and extends a shorter one with zero bytes. What is there stays.
+    /// Refused where the file can't be opened, where another has it, and where its length can't be set.
+    pub fn create<R: Files<File = File>, P: AsPath>(
+        rt: &R,
+        path: P,
+        sectors: u64,
+    ) -> Result<FileDisk, DiskFault>
+        ensures opened { IfOk result (IsOpened true) }
+        ensures room { IfOk result (λ disk. sectors ≤ disk.sectors) }
+    {
+        let file = open_file(rt, path, true, true)?;
+        let size = size_of_file(&file)?;
+        let Some(wanted) = sectors.checked_mul(SECTOR) else {
+            return Err(DiskFault::File(ErrorKind::FileTooLarge));
+        };
+        if size < wanted {
+            file_fault(file.set_len(wanted))?;
+        }
+        Ok(FileDisk {
+            file,
+            sectors: size.max(wanted) / SECTOR,
+            writable: true,
+            grown: size < wanted,
+            fault: None,
+            faults: Tally::zero(),
+            calls: Tally::zero(),
+        })
+    }
+
+    /// Opens a file that is there, of as many sectors as it has whole.
+    /// Refused where the file can't be opened, and where another has it.
+    pub fn open<R: Files<File = File>, P: AsPath>(rt: &R, path: P) -> Result<FileDisk, DiskFault>
+        ensures { IfOk result (IsOpened true) }
+    {
+        FileDisk::open_there(rt, path, true)
+    }
+
+    /// Opens a file that is there for reading alone, of as many sectors as it has whole. Each write and each sync of it
+    /// is refused with `ReadOnly`, and counts as any other.
+    /// Refused where the file can't be opened, and where another has it for writing.
+    pub fn open_to_read<R: Files<File = File>, P: AsPath>(
+        rt: &R,
+        path: P,
+    ) -> Result<FileDisk, DiskFault>
+        ensures { IfOk result (IsOpened false) }
+    {
+        FileDisk::open_there(rt, path, false)
+    }
+
+    fn open_there<R: Files<File = File>, P: AsPath>(
+        rt: &R,
+        path: P,
+        writable: bool,
+    ) -> Result<FileDisk, DiskFault>
+        ensures { IfOk result (IsOpened writable) }
+    {
+        let file = open_file(rt, path, writable, false)?;
+        let size = size_of_file(&file)?;
+        Ok(FileDisk {
+            file,
+            sectors: size / SECTOR,
+            writable,
+            grown: false,
+            fault: None,
+            faults: Tally::zero(),
+            calls: Tally::zero(),
+        })
+    }
+}

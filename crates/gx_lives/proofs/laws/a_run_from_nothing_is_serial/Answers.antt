@@ -1,0 +1,23 @@
+use Rattle.std.proofs.Common.{refl}
+use Rattle.gx_machine.specs.Machine.{fresh_machine}
+use Rattle.gx_lives.proofs.Serially.{finds_exactly}
+use Rattle.gx_lives.proofs.laws.a_run_from_nothing_is_serial.Goals as goal
+
+pub returns-clause-serial : goal.returns-clause-serial
+returns-clause-serial g c = λ new steps run.
+    let lawful = c.keys_are_lawful.ensures in
+    let kept = c.kept_sets_stay_in_order.ensures.fresh _ in
+    record {
+      alike = λ s call changes reply then_changes sealing is.
+          c.every_run_is_serial.ensures _ lawful fresh_machine refl kept s call changes reply then_changes sealing is.sealed;
+      alone = λ s begun made sealing sealed inner is.
+          c.committed_transactions_run_alone.ensures _ lawful fresh_machine refl kept s begun made sealing sealed inner is.committed;
+    }
+
+pub returns-clause-finds : goal.returns-clause-finds
+returns-clause-finds g c = λ new steps run.
+    let lawful = c.keys_are_lawful.ensures in
+    let kept = c.kept_sets_stay_in_order.ensures.fresh _ in
+    finds_exactly _ (λ old after made was ran. c.kept_sets_stay_in_order.ensures.run _ lawful old after made was ran)
+    (λ old after s entries was step. c.found_is_what_the_view_has.ensures.found _ lawful old after s entries was step)
+    fresh_machine new steps kept run

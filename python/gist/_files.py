@@ -1,0 +1,183 @@
+"""What is done with the file of an index as a whole."""
+
+import errno
+import operator
+import os
+import struct
+import time
+from contextlib import suppress
+from stat import S_ISDIR
+from typing import Iterator, NamedTuple, Optional, Tuple
+
+from gist._index import Index
+from gist._process import AnyPath, lines_of, words_of
+from gist._refusals import InUse, ProtocolError
+
+MIN_PAGES, MAX_PAGES = 8, 65536
+MIN_FANOUT, MAX_FANOUT = 4, 100
+MIN_FRAMES, MAX_FRAMES = 16, 4096
+
+# Where a file has the numbers of its index, and how they lie there.
+_NUMBERS_AT, _NUMBERS = 512, struct.Struct(">IHH")
+# How long open waits until it tries again, in seconds.
+_PAUSE = 0.05
+
+
+class Report(NamedTuple):
+    """What `verify` found in an index that is sound."""
+
+    #: The last commit's number.
+    commits: int
+    #: How many entries it has.
+    entries: int
+    #: How many of its pages are in use.
+    used: int
+
+
+class Stat(NamedTuple):
+    """An index in numbers, as `stat` returns them."""
+
+    #: How many pages it may have, and how many entries a page.
+    pages: int
+    fanout: int
+    #: The class of its keys: 1 for boxes.
+    kind: int
+    #: How many pages are in use; they are never given back.
+    used: int
+    #: The last commit's number.
+    commits: int
+    #: How many entries it has.
+    entries: int
+    #: Which part of its pages is in use, from 0 to 1.
+    full: float
+
+
+def open(path: AnyPath, frames: Optional[int] = None,
+         program: Optional[AnyPath] = None, wait: float = 0.0) -> Index:
+    """Opens the index in a file; what a crash cut off is undone first.
+
+    frames, 16 to 4096, is how many pages of 4,096 bytes are held in memory:
+    all pages of the index, where that many may be, unless a number is given.
+    program is the path of gist, where it isn't the one that the environment
+    variable GIST names, or the file gist beside this package's folder. wait
+    is for how many seconds this tries again while another process has the
+    file open; then it raises InUse.
+
+    Raises OSError, as FileNotFoundError, for a file that can't be opened, and
+    NotFormatted, Damaged, TooSmall or BadParameter for what it holds.
+    """
+    words_of(program)
+    pages, _, _ = _numbers_of(path, os.O_RDWR)
+    if frames is None:
+        frames = min(max(pages, MIN_FRAMES), MAX_FRAMES)
+    _check("frames", frames, MIN_FRAMES, MAX_FRAMES)
+    end = time.monotonic() + wait
+    while True:
+        try:
+            return Index(path, frames, program)
+        except InUse:
+            if time.monotonic() >= end:
+                raise
+        time.sleep(_PAUSE)
+
+
+def format(path: AnyPath, pages: int, fanout: int = 100,
+           program: Optional[AnyPath] = None,
+           overwrite: bool = False) -> None:
+    """Lays a new index down in a file, which is made or is empty.
+
+    pages, 8 to 65536, is how many pages it may have, and fanout, 4 to 100,
+    how many entries a page. Raises FileExistsError for a file that isn't
+    empty, unless overwrite is given: what the file held is lost then.
+    """
+    _check("pages", pages, MIN_PAGES, MAX_PAGES)
+    _check("fanout", fanout, MIN_FANOUT, MAX_FANOUT)
+    words = words_of(program, "format", "--", os.fspath(path), f"{pages:d}",
+                     f"{fanout:d}")
+    is_made = _make(path, overwrite)
+    try:
+        line = "".join(lines_of(words))
+        if not line.startswith("formatted "):
+            raise ProtocolError(f"{line!r} as the index was formatted")
+    except InUse:
+        raise
+    except BaseException:
+        if is_made:
+            # (half an index would be refused as a file that isn't empty)
+            with suppress(FileNotFoundError):
+                os.unlink(path)
+        raise
+
+
+def dump(path: AnyPath, program: Optional[AnyPath] = None) -> Iterator[str]:
+    """The tree of the index in a file, line by line, as docs/SCRIPT.md says.
+
+    The index must not be open; what a crash cut off is undone first.
+    """
+    words = words_of(program, "dump", "--", os.fspath(path))
+    _numbers_of(path, os.O_RDWR)
+    return lines_of(words)
+
+
+def verify(path: AnyPath, program: Optional[AnyPath] = None) -> Report:
+    """Tests the index in a file, in a copy in memory, and counts.
+
+    The index must not be open, and its file stays as it is. Raises Damaged
+    for one that isn't sound, and what open raises.
+    """
+    words = words_of(program, "verify", "--", os.fspath(path))
+    _numbers_of(path, os.O_RDONLY)
+    line = "".join(lines_of(words))
+    told = line.split(" ")
+    if told[:1] != ["ok"] or told[1::2] != ["commits", "entries", "used"]:
+        raise ProtocolError(f"{line!r} as the index was verified")
+    return Report(*map(int, told[2::2]))
+
+
+def stat(path: AnyPath, program: Optional[AnyPath] = None) -> Stat:
+    """The index in a file in numbers; it is verified, as verify does."""
+    commits, entries, used = verify(path, program)
+    pages, fanout, kind = _numbers_of(path, os.O_RDONLY)
+    return Stat(pages, fanout, kind, used, commits, entries, used / pages)
+
+
+def _check(name: str, number: int, least: int, most: int) -> None:
+    if not least <= operator.index(number) <= most:
+        raise ValueError(f"{name} is {number}: an integer from {least} to "
+                         f"{most}")
+
+
+def _open(path: AnyPath, flags: int) -> int:
+    """Opens a file as the program will, which raises why that can't be done.
+    """
+    return os.open(path, flags | os.O_CLOEXEC | os.O_NONBLOCK | os.O_NOCTTY,
+                   0o666)
+
+
+def _numbers_of(path: AnyPath, flags: int) -> Tuple[int, int, int]:
+    """The pages, entries a page and class of the index in a file."""
+    file = _open(path, flags)
+    try:
+        if S_ISDIR(os.fstat(file).st_mode):
+            raise IsADirectoryError(
+                errno.EISDIR, os.strerror(errno.EISDIR), os.fspath(path))
+        data = os.pread(file, _NUMBERS.size, _NUMBERS_AT)
+    finally:
+        os.close(file)
+    return _NUMBERS.unpack(data.ljust(_NUMBERS.size, b"\0"))
+
+
+def _make(path: AnyPath, overwrite: bool) -> bool:
+    """Makes a file where none is there, and returns whether it did."""
+    try:
+        os.close(_open(path, os.O_RDWR | os.O_CREAT | os.O_EXCL))
+        return True
+    except FileExistsError:
+        file = _open(path, os.O_RDWR)
+    size = os.fstat(file).st_size
+    os.close(file)
+    if size and not overwrite:
+        raise FileExistsError(
+            errno.EEXIST, "the file isn't empty; with overwrite=True it "
+            "becomes an index, and what it holds is lost", os.fspath(path))
+    return False

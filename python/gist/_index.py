@@ -1,0 +1,133 @@
+"""An open index."""
+
+import random
+import time
+from os import fspath
+from typing import (Any, Callable, Iterable, Optional, Sequence, Tuple, Type,
+                    TypeVar)
+
+from gist._entries import Hits
+from gist._load import load
+from gist._process import AnyPath, words_of
+from gist._program import Call, Program
+from gist._refusals import Busy, ProtocolError
+from gist._sessions import Hold, Sessions
+from gist._transactions import Reader, Transaction
+
+# The longest pauses of retry, in seconds: the first doubles up to the last.
+_PAUSE, _LAST_PAUSE = 0.002, 0.064
+# How long a search waits for a session, and tries again, in seconds.
+_SEARCHING = 5.0
+
+_Result = TypeVar("_Result")
+_Kind = TypeVar("_Kind", bound=Reader)
+
+
+class Index:
+    """An open index; `gist.open` opens one.
+
+    Threads may share it: each call is a whole by itself, one at a time, and
+    each thread makes its calls in transactions of its own.
+    """
+
+    def __init__(self, path: AnyPath, frames: int,
+                 program: Optional[AnyPath]) -> None:
+        #: The file's path, as it was given.
+        self.path = path
+        self._program = Program(words_of(
+            program, "run", "--frames", f"{frames:d}", "--", fspath(path)))
+        # (this changes nothing, and is answered once the index is open)
+        answer = self._program.exchange(Call(b"0 ABORT\n"))
+        if answer != b"0 refused 15 bad session\n":
+            end = self._program.close(answer)
+            raise end or ProtocolError(f"{answer!r} as the index was opened")
+        self._sessions = Sessions(self._program, path)
+
+    def __enter__(self) -> "Index":
+        return self
+
+    def __exit__(self, kind: Optional[Type[BaseException]],
+                 *_: object) -> None:
+        end = self._program.close()
+        if end and kind is None:
+            raise end
+
+    @property
+    def pid(self) -> int:
+        """The number of the program's process."""
+        return self._program.pid
+
+    def transaction(self, wait: Optional[float] = 0.0) -> Transaction:
+        """Begins a transaction in one of the sessions that are free.
+
+        Where none is free this waits for one, so many seconds at most, or
+        as long as it takes (None); then it raises NoSession.
+        """
+        return self._begin(Transaction, wait)
+
+    def reading(self, wait: Optional[float] = 0.0) -> Reader:
+        """Begins a transaction that only searches and costs no sync."""
+        return self._begin(Reader, wait)
+
+    def search(self, box: Sequence[int]) -> Hits:
+        """Finds the entries whose box shares a point with this one.
+
+        It is a transaction of its own. Where another one is in the way, this
+        tries again for five seconds, and then raises Busy.
+        """
+        return self.retry(lambda t: t.overlap(box), reading=True, tries=None,
+                          wait=_SEARCHING, within=_SEARCHING)
+
+    def load(self, entries: Iterable[Tuple[int, Sequence[int]]],
+             progress: Optional[Callable[[int], object]] = None) -> int:
+        """Adds entries of any number, in many commits; returns how many.
+
+        All are read and sorted by place before the first is added, and then
+        committed 500 at a time. progress(done) is called after each commit.
+        An exception that breaks it off says how many are committed, and has
+        that number as its attribute committed.
+        """
+        return load(self, entries, progress)
+
+    def retry(self, work: Callable[[Any], _Result], reading: bool = False,
+              tries: Optional[int] = 20, wait: Optional[float] = 0.0,
+              within: Optional[float] = None) -> _Result:
+        """Does work(transaction), commits, and returns what it returned.
+
+        Where another transaction is in the way (Busy), it is all given up and
+        done anew after a short pause: so many times in all, and for so many
+        seconds; None is no bound. With reading, work is given a Reader.
+        """
+        if tries is not None and tries < 1:
+            raise ValueError("tries is at least 1")
+        end = None if within is None else time.monotonic() + within
+        tried = 0
+        while True:
+            tried += 1
+            try:
+                with self._begin(Reader if reading else Transaction,
+                                 wait) as transaction:
+                    return work(transaction)
+            except Busy:
+                left = _LAST_PAUSE if end is None else end - time.monotonic()
+                if tried == tries or left <= 0:
+                    raise
+            longest = min(_PAUSE * 2 ** min(tried, 10), _LAST_PAUSE)
+            time.sleep(min(random.uniform(0, longest), left))
+
+    def close(self) -> None:
+        """Gives up what is open, waits for the program's end, and raises
+        why it didn't end well. To close once more does nothing.
+
+        In a signal handler, while its thread is within a call of the index,
+        this ends the program at once, and the call raises Ended.
+        """
+        end = self._program.close()
+        if end:
+            raise end
+
+    def _begin(self, kind: Type[_Kind], wait: Optional[float]) -> _Kind:
+        hold = Hold(self._sessions)
+        transaction = kind(hold)
+        self._sessions.begin(hold, transaction, wait)
+        return transaction

@@ -1,0 +1,208 @@
+"""Transactions, and what is asked in them."""
+
+from itertools import islice
+from typing import Iterable, Optional, Sequence, Tuple, Type, TypeVar
+
+from gist._entries import Hits, corners_of, entry_of
+from gist._program import AHEAD, Call, Program
+from gist._refusals import GistError, NoTransaction, ProtocolError, refusal
+from gist._sessions import Hold
+
+
+class Reader:
+    """A transaction that searches, and is given up at its end.
+
+    `Index.reading` begins one. What it has searched can't be changed by
+    other transactions before it ends: they are refused with Busy. It costs
+    no write and no sync.
+
+    It is used by one thread at a time.
+    """
+
+    def __init__(self, hold: Hold) -> None:
+        self._hold = hold
+
+    @property
+    def session(self) -> int:
+        """Its session, 1 to 8; 0 once it has ended."""
+        return self._hold.session
+
+    def __enter__(self: "_Own") -> "_Own":
+        # (Only the with statement holds the transaction itself then. However
+        # its block is left, even by a signal as it ends, nobody holds it.)
+        return type(self)(self._hold)
+
+    def __exit__(self, kind: Optional[Type[BaseException]],
+                 *_: object) -> None:
+        try:
+            if self._hold.session:
+                self._end(is_failing=kind is not None)
+        finally:
+            self._hold.holder = None
+
+    def overlap(self, box: Sequence[int]) -> Hits:
+        """Finds the entries whose box shares a point with this one."""
+        return self._search("OVERLAP", box)
+
+    def within(self, box: Sequence[int]) -> Hits:
+        """Finds the entries whose box lies in this one."""
+        return self._search("WITHIN", box)
+
+    def equal(self, box: Sequence[int]) -> Hits:
+        """Finds the entries with this box."""
+        return self._search("EQUAL", box)
+
+    def abort(self) -> None:
+        """Ends the transaction, and drops its changes."""
+        self._call("ABORT", b"aborted")
+        self._hold.end()
+
+    def _end(self, is_failing: bool) -> None:
+        """Ends the transaction at the end of a with block."""
+        try:
+            self.abort()
+        except GistError:
+            # (an exception that is under way says more)
+            if not is_failing:
+                raise
+
+    def _search(self, command: str, box: Sequence[int]) -> Hits:
+        answer = self._exchange(self._asking(f"{command} {corners_of(box)}"))
+        head, _, lines = answer.partition(b"\n")
+        return Hits(int(self._result(head, b"found ")), lines)
+
+    def _call(self, words: str, expected: bytes) -> bytes:
+        return self._result(self._exchange(self._asking(words))[:-1],
+                            expected)
+
+    def _asking(self, *calls: str) -> Call:
+        """The call, or calls, of these words in the session."""
+        session = self._hold.session
+        return Call("".join([f"{session} {words}\n" for words in calls]
+                            ).encode(), len(calls))
+
+    def _exchange(self, call: Call) -> bytes:
+        sessions = self._hold.sessions
+        if not sessions:
+            raise NoTransaction("no transaction")
+        return sessions.program.alone(self._ask, sessions.program, call)
+
+    def _ask(self, program: Program, call: Call) -> bytes:
+        if not self._hold.session:
+            # (the session may be another transaction's by now)
+            raise NoTransaction("no transaction")
+        return program.ask(call)
+
+    def _result(self, line: bytes, expected: bytes,
+                place: Optional[int] = None) -> bytes:
+        """What an answer has behind a word; raises its refusal."""
+        mark = b"%d " % self._hold.session
+        answer = line[2:] if line[:2] == mark else b""
+        if answer.startswith(expected):
+            return answer[len(expected):]
+        if answer.startswith(b"refused "):
+            fault = refusal(answer[len(b"refused "):], place=place)
+            if isinstance(fault, NoTransaction):
+                self._hold.end()
+            raise fault
+        if self._hold.sessions:
+            self._hold.sessions.program.kill()
+        raise ProtocolError(f"{line!r} where {expected!r} was expected")
+
+
+_Own = TypeVar("_Own", bound=Reader)
+
+
+class Transaction(Reader):
+    """A transaction: its changes are kept as a whole, or not at all.
+
+    `Index.transaction` begins one. At the end of a with block it is
+    committed, or given up where an exception leaves the block. A call that
+    is refused raises the refusal and changes nothing; where that is caught,
+    the transaction goes on. It is used by one thread at a time.
+    """
+
+    @property
+    def number(self) -> Optional[int]:
+        """The commit's number, once it is known to be made."""
+        return self._hold.number
+
+    def insert(self, row: int, box: Sequence[int]) -> None:
+        """Adds an entry; it must not be there."""
+        self._call(f"INSERT {entry_of(row, box)}", b"inserted")
+
+    def delete(self, row: int, box: Sequence[int]) -> None:
+        """Takes an entry away; it must be there, with just this box."""
+        self._call(f"DELETE {entry_of(row, box)}", b"deleted")
+
+    def insert_many(self,
+                    entries: Iterable[Tuple[int, Sequence[int]]]) -> int:
+        """Adds entries, and returns how many.
+
+        Up to 100 are written before their answers are read, which takes a
+        fraction of the time of so many inserts. The first refusal is raised,
+        with its entry's place; entries behind it may have been added then.
+        """
+        return self._write_many("INSERT", b"inserted", entries)
+
+    def delete_many(self,
+                    entries: Iterable[Tuple[int, Sequence[int]]]) -> int:
+        """Takes entries away, in the manner of insert_many."""
+        return self._write_many("DELETE", b"deleted", entries)
+
+    def commit(self) -> int:
+        """Ends the transaction, keeps its changes and returns its number.
+
+        When this returns, they are in the file and outlive a crash; when it
+        raises Device or Ended, they are there whole or not at all. Where an
+        exception of another kind broke it off, as KeyboardInterrupt, call it
+        again: it commits what wasn't committed, and returns the number.
+        """
+        hold = self._hold
+        if not (hold.session and hold.number):
+            hold.commit = hold.commit or self._asking("COMMIT")
+            try:
+                self._result(self._exchange(hold.commit)[:-1], b"committed ")
+            except GistError:
+                if not hold.number:
+                    # (refused, and asked anew by another call)
+                    hold.commit = None
+                raise
+        hold.end()
+        assert hold.number
+        return hold.number
+
+    def abort(self) -> None:
+        """Ends the transaction, and drops its changes.
+
+        Where a commit was broken off and yet made, this raises NoTransaction,
+        and `number` is the commit's.
+        """
+        hold = self._hold
+        if hold.commit and hold.sessions:
+            hold.sessions.program.settle()
+            if hold.number:
+                hold.end()
+        super().abort()
+
+    def _end(self, is_failing: bool) -> None:
+        try:
+            if not is_failing:
+                self.commit()
+        finally:
+            if self._hold.session:
+                super()._end(is_failing=True)
+
+    def _write_many(self, command: str, expected: bytes,
+                    entries: Iterable[Tuple[int, Sequence[int]]]) -> int:
+        rest = iter(entries)
+        count = 0
+        while True:
+            calls = [f"{command} {entry_of(row, box)}"
+                     for row, box in islice(rest, AHEAD)]
+            if not calls:
+                return count
+            answers = self._exchange(self._asking(*calls))
+            for place, line in enumerate(answers.splitlines(), count):
+                self._result(line, expected, place)
+            count += len(calls)

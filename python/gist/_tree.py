@@ -1,0 +1,46 @@
+"""The lines of a dump, taken apart."""
+
+from typing import Iterable, Iterator, List, NamedTuple, Tuple
+
+from gist._entries import Box
+
+
+class Page(NamedTuple):
+    """A page of the tree, and what is on it."""
+
+    number: int
+    #: 0 for a leaf.
+    level: int
+    #: How many children or entries it has.
+    count: int
+    #: The pages below it, with their bounds.
+    children: List[Tuple[int, Box]]
+    #: A leaf's entries: row, box, and whether it is live.
+    entries: List[Tuple[int, Box, bool]]
+
+
+def live_entries(lines: Iterable[str]) -> Iterator[Tuple[int, Box]]:
+    """The live entries of a dump, page by page."""
+    for line in lines:
+        if line.startswith("entry ") and line.endswith(" live"):
+            row, *corners = map(int, line.split()[1:6])
+            yield row, Box._make(corners)
+
+
+def pages_of(lines: Iterable[str]) -> Iterator[Page]:
+    """The pages of a dump, from the root's on."""
+    page = None
+    for line in lines:
+        kind, *words = line.split()
+        if kind == "page":
+            if page:
+                yield page
+            page = Page(int(words[0]), int(words[2]), int(words[8]), [], [])
+        elif kind == "child" and page:
+            number, *corners = map(int, words)
+            page.children.append((number, Box._make(corners)))
+        elif kind == "entry" and page:
+            row, *corners = map(int, words[:5])
+            page.entries.append((row, Box._make(corners), words[5] == "live"))
+    if page:
+        yield page
