@@ -5,7 +5,7 @@
 # usage: bench/planted.sh [CRATE..]
 set -euo pipefail
 top="$(cd "$(dirname "${BASH_SOURCE[0]}")/.." && pwd)"
-[ $# -gt 0 ] || set -- $(ls "$top/planted")
+[ $# -gt 0 ] || set -- $(cd "$top/planted" && ls -d -- */ | tr -d /)
 copy="$(mktemp -d)"
 trap 'rm -rf "$copy"' EXIT
 cp -r "$top/crates" "$top/crates.txt" "$top/HANDLES" "$top/tools" "$top/planted" "$copy"

@@ -213,7 +213,7 @@ holds "wrong words leave the file" cmp -s places before
 on_file "wrong words for a new file" 2 "$nothing" "7 is not in 8..=65536" format new 7 4
 holds "wrong words make no file" [ ! -e new ]
 
-# Why a file can't be opened is told behind its name; nothing is made.
+# Why a file can't be opened is written behind its name; nothing is made.
 missing="^gist: nowhere: no such file or directory$"
 on_file "a file that isn't there" 1 "$none" "$missing" run nowhere
 on_file "a file that isn't there, to be dumped" 1 "$none" "$missing" dump nowhere
@@ -303,7 +303,7 @@ on_file "the file is free again" 0 '1 ok
 1 entry 7 0 0 10 10
 ' "" run places
 
-# Those who verify a file share it; whoever writes has it alone.
+# Verifiers share a file; a writer has it alone.
 held='ok commits 3 entries 1 used 2
 '
 lines=""

@@ -14,7 +14,8 @@ they call are proved. One line an edit, and in the last line how many passed:
                    contract, and is counted apart
     not tried      the minutes were over; it counts for nothing
 
-Ends with status 1 where a bug is still proved.
+Ends with status 1 where a bug is still proved, but for those in the list planted/untried, which no gate has tried yet: these are counted
+apart. One that was refused is taken out of the list.
 """
 import argparse
 import concurrent.futures
@@ -240,6 +241,11 @@ def edits_in(folder, crate):
     return [read(it, crate) for it in sorted(at.glob("*.edit"))]
 
 
+def untried():
+    """The planted bugs that no gate has tried yet, as CRATE/NAME."""
+    return set(pathlib.Path(f"{TOP}/planted/untried").read_text(encoding="utf-8").split())
+
+
 def main():
     given = argparse.ArgumentParser(description=__doc__, formatter_class=argparse.RawDescriptionHelpFormatter)
     given.add_argument("--of", default="planted")
@@ -257,8 +263,9 @@ def main():
     every = [it for found in edits.values() for it in found]
     passed = sum(map(Edit.is_well, every))
     bad, skipped = (sum(it.said.startswith(said) for it in every) for said in ("BAD EDIT", "not tried"))
-    failed = len(every) - passed - bad - skipped
-    apart = ", ".join(f"{count} {said}" for count, said in ((bad, "bad"), (skipped, "not tried")) if count)
+    new = sum(f"{it.crate}/{it.name}" in untried() for it in every if it.said.startswith("NOT REFUSED"))
+    failed = len(every) - passed - bad - skipped - new
+    apart = ", ".join(f"{count} {said}" for count, said in ((bad, "bad"), (new, "still proved, of those untried"), (skipped, "not tried")) if count)
     print(f"{passed} passed, {failed} failed" + (f" ({apart})" if apart else ""))
     sys.exit(failed != 0)
 

@@ -1,5 +1,5 @@
 -- The bytes of four numbers, put in the machine's order and read side by side.
-use Rattle.std.proofs.Common.{◌≡◌, ℕ, ◌+◌, ◌*◌, ◌^◌, ◌<◌, refl, ap, sym, ◌∙◌, arith, List, length, [], ◌∷◌, ◌++◌, take, drop, map, get_or}
+use Rattle.std.proofs.Common.{◌≡◌, ℕ, ◌+◌, ◌*◌, ◌^◌, ◌<◌, ◌≤◌, refl, ap, sym, ◌∙◌, arith, List, length, [], ◌∷◌, ◌++◌, take, drop, map, get_or}
 use Rattle.std.specs.Prelude.{slice_index}
 use Rattle.std.specs.Int.{w32, from_be_bytes}
 use Rattle.std.proofs.lemmas.List.{get_or-take, get_or-drop, get_or_append_left, length-take}
@@ -22,7 +22,7 @@ number_four bytes n =
     omega arith
 
 -- a byte of the vector, which is joined to itself
-byte_in : (bytes : List ℕ) (k : ℕ) → length bytes ≡ 16 → k < 16 → get_or (take 16 bytes ++ take 16 bytes) k 0 ≡ get_or bytes k 0
+byte_in : (bytes : List ℕ) (k : ℕ) → 16 ≤ length bytes → k < 16 → get_or (take 16 bytes ++ take 16 bytes) k 0 ≡ get_or bytes k 0
 byte_in bytes k long h =
     get_or_append_left (take 16 bytes) (take 16 bytes) 0 k (omega (arith, length-take 16 bytes)) ∙ get_or-take 16 bytes k 0 h
 
@@ -34,9 +34,9 @@ turned_small v s =
     (s 3, (s 2, (s 1, (s 0, (s 7, (s 6, (s 5, (s 4, (s 11, (s 10, (s 9, (s 8, (s 15, (s 14, (s 13, (s 12, tt))))))))))))))))
 
 -- lane j of four numbers
-lane_in : (bytes : List ℕ) (j : ℕ) → length bytes ≡ 16 → ((k : ℕ) → slice_index bytes k < 256) → j < 4
+lane_in : (bytes : List ℕ) (j : ℕ) → ((k : ℕ) → slice_index bytes k < 256) → j < 4
     → get_or (digits_l (2 ^ 32) 4 (number_l 256 (turned bytes))) j 0 ≡ number_l 256 (chunk (4 * j) 4 (turned bytes))
-lane_in bytes j long small h = get_or_wider 256 4 (2 ^ 32) 4 (turned bytes) j refl (turned_small bytes small) h
+lane_in bytes j small h = get_or_wider 256 4 (2 ^ 32) 4 (turned bytes) j refl (turned_small bytes small) h
 
 same_bytes : (v bytes : List ℕ) → ((k : ℕ) → k < 16 → get_or v k 0 ≡ get_or bytes k 0) → turned v ≡ turned bytes
 same_bytes v bytes same =
@@ -63,11 +63,11 @@ same_bytes v bytes same =
 abbrev read_lanes : List ℕ → List ℕ
 read_lanes bytes = digits_l (2 ^ 32) 4 (number_l 256 (turned bytes))
 
-lanes_are : (bytes : List ℕ) → length bytes ≡ 16 → ((k : ℕ) → slice_index bytes k < 256)
+lanes_are : (bytes : List ℕ) → ((k : ℕ) → slice_index bytes k < 256)
     → map (to_z w32) (read_lanes bytes) ≡ corners (corners_of bytes)
 unfolding corners_of number_of
-lanes_are bytes long small =
-    let at : (j : ℕ) → j < 4 → get_or (read_lanes bytes) j 0 ≡ number_l 256 (chunk (4 * j) 4 (turned bytes)) = λ j h. lane_in bytes j long small h in
+lanes_are bytes small =
+    let at : (j : ℕ) → j < 4 → get_or (read_lanes bytes) j 0 ≡ number_l 256 (chunk (4 * j) 4 (turned bytes)) = λ j h. lane_in bytes j small h in
     let zeroth : get_or (read_lanes bytes) 0 0 ≡ from_be_bytes w32 (take 4 (drop 0 bytes)) = at 0 (omega arith) ∙ sym (number_four bytes 0) in
     let first : get_or (read_lanes bytes) 1 0 ≡ from_be_bytes w32 (take 4 (drop 4 bytes)) = at 1 (omega arith) ∙ sym (number_four bytes 4) in
     let second : get_or (read_lanes bytes) 2 0 ≡ from_be_bytes w32 (take 4 (drop 8 bytes)) = at 2 (omega arith) ∙ sym (number_four bytes 8) in
@@ -77,11 +77,11 @@ lanes_are bytes long small =
     ∙ ap (λ n. to_z w32 (from_be_bytes w32 (take 4 (drop 0 bytes))) ∷ to_z w32 (from_be_bytes w32 (take 4 (drop 4 bytes))) ∷ to_z w32 n ∷ to_z w32 (get_or (read_lanes bytes) 3 0) ∷ []) second
     ∙ ap (λ n. to_z w32 (from_be_bytes w32 (take 4 (drop 0 bytes))) ∷ to_z w32 (from_be_bytes w32 (take 4 (drop 4 bytes))) ∷ to_z w32 (from_be_bytes w32 (take 4 (drop 8 bytes))) ∷ to_z w32 n ∷ []) third
 
-pub lanes_read : (bytes : List ℕ) → length bytes ≡ 16 → ((k : ℕ) → slice_index bytes k < 256)
+pub lanes_read : (bytes : List ℕ) → 16 ≤ length bytes → ((k : ℕ) → slice_index bytes k < 256)
     → map (to_z w32) (read_lanes (take 16 bytes ++ take 16 bytes)) ≡ corners (corners_of bytes)
 lanes_read bytes long small =
     ap (λ v. map (to_z w32) (digits_l (2 ^ 32) 4 (number_l 256 v))) (same_bytes (take 16 bytes ++ take 16 bytes) bytes (λ k h. byte_in bytes k long h))
-    ∙ lanes_are bytes long small
+    ∙ lanes_are bytes small
 
 pub corners_fit : (bytes : List ℕ) → ((k : ℕ) → slice_index bytes k < 256) → FourFit (corners (corners_of bytes))
 unfolding corners_of

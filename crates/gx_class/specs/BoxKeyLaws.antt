@@ -125,7 +125,7 @@ pub read_back : (z : ℤ) → FitsSigned w32 z → cast_signed w32 (from_be_byte
 unfolding number_bytes
 read_back = number_read_back w32 from_be_bytes-to_be_bytes_4
 
-same_number : (y z : ℤ) → FitsSigned w32 y → FitsSigned w32 z → number_bytes y ≡ number_bytes z → y ≡ z
+pub same_number : (y z : ℤ) → FitsSigned w32 y → FitsSigned w32 z → number_bytes y ≡ number_bytes z → y ≡ z
 unfolding number_bytes
 same_number = number_same w32 from_be_bytes-to_be_bytes_4
 

@@ -18,10 +18,10 @@ use Rattle.gx_class.specs.Boxes.{may_match}
 use Rattle.gx_class.specs.BoxKeyLaws.{same_order}
 use Rattle.gx_class.specs.Probes.{corners, least, greatest, Limits, limits, are_between, meeting, lying_in, covering, key_limits, bound_limits}
 
-above_least : (z : ℤ) → FitsSigned w32 z → int_le least z ≡ true
+pub above_least : (z : ℤ) → FitsSigned w32 z → int_le least z ≡ true
 above_least z fits = tests_at_most least z (omega (arith, ints))
 
-below_greatest : (z : ℤ) → FitsSigned w32 z → int_le z greatest ≡ true
+pub below_greatest : (z : ℤ) → FitsSigned w32 z → int_le z greatest ≡ true
 below_greatest z fits = tests_at_most z greatest (omega (arith, ints))
 
 -- ---- tests that hold in any case are left out
@@ -80,12 +80,12 @@ covering_tells q k is =
     (int_le least k.x1) (int_le least k.y1) (int_le k.x2 greatest) (int_le k.y2 greatest)
     (above_least k.x1 is.x1_fits) (above_least k.y1 is.y1_fits) (below_greatest k.x2 is.x2_fits) (below_greatest k.y2 is.y2_fits)
 
-both_ways : (s t : Bool) → (s ≡ true → t ≡ true) → (t ≡ true → s ≡ true) → s ≡ t
+pub both_ways : (s t : Bool) → (s ≡ true → t ≡ true) → (t ≡ true → s ≡ true) → s ≡ t
 both_ways true t f g = sym (f refl)
 both_ways false true f g = g refl
 both_ways false false f g = refl
 
-squeezed : (a b : ℤ) → (int_le a b && int_le b a) ≡ true → b ≡ a
+pub squeezed : (a b : ℤ) → (int_le a b && int_le b a) ≡ true → b ≡ a
 squeezed a b e =
     let tests = and_parts (int_le a b) (int_le b a) e in
     let up : a ≤ℤ b = at_most a b tests.0 in
@@ -101,7 +101,7 @@ same_four q k e =
     ap (λ z. rectangle_of z k.y1 k.x2 k.y2) (squeezed q.x1 k.x1 one.0) ∙ ap (λ z. rectangle_of q.x1 z k.x2 k.y2) (squeezed q.y1 k.y1 two.0)
     ∙ ap (λ z. rectangle_of q.x1 q.y1 z k.y2) (squeezed q.x2 k.x2 three.0) ∙ ap (rectangle_of q.x1 q.y1 q.x2) (squeezed q.y2 k.y2 four.0)
 
-self_equal : (z : ℤ) → int_cmp z z ≡ Same
+pub self_equal : (z : ℤ) → int_cmp z z ≡ Same
 self_equal z = sym (int_cmp_is z z Same refl)
 
 equals_itself : (q : Rectangle) → is_eq (rectangle_cmp q q) ≡ true

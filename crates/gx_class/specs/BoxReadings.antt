@@ -14,7 +14,7 @@ use Rattle.gx_class.specs.BoxKeyLaws.{length-number_bytes, length-spelling, read
 
 -- ---- a box's bytes
 
-number_back : (z : ℤ) → FitsSigned w32 z → number_of (number_bytes z) ≡ z
+pub number_back : (z : ℤ) → FitsSigned w32 z → number_of (number_bytes z) ≡ z
 unfolding number_of
 number_back z fits = read_back z fits
 
@@ -98,7 +98,7 @@ parts_join bytes long =
 part_long : (bytes : List ℕ) (n : ℕ) → n + 4 ≤ length bytes → length (take 4 (drop n bytes)) ≡ 4
 part_long bytes n room = omega (arith, length-take 4 (drop n bytes), length-drop n bytes)
 
-part_written : (bytes : List ℕ) (n : ℕ) → n + 4 ≤ length bytes → ((i : ℕ) → slice_index bytes i < 256)
+pub part_written : (bytes : List ℕ) (n : ℕ) → n + 4 ≤ length bytes → ((i : ℕ) → slice_index bytes i < 256)
     → number_bytes (number_of (take 4 (drop n bytes))) ≡ take 4 (drop n bytes)
 part_written bytes n room small = number_written (take 4 (drop n bytes)) (part_long bytes n room) (small_part bytes n small)
 

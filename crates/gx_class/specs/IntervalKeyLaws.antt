@@ -28,7 +28,7 @@ pub spans_in_order : IsTotalOrder span_cmp
 spans_in_order = then_total (on_total (λ (a : Span). a.lo) int_cmp_total) (on_total (λ (a : Span). a.hi) int_cmp_total)
 
 -- what meets an interval meets whatever covers it
-meets_covered : (k b q : Span) → meets k q ≡ true → lies_in k b ≡ true → meets b q ≡ true
+pub meets_covered : (k b q : Span) → meets k q ≡ true → lies_in k b ≡ true → meets b q ≡ true
 meets_covered k b q p inside =
     let both = ends_meet k q p in
     let lies = ends_in k b inside in
@@ -38,19 +38,19 @@ meets_covered k b q p inside =
     })
 
 -- what covers an interval that lies in another meets that one
-inside_covered : (k b q : Span) → IsInterval k → lies_in k q ≡ true → lies_in k b ≡ true → meets b q ≡ true
-inside_covered k b q is p inside =
+pub inside_covered : (k b q : Span) → k.lo ≤ℤ k.hi → lies_in k q ≡ true → lies_in k b ≡ true → meets b q ≡ true
+inside_covered k b q in_order p inside =
     let lies = ends_in k q p in
     let lies' = ends_in k b inside in
     meet_by_ends b q (record {
-      left = at_most_through b.lo k.lo q.hi lies'.from (at_most_through k.lo k.hi q.hi is.in_order lies.to);
-      right = at_most_through q.lo k.lo b.hi lies.from (at_most_through k.lo k.hi b.hi is.in_order lies'.to);
+      left = at_most_through b.lo k.lo q.hi lies'.from (at_most_through k.lo k.hi q.hi in_order lies.to);
+      right = at_most_through q.lo k.lo b.hi lies.from (at_most_through k.lo k.hi b.hi in_order lies'.to);
     })
 
 pub match_is_consistent : (q : Query Span) (k b : Span) → IsInterval k → key_matches (keys span_cmp meets lies_in) q k ≡ true → lies_in k b ≡ true
     → may_match q b ≡ true
 match_is_consistent (Overlap q) k b is matched inside = meets_covered k b q matched inside
-match_is_consistent (Within q) k b is matched inside = inside_covered k b q is matched inside
+match_is_consistent (Within q) k b is matched inside = inside_covered k b q is.in_order matched inside
 match_is_consistent (Equal q) k b is matched inside =
     let same : k ≡ q = same_ends k q (same_order (span_cmp k q) matched) in
     subst (λ z. lies_in z b ≡ true) same inside

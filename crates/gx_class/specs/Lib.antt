@@ -12,3 +12,8 @@ pub mod Numbers
 pub mod Probes
 pub mod Raised
 pub mod Sides
+pub mod SolidKeyLaws
+pub mod SolidKeys
+pub mod SolidProbeLaws
+pub mod SolidProbes
+pub mod SolidReadings

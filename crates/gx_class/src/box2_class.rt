@@ -13,7 +13,7 @@ use gx_split::Measure;
 pub struct Box2Class;
 
 /// Writes a number's four bytes over those of `out` from `at` on.
-fn write_number(out: &mut [u8], at: usize, number: i32)
+pub(crate) fn write_number(out: &mut [u8], at: usize, number: i32)
     requires { at + 4 ≤ length out.old }
     ensures { out.new ≡ take at out.old ++ (number_bytes number ++ drop (at + 4) out.old) }
 {
@@ -21,7 +21,7 @@ fn write_number(out: &mut [u8], at: usize, number: i32)
 }
 
 /// The number of which these are the bytes.
-fn number(bytes: &[u8]) -> i32
+pub(crate) fn number(bytes: &[u8]) -> i32
     requires { length bytes.now ≡ 4 }
     ensures { bytes.now ≡ number_bytes result }
 {
@@ -29,7 +29,7 @@ fn number(bytes: &[u8]) -> i32
 }
 
 /// The two numbers of which these are the bytes.
-fn numbers(bytes: &[u8]) -> (i32, i32)
+pub(crate) fn numbers(bytes: &[u8]) -> (i32, i32)
     requires { length bytes.now ≡ 8 }
     ensures { bytes.now ≡ number_bytes result.0 ++ number_bytes result.1 }
 {

@@ -1,5 +1,5 @@
 //! Boxes tested in their bytes, four corners at once.
-ghost use Rattle.std.specs.Prelude.{◌≡◌, length};
+ghost use Rattle.std.specs.Prelude.{◌≡◌, ◌≤◌, length};
 ghost use Rattle.gx_class.specs.Boxes.{corners_of};
 ghost use Rattle.gx_class.specs.Probes.{corners, limits, are_between, FourFit, meeting, lying_in, covering};
 
@@ -20,7 +20,7 @@ pub struct BoxProbe {
 
 impl BoxProbe {
     /// Passed by boxes of which each corner lies between its two limits.
-    fn between(low: [i32; 4], high: [i32; 4]) -> BoxProbe
+    pub(crate) fn between(low: [i32; 4], high: [i32; 4]) -> BoxProbe
         ensures { limits result.low result.high ≡ limits low high }
     {
         BoxProbe { low, high }
@@ -57,14 +57,22 @@ impl BoxProbe {
         let corners = [q.x1(), q.y1(), q.x2(), q.y2()];
         BoxProbe::between(corners, corners)
     }
+
+    /// Whether the four numbers in front of these bytes lie between their limits.
+    pub(crate) fn passes(&self, bytes: &[u8]) -> bool
+        requires { 16 ≤ length bytes.now }
+        ensures { result ≡ are_between self.now.low self.now.high (corners (corners_of bytes.now)) }
+    {
+        are_between(&self.low, &self.high, corners_in(bytes))
+    }
 }
 
 /// The places of the bytes of each of four numbers, the least byte first.
 pub(crate) const LEAST_FIRST: [usize; 16] = [3, 2, 1, 0, 7, 6, 5, 4, 11, 10, 9, 8, 15, 14, 13, 12];
 
-/// The corners of which these are the bytes, side by side.
+/// The corners in front of these bytes, side by side.
 fn corners_in(bytes: &[u8]) -> i32x4
-    requires { length bytes.now ≡ 16 }
+    requires { 16 ≤ length bytes.now }
     ensures { result ≡ corners (corners_of bytes.now) }
 {
     i32x4::from_le_bytes(u8x16::from_slice(bytes).swizzle(LEAST_FIRST))
@@ -106,6 +114,6 @@ impl Probing for Box2Class {
     }
 
     fn test(probe: &BoxProbe, bytes: &[u8]) -> bool {
-        are_between(&probe.low, &probe.high, corners_in(bytes))
+        probe.passes(bytes)
     }
 }

@@ -2,6 +2,8 @@
 #![tactic(auto)]
 
 mod box2_class;
+mod box3_class;
+mod box3_probe;
 mod box_penalty;
 mod box_probe;
 mod class;
@@ -12,6 +14,8 @@ mod probe;
 
 pub use box_probe::BoxProbe;
 pub use box2_class::Box2Class;
+pub use box3_class::Box3Class;
+pub use box3_probe::SolidProbe;
 pub use class::{KeyClass, MAX_KEY};
 pub use interval_class::IntervalClass;
 pub use interval_probe::IntervalProbe;

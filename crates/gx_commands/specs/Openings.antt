@@ -6,10 +6,10 @@ use Rattle.gx_disk.specs.Device.{Device}
 use Rattle.gx_engine.specs.Made.{Makes}
 use Rattle.gx_engine.specs.declared.start.NotOpened.{NotOpened}
 use Rattle.gx_engine.specs.States.{Parts}
-use Rattle.gx_geom.specs.declared.refusal.Refusal.TheVariants.{BadParameter, Device as NoDevice, TooSmall}
+use Rattle.gx_geom.specs.declared.refusal.Refusal.TheVariants.{BadParameter, TooSmall}
 use Rattle.gx_machine.specs.Keys.{Members}
 use Rattle.gx_node.specs.Reading.{format_of}
-use Rattle.gx_restart.specs.Beginning.{IsSameDevice}
+use Rattle.gx_restart.specs.Beginning.{CountsOpening, IsSameDevice}
 use Rattle.gx_restart.specs.Keeping.{KeepsItsSet, OpensSafely}
 use Rattle.gx_restart.specs.Opened.{IsOpened, IsRefused}
 use Rattle.gx_restart.specs.Order.{OpensInOrder}
@@ -21,7 +21,7 @@ pub record Opens {C B D : Type 0} (shape : Members B) (is_key : B → Bool) (sai
   pub frames_are : ((16 ≤ frames) × (frames ≤ 4096) → ⊥) → result ≡ Err (record { why = BadParameter; disk = disk })
   pub small : 16 ≤ frames → frames ≤ 4096 → (state disk).sectors < MIN_SECTORS → result ≡ Err (record { why = TooSmall; disk = disk })
   pub device : MatchResult result (λ engine. IsSameDevice (state disk) (state engine.volume.shelf.disk)) (λ n. IsSameDevice (state disk) (state n.disk))
-  pub faults : IfErr result (λ n. n.why ≡ NoDevice → (state disk).faults < (state n.disk).faults)
+  pub faults : CountsOpening state (state disk).faults result
   pub idle : IfOk result IsIdle
   pub began : IfOk result (BeganWith (Makes shape is_key said class state) frames)
   pub safe : (state disk).honest ≡ true → MatchResult result

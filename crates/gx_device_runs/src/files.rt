@@ -42,24 +42,27 @@ fn write_file(rt: &HostRuntime) -> Result<Option<DiskFault>, DiskFault> {
     Ok(FileDisk::open(rt, FILE).err())
 }
 
-/// Opens the file twice for reading, and answers what a write, a sync and an opening for writing are then.
-fn share_file(rt: &HostRuntime) -> Result<[&'static str; 3], DiskFault> {
+/// Three words of a line.
+type ThreeWords = (&'static str, &'static str, &'static str);
+
+/// Opens the file twice for reading, and returns what a write, a sync and an opening for writing are then.
+fn share_file(rt: &HostRuntime) -> Result<ThreeWords, DiskFault> {
     let mut disk = FileDisk::open_to_read(rt, FILE)?;
     let _other = FileDisk::open_to_read(rt, FILE)?;
     let besides = match FileDisk::open(rt, FILE) {
         Ok(_) => "opened besides",
         Err(fault) => word_of(Err(fault)),
     };
-    Ok([
+    Ok((
         word_of(write(&mut disk, 2, &[0xd4; 512])),
         word_of(disk.sync()),
         besides,
-    ])
+    ))
 }
 
 /// Prints three words.
-fn say_three<R: Print>(rt: &R, words: [&str; 3]) -> Result<(), RunFault> {
-    let [one, two, three] = words;
+fn say_three<R: Print>(rt: &R, words: ThreeWords) -> Result<(), RunFault> {
+    let (one, two, three) = words;
     say_parts(
         rt,
         &[

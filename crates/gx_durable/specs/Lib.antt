@@ -16,6 +16,7 @@ pub mod Opening
 pub mod Pages
 pub mod PoolLaws
 pub mod Small
+pub mod SolidKeys
 pub mod Spelled
 pub mod Stamps
 pub mod Standing

@@ -1,7 +1,7 @@
 //! Keys read of bytes, whatever these are.
 ghost use Rattle.std.specs.Prelude.{◌≡◌, ◌<◌, ℕ, Bool, true, List, length, slice_index};
 
-use gx_class::{Box2Class, IntervalClass, KeyClass};
+use gx_class::{Box2Class, Box3Class, IntervalClass, KeyClass};
 
 /// A class whose keys' bytes say something also where they are no key's. A log whose record has such bytes is damaged;
 /// so what they say isn't a key.
@@ -53,4 +53,20 @@ impl ReadKeys for IntervalClass {
     ghost key_is_proper = { ends_in_order };
 
     ghost said_only = { ends_only };
+}
+
+impl ReadKeys for Box3Class {
+    ghost use Rattle.gx_class.specs.SolidKeys.{corners_of, in_order};
+    ghost use Rattle.gx_class.specs.SolidReadings.{corners_back};
+    ghost use Rattle.gx_durable.specs.SolidKeys.{solid_in_order, solid_only};
+
+    ghost said = { corners_of };
+
+    ghost is_proper = { in_order };
+
+    ghost said_back = { corners_back };
+
+    ghost key_is_proper = { solid_in_order };
+
+    ghost said_only = { solid_only };
 }

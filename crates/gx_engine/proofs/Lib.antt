@@ -1,5 +1,6 @@
 pub mod Serving
 pub mod AskMoves
+pub mod Failing
 pub mod Flushing
 pub mod CommitMoves
 pub mod LookMoves

@@ -1,14 +1,37 @@
 -- The calls that events make of the device.
-use Rattle.std.specs.Prelude.{◌≤◌, ◌+◌}
+use Rattle.std.specs.Prelude.{◌≡◌, ◌≤◌, ◌+◌, ℕ, Result}
+use Rattle.gx_geom.specs.declared.refusal.Refusal.{Refusal}
+use Rattle.gx_machine.specs.declared.reply.Reply.TheVariants.{Refused as RefusedCall}
 use Rattle.gx_disk.specs.Device.{Device}
 use Rattle.gx_pool.specs.Bringing.{OnlyRead}
+use Rattle.gx_node.specs.Owner.{CountsFaults}
+use Rattle.gx_store.specs.Faults.{refusal_fails}
 use Rattle.gx_events.specs.declared.event.Event.{Event}
 use Rattle.gx_events.specs.declared.event.Event.TheVariants.{Ask, Move, LogStep, WritePage, CheckpointStep, Sweep}
+use Rattle.gx_events.specs.declared.outcome.Outcome.{Outcome}
+use Rattle.gx_events.specs.declared.outcome.Outcome.TheVariants.{Replied, Refused}
 use Rattle.gx_engine.specs.States.{Parts}
 
 -- the device was only read: no write and no sync was made of it
 abbrev pub IsRead : {B D : Type 0} → (D → Device) → Parts B D → Parts B D → Type 0
 IsRead state old new = OnlyRead (state old.volume.shelf.disk) (state new.volume.shelf.disk)
+
+-- how many calls of the device failed where this comes of an event: one where it is refused for that, and else none
+abbrev pub outcome_fails : {B : Type 0} → Outcome B → ℕ
+outcome_fails (Replied (RefusedCall why)) = refusal_fails why
+outcome_fails (Refused why) = refusal_fails why
+outcome_fails other = 0
+
+-- as many calls have failed as an outcome says; none where there is no outcome yet
+abbrev pub TellsAs : {B D : Type 0} → (D → Device) → Parts B D → Parts B D → Outcome B → Type 0
+TellsAs state old new outcome = (state new.volume.shelf.disk).faults ≡ (state old.volume.shelf.disk).faults + outcome_fails outcome
+
+abbrev pub TellsWhere : {A B D : Type 0} → (D → Device) → Parts B D → Parts B D → Result A (Outcome B) → Type 0
+TellsWhere state old new result = CountsFaults outcome_fails (state old.volume.shelf.disk).faults (state new.volume.shelf.disk).faults result
+
+-- the same of what was refused
+abbrev pub TellsWhy : {A B D : Type 0} → (D → Device) → Parts B D → Parts B D → Result A Refusal → Type 0
+TellsWhy state old new result = CountsFaults refusal_fails (state old.volume.shelf.disk).faults (state new.volume.shelf.disk).faults result
 
 -- one write or sync was made of it, or none
 abbrev pub MakesOne : Device → Device → Type 0

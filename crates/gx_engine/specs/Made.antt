@@ -5,7 +5,7 @@ use Rattle.gx_disk.specs.Device.{Device}
 use Rattle.gx_machine.specs.Keys.{Members}
 use Rattle.gx_events.specs.declared.event.Event.{Event}
 use Rattle.gx_events.specs.declared.outcome.Outcome.{Outcome}
-use Rattle.gx_engine.specs.Calls.{MakesCalls}
+use Rattle.gx_engine.specs.Calls.{MakesCalls, TellsAs}
 use Rattle.gx_engine.specs.States.{IsOrderly, Parts}
 use Rattle.gx_engine.specs.Setting.{StepComesAs, StepsAs}
 
@@ -16,6 +16,7 @@ pub record Makes {C B D : Type 0} (shape : Members B) (proper : B → Bool) (sai
   pub comes : StepComesAs shape proper said class state event old new outcome
   pub steps : StepsAs shape proper said class state event old new outcome
   pub calls : MakesCalls state event old new
+  pub told : TellsAs state old new outcome
   pub order : IsOrderly old × IsOrderly new
 
 -- from old, these events with their outcomes lead to new

@@ -3,6 +3,7 @@ ghost use Rattle.std.specs.Prelude.{IsSome, MatchOption};
 ghost use Rattle.gx_recovery.specs.Known.{Limits};
 ghost use Rattle.gx_engine.specs.Driven.{IsDriven, IsGivenUp};
 ghost use Rattle.gx_engine.specs.Helping.{WhereHeld};
+ghost use Rattle.gx_engine.specs.Calls.{TellsAs};
 ghost use Rattle.gx_engine.specs.Made.{Makes};
 
 use crate::engine::Engine;
@@ -10,7 +11,7 @@ use crate::laws::a_class_is_lawful;
 use gx_class::Probing;
 use gx_disk::SectorDisk;
 use gx_durable::ReadKeys;
-use gx_events::{Driver, Event, Next};
+use gx_events::{Driver, Event, Next, Outcome};
 use gx_index_laws::measures::what_a_call_has_left_is_bounded;
 use gx_machine::Reply;
 
@@ -32,6 +33,8 @@ pub fn drive<D: SectorDisk, K: ReadKeys + Probing>(
         (IsGivenUp (Makes K.Key.Shape K.is_proper K.said K.KeyClass D.state) session first engine.old engine.new)
         (λ reply. IsDriven (Makes K.Key.Shape K.is_proper K.said K.KeyClass D.state) session first engine.old reply
         engine.new) }
+    ensures told { MatchOption result (TellsAs D.state engine.old engine.new Outcome.More)
+        (λ reply. TellsAs D.state engine.old engine.new (Outcome.Replied reply)) }
     ensures ends { (l : Limits)
         → WhereHeld K.Key.Shape K.is_proper K.said K.KeyClass D.state l engine.old session first (IsSome result) }
 {

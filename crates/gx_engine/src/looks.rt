@@ -7,7 +7,7 @@ ghost use Rattle.gx_tree.specs.Looking.{LookStep};
 ghost use Rattle.gx_tree.specs.Wants.{wants};
 ghost use Rattle.gx_phases.specs.declared.phase.Phase.TheVariants.{Open};
 ghost use Rattle.gx_phases.specs.Moves.{is_open};
-ghost use Rattle.gx_engine.specs.Calls.{IsRead};
+ghost use Rattle.gx_engine.specs.Calls.{IsRead, TellsWhere};
 ghost use Rattle.gx_engine.specs.declared.work.Work.TheVariants.{Rests};
 ghost use Rattle.gx_engine.specs.Holds.{MayHaveFound};
 ghost use Rattle.gx_engine.specs.Looks.{IsFirst, IsFirstUnless, look_events, work_before};
@@ -77,6 +77,7 @@ impl<D: SectorDisk, K: ReadKeys + Probing> Engine<D, K> {
             (calling session call (work_before begun look) self.old) self.new outcome
             (look_events session call outcome)) }
         ensures device { IsRead D.state self.old self.new }
+        ensures told { TellsWhere D.state self.old self.new result }
     {
         a_class_is_lawful::<K>();
         self.sessions.stands();

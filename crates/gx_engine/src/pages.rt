@@ -3,7 +3,7 @@ ghost use Rattle.std.specs.Borrow.{sem};
 ghost use Rattle.std.specs.Prelude.{◌≡◌, ◌≤◌, false, OnOk};
 ghost use Rattle.gx_store.specs.State.{IsHeld};
 ghost use Rattle.gx_storage.specs.Bringing.{bringing};
-ghost use Rattle.gx_engine.specs.Calls.{IsRead};
+ghost use Rattle.gx_engine.specs.Calls.{IsRead, TellsWhere};
 ghost use Rattle.gx_engine.specs.States.{IsOrderly};
 ghost use Rattle.gx_engine.specs.Sweeping.{bring_events};
 ghost use Rattle.gx_engine.specs.Viewing.{lends_page};
@@ -42,6 +42,7 @@ impl<D: SectorDisk, K: ReadKeys> Engine<D, K> {
         ensures leads { LeadsAs K.Key.Shape K.is_proper K.said K.KeyClass D.state self.old self.new
             (bring_events result) }
         ensures device { IsRead D.state self.old self.new }
+        ensures told { TellsWhere D.state self.old self.new result }
     {
         a_class_is_lawful::<K>();
         match self.storage.bring(page) {
@@ -66,6 +67,7 @@ impl<D: SectorDisk, K: ReadKeys> Engine<D, K> {
             (bring_events result) }
         ensures order { IsOrderly self.old × IsOrderly self.new }
         ensures device { IsRead D.state self.old self.new }
+        ensures told { TellsWhere D.state self.old self.new result }
     {
         self.in_order();
         if self.sessions.has_failed() {

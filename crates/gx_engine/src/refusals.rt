@@ -2,7 +2,8 @@
 ghost use Rattle.std.specs.Prelude.{◌≡◌, ◌-◌, true};
 ghost use Rattle.gx_machine.specs.Machine.{is_session};
 ghost use Rattle.gx_phases.specs.Moves.{answered_state, failed_state, is_open};
-ghost use Rattle.gx_engine.specs.Calls.{IsRead};
+ghost use Rattle.gx_store.specs.Faults.{store_fails};
+ghost use Rattle.gx_engine.specs.Calls.{IsRead, outcome_fails};
 ghost use Rattle.gx_engine.specs.Refusals.{IsRefused, IsTurnedAway, log_need, need_of};
 ghost use Rattle.gx_engine.specs.Setting.{phase_in};
 
@@ -58,6 +59,8 @@ impl<D: SectorDisk, K: ReadKeys> Engine<D, K> {
     // Pages were refused: what helps, or the engine has failed.
     pub(crate) fn refuse(&mut self, fault: StoreFault) -> Outcome<K::Key>
         ensures refused { IsRefused fault self.old self.new result }
+        ensures volume { self.new.volume ≡ self.old.volume }
+        ensures told { outcome_fails result ≡ store_fails fault }
         ensures device { IsRead D.state self.old self.new }
     {
         match fault {
@@ -83,6 +86,8 @@ impl<D: SectorDisk, K: ReadKeys> Engine<D, K> {
     // Pages were refused in an event of no session: what helps, or the engine has failed.
     pub(crate) fn turn_away(&mut self, fault: StoreFault) -> Outcome<K::Key>
         ensures refused { IsTurnedAway fault self.old self.new result }
+        ensures volume { self.new.volume ≡ self.old.volume }
+        ensures told { outcome_fails result ≡ store_fails fault }
         ensures device { IsRead D.state self.old self.new }
     {
         match fault {

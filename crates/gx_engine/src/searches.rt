@@ -7,7 +7,7 @@ ghost use Rattle.gx_events.specs.Engines as laws;
 ghost use Rattle.gx_index_laws.specs.Classes.{entry_of};
 ghost use Rattle.gx_tree.specs.Found.{pairs_found};
 ghost use Rattle.gx_phases.specs.declared.phase.Phase.TheVariants.{Open};
-ghost use Rattle.gx_engine.specs.Calls.{IsRead};
+ghost use Rattle.gx_engine.specs.Calls.{IsRead, TellsAs, TellsWhere};
 ghost use Rattle.gx_engine.specs.declared.work.Work as declared;
 ghost use Rattle.gx_engine.specs.declared.work.Work.TheVariants.{Looks, Rests};
 ghost use Rattle.gx_engine.specs.Looks.{IsFirstUnless, work_before};
@@ -57,6 +57,7 @@ impl<D: SectorDisk, K: ReadKeys + Probing> Engine<D, K> {
             (calling session (Search query) (Looks look) self.old) self.new result
             (search_events session query result) }
         ensures device { IsRead D.state self.old self.new }
+        ensures told { TellsAs D.state self.old self.new result }
     {
         a_class_is_lawful::<K>();
         self.sessions.stands();
@@ -94,6 +95,7 @@ impl<D: SectorDisk, K: ReadKeys + Probing> Engine<D, K> {
             (calling session (Search query.now) (work_before begun look) self.old) self.new outcome
             (search_events session query.now outcome)) }
         ensures device { IsRead D.state self.old self.new }
+        ensures told { TellsWhere D.state self.old self.new result }
     {
         a_class_is_lawful::<K>();
         a_volume_shows_the_logs_tree::<D, K>();
@@ -130,6 +132,7 @@ impl<D: SectorDisk, K: ReadKeys + Probing> Engine<D, K> {
         ensures moves { IfErr result (λ outcome. MovesAs K.Key.Shape K.is_proper K.said K.KeyClass D.state session
             self.old self.new outcome (search_events session query.now outcome)) }
         ensures device { IsRead D.state self.old self.new }
+        ensures told { TellsWhere D.state self.old self.new result }
     {
         a_class_is_lawful::<K>();
         self.sessions.stands();
@@ -168,6 +171,7 @@ impl<D: SectorDisk, K: ReadKeys + Probing> Engine<D, K> {
         ensures moves { MovesSoAs K.Key.Shape K.is_proper K.said K.KeyClass D.state session self.old self.new result
             (AreSearching session query result) }
         ensures device { IsRead D.state self.old self.new }
+        ensures told { TellsAs D.state self.old self.new result }
     {
         a_class_is_lawful::<K>();
         match self.search_look(session, &query) {

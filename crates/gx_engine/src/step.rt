@@ -3,7 +3,7 @@ ghost use Rattle.std.specs.Prelude.{◌≡◌, ◌-◌, true, false};
 ghost use Rattle.gx_machine.specs.Machine.{is_session};
 ghost use Rattle.gx_phases.specs.declared.phase.Phase.TheVariants as phase;
 ghost use Rattle.gx_engine.specs.declared.work.Work as work;
-ghost use Rattle.gx_engine.specs.Calls.{IsRead, MakesCalls};
+ghost use Rattle.gx_engine.specs.Calls.{IsRead, MakesCalls, TellsAs};
 ghost use Rattle.gx_engine.specs.Lacking.{LacksOnlyThere};
 ghost use Rattle.gx_engine.specs.States.{IsOrderly};
 ghost use Rattle.gx_engine.specs.Stepping.{has_call};
@@ -48,6 +48,7 @@ impl<D: SectorDisk, K: ReadKeys + Probing> Engine<D, K> {
         ensures steps { StepsAs K.Key.Shape K.is_proper K.said K.KeyClass D.state (Event.Move session) self.old self.new
             result }
         ensures device { IsRead D.state self.old self.new }
+        ensures told { TellsAs D.state self.old self.new result }
     {
         a_class_is_lawful::<K>();
         self.sessions.stands();
@@ -69,6 +70,7 @@ impl<D: SectorDisk, K: ReadKeys + Probing> Engine<D, K> {
         ensures steps { StepsAs K.Key.Shape K.is_proper K.said K.KeyClass D.state (Event.Move session) self.old self.new
             result }
         ensures device { IsRead D.state self.old self.new }
+        ensures told { TellsAs D.state self.old self.new result }
     {
         a_class_is_lawful::<K>();
         let failed = self.sessions.has_failed();
@@ -98,6 +100,7 @@ impl<D: SectorDisk, K: ReadKeys + Probing> Engine<D, K> {
         ensures comes { StepComesAs K.Key.Shape K.is_proper K.said K.KeyClass D.state event self.old self.new result }
         ensures steps { StepsAs K.Key.Shape K.is_proper K.said K.KeyClass D.state event self.old self.new result }
         ensures calls { MakesCalls D.state event self.old self.new }
+        ensures told { TellsAs D.state self.old self.new result }
     {
         self.sessions.stands();
         match event {
@@ -120,6 +123,8 @@ impl<D: SectorDisk, K: ReadKeys + Probing> Engine<D, K> {
     /// and no session claims. After a fault every ask and move is answered with `Failed`, and every other event
     /// refused with it.
     ///
+    /// It says `Device` exactly where a call of the device failed in it.
+    ///
     /// `More` did its work; `Help` changed nothing that anyone sees and names the event to run first; `Nothing` had
     /// nothing to do.
     #[tactic(auto, using(crate::proofs::Lacking::step_lacks))]
@@ -127,6 +132,7 @@ impl<D: SectorDisk, K: ReadKeys + Probing> Engine<D, K> {
         ensures comes { StepComesAs K.Key.Shape K.is_proper K.said K.KeyClass D.state event self.old self.new result }
         ensures steps { StepsAs K.Key.Shape K.is_proper K.said K.KeyClass D.state event self.old self.new result }
         ensures calls { MakesCalls D.state event self.old self.new }
+        ensures told { TellsAs D.state self.old self.new result }
         ensures memory { LacksOnlyThere event self.old result }
         ensures order { IsOrderly self.old × IsOrderly self.new }
     {

@@ -2,7 +2,7 @@
 ghost use Rattle.std.specs.Prelude.{◌≡◌, ◌≤◌, ◌<◌, true, false};
 ghost use Rattle.gx_store.specs.State.{IsHeld};
 ghost use Rattle.gx_storage.specs.Bringing.{has_removable};
-ghost use Rattle.gx_engine.specs.Calls.{IsRead};
+ghost use Rattle.gx_engine.specs.Calls.{IsRead, TellsAs};
 ghost use Rattle.gx_engine.specs.States.{is_due};
 ghost use Rattle.gx_engine.specs.Sweeping.{is_page, sweep_events};
 ghost use Rattle.gx_engine.specs.Setting.{LeadsAs, SweepComesAs, SweepsPageAs, may_sweep};
@@ -45,6 +45,7 @@ impl<D: SectorDisk, K: ReadKeys> Engine<D, K> {
         ensures leads { LeadsAs K.Key.Shape K.is_proper K.said K.KeyClass D.state self.old self.new
             (sweep_events result) }
         ensures device { IsRead D.state self.old self.new }
+        ensures told { TellsAs D.state self.old self.new result }
     {
         a_class_is_lawful::<K>();
         small_removals::<K>();
@@ -71,6 +72,7 @@ impl<D: SectorDisk, K: ReadKeys> Engine<D, K> {
         ensures leads { LeadsAs K.Key.Shape K.is_proper K.said K.KeyClass D.state self.old self.new
             (sweep_events result) }
         ensures device { IsRead D.state self.old self.new }
+        ensures told { TellsAs D.state self.old self.new result }
     {
         if !self.has_removable(page) {
             return Outcome::Nothing;
@@ -95,6 +97,7 @@ impl<D: SectorDisk, K: ReadKeys> Engine<D, K> {
         ensures leads { LeadsAs K.Key.Shape K.is_proper K.said K.KeyClass D.state self.old self.new
             (sweep_events result) }
         ensures device { IsRead D.state self.old self.new }
+        ensures told { TellsAs D.state self.old self.new result }
     {
         if self.sessions.has_failed() {
             return Outcome::Refused(Refusal::Failed);

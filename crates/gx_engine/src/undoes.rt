@@ -2,7 +2,11 @@
 ghost use Rattle.std.specs.Prelude.{◌≡◌, ◌-◌, ℕ, true, false, None, Some};
 ghost use Rattle.gx_machine.specs.Machine.{is_session};
 ghost use Rattle.gx_txn.specs.declared.note.Note as declared;
+ghost use Rattle.gx_node.specs.Owner.{step_fails};
 ghost use Rattle.gx_phases.specs.Moves.{is_undoing, next_of, transaction_of};
+ghost use Rattle.gx_store.specs.Faults.{store_fails};
+ghost use Rattle.gx_storage.specs.Setting.{ToldAs};
+ghost use Rattle.gx_engine.specs.Calls.{TellsAs};
 ghost use Rattle.gx_engine.specs.States.{is_due};
 ghost use Rattle.gx_engine.specs.Undoing.{AreUndoing, EndComes, IsNext, leaf_of, next_leaf, sought_state, undo_work};
 ghost use Rattle.gx_engine.specs.Setting.{MovesSoAs, RestoreComesAs, SeekingAs, UndoComesAs, phase_in};
@@ -73,6 +77,7 @@ impl<D: SectorDisk, K: ReadKeys + Probing> Engine<D, K> {
         ensures sought { SeekingAs K.Key.Shape K.is_proper K.said K.KeyClass D.state self.old.volume self.new.volume
             (transaction_of session self.old.sessions) note.now leaf result }
         ensures only { self.new ≡ record self.old { volume = self.new.volume } }
+        ensures told { ToldAs D.state (step_fails store_fails) self.old.volume.shelf self.new.volume.shelf result }
     {
         let transaction = self.sessions.transaction(session);
         self.storage
@@ -89,6 +94,7 @@ impl<D: SectorDisk, K: ReadKeys + Probing> Engine<D, K> {
               sessions = sought_state session next.restored n leaf sought
                   self.old.sessions;
             } }
+        ensures told { TellsAs D.state self.old self.new result }
     {
         match sought {
             Sought::Here(_, _) => self.sessions.restored(session, leaf, Work::Rests),
@@ -111,6 +117,7 @@ impl<D: SectorDisk, K: ReadKeys + Probing> Engine<D, K> {
             self.new result }
         ensures moves { MovesSoAs K.Key.Shape K.is_proper K.said K.KeyClass D.state session self.old self.new result
             (AreUndoing session self.old.sessions result) }
+        ensures told { TellsAs D.state self.old self.new result }
     {
         a_class_is_lawful::<K>();
         a_volume_shows_the_logs_tree::<D, K>();
@@ -143,6 +150,7 @@ impl<D: SectorDisk, K: ReadKeys + Probing> Engine<D, K> {
         ensures comes { UndoComesAs K.Key.Shape K.is_proper K.said K.KeyClass D.state session self.old self.new result }
         ensures moves { MovesSoAs K.Key.Shape K.is_proper K.said K.KeyClass D.state session self.old self.new result
             (AreUndoing session self.old.sessions result) }
+        ensures told { TellsAs D.state self.old self.new result }
     {
         if self.is_due() {
             return Outcome::Help(Need::Checkpoint);

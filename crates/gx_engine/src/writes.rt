@@ -1,10 +1,15 @@
 //! An insert's and a delete's moves.
-ghost use Rattle.std.specs.Prelude.{◌≡◌, ◌-◌, true, false};
+ghost use Rattle.std.specs.Prelude.{◌≡◌, ◌-◌, true, false, Some};
+ghost use Rattle.gx_machine.specs.declared.call.Call.{Call};
 ghost use Rattle.gx_machine.specs.declared.call.Call.TheVariants.{Delete, Insert};
 ghost use Rattle.gx_machine.specs.Machine.{is_session};
+ghost use Rattle.gx_tree.specs.Descending.{next_of};
+ghost use Rattle.gx_node.specs.Reach as reach;
 ghost use Rattle.gx_phases.specs.declared.phase.Phase.TheVariants.{Open};
-ghost use Rattle.gx_engine.specs.Calls.{IsRead};
+ghost use Rattle.gx_engine.specs.Calls.{IsRead, TellsAs};
 ghost use Rattle.gx_engine.specs.declared.work.Work as declared;
+ghost use Rattle.gx_engine.specs.declared.work.Work.TheVariants.{Descends};
+ghost use Rattle.gx_engine.specs.Moves.{calling};
 ghost use Rattle.gx_engine.specs.Writes.{AreWriting, WritesAs};
 ghost use Rattle.gx_engine.specs.Setting.{MovesSoAs, phase_in};
 
@@ -21,6 +26,58 @@ use gx_events::Outcome;
 use gx_geom::{Refusal, Shape};
 use gx_machine::Entry;
 use gx_phases::Phase;
+use gx_tree::{Descended, TraversalItem};
+
+impl<D: SectorDisk, K: ReadKeys> Engine<D, K> {
+    // A call descends at this item, to which it came from this page.
+    fn go_to(&mut self, session: u8, from: u32, item: TraversalItem) -> Outcome<K::Key>
+        requires session { is_session session ≡ true }
+        ensures outcome { result ≡ Outcome.More }
+        ensures there { (call : Call K.Key) (was : declared.Work K.Key) → phase_in session self.old ≡ Open call was
+            → self.new ≡ calling session call (Descends from item) self.old }
+        ensures device { IsRead D.state self.old self.new }
+        ensures told { TellsAs D.state self.old self.new result }
+    {
+        self.sessions
+            .replace_work(session, Work::Descends(from, item));
+        Outcome::More
+    }
+
+    // A call's descent begins again at the root.
+    fn begin_again(&mut self, session: u8) -> Outcome<K::Key>
+        requires session { is_session session ≡ true }
+        ensures outcome { result ≡ Outcome.More }
+        ensures there { (call : Call K.Key) (was : declared.Work K.Key) → phase_in session self.old ≡ Open call was
+            → self.new ≡ calling session call (Descends 0 (record { page = 1; seen = self.old.volume.shelf.counter }))
+            self.old }
+        ensures device { IsRead D.state self.old self.new }
+        ensures told { TellsAs D.state self.old self.new result }
+    {
+        let root = TraversalItem::new(1, self.storage.counter());
+        self.go_to(session, 0, root)
+    }
+
+    // A step at an item's page has gone down, and the descent with it.
+    fn go_down(
+        &mut self,
+        session: u8,
+        from: &TraversalItem,
+        did: &Descended<K::Key>,
+    ) -> Outcome<K::Key>
+        requires session { is_session session ≡ true }
+        ensures outcome { result ≡ Outcome.More }
+        ensures there { (next : reach.TraversalItem) → next_of did.now ≡ Some next
+            → (call : Call K.Key) (was : declared.Work K.Key) → phase_in session self.old ≡ Open call was
+            → self.new ≡ calling session call (Descends from.now.page next) self.old }
+        ensures device { IsRead D.state self.old self.new }
+        ensures told { TellsAs D.state self.old self.new result }
+    {
+        let next = did
+            .next()
+            .unwrap_or(TraversalItem::new(from.page(), from.seen()));
+        self.go_to(session, from.page(), next)
+    }
+}
 
 impl<D: SectorDisk, K: ReadKeys + Probing> Engine<D, K> {
     /// A move of a session's insert, which is open. It looks for its pair, a page a move; where that stands, it seeks
@@ -42,6 +99,7 @@ impl<D: SectorDisk, K: ReadKeys + Probing> Engine<D, K> {
         ensures moves { MovesSoAs K.Key.Shape K.is_proper K.said K.KeyClass D.state session self.old self.new result
             (AreWriting session (Insert entry) result) }
         ensures device { IsRead D.state self.old self.new }
+        ensures told { TellsAs D.state self.old self.new result }
     {
         self.sessions.stands();
         match self.sessions.phase(session) {
@@ -73,6 +131,7 @@ impl<D: SectorDisk, K: ReadKeys + Probing> Engine<D, K> {
         ensures moves { MovesSoAs K.Key.Shape K.is_proper K.said K.KeyClass D.state session self.old self.new result
             (AreWriting session (Delete entry) result) }
         ensures device { IsRead D.state self.old self.new }
+        ensures told { TellsAs D.state self.old self.new result }
     {
         self.sessions.stands();
         match self.sessions.phase(session) {

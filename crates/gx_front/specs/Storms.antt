@@ -6,7 +6,7 @@ use Rattle.gx_geom.specs.declared.refusal.Refusal.TheVariants as refusal
 use Rattle.gx_machine.specs.Keys.{Keys}
 use Rattle.gx_machine.specs.Machine.{fresh_machine}
 use Rattle.gx_events.specs.declared.engine.Events.{Ghosts}
-use Rattle.gx_disk.specs.declared.memory.MemDisk.{MemDisk}
+use Rattle.gx_disk.specs.declared.ram.RamDisk.{RamDisk}
 use Rattle.gx_engine.specs.States.{Parts}
 use Rattle.gx_engine_events.specs.New.{IsNew}
 use Rattle.gx_commands.specs.Scripts.{TellsFault}
@@ -27,25 +27,25 @@ sound_line calls = codes "storm ok calls " ++ (decimal calls ++ (10 ∷ []))
 abbrev pub differs_line : ℕ → List ℕ
 differs_line place = codes "storm mismatch at " ++ (decimal place ++ (10 ∷ []))
 
--- That it is sound is told: its line was written; or a front of it, where the writer takes no more, of which the user
--- is told.
+-- A sound storm's line was written; or a beginning of it, where the writer takes no more, and then the user gets a
+-- sentence.
 abbrev pub TellsSound : ℕ → Outputs → Outputs → ℕ → Type 0
 TellsSound calls old new status =
     ((status ≡ 0) × (Appends old.replies.bytes new.replies.bytes (sound_line calls) × (new.person ≡ old.person)))
     ⊎ ((status ≡ 1) × (IsCut old.replies.bytes new.replies.bytes (sound_line calls)
     × (TakesNoMore new.replies × TellsFault Write new.replies.kind old.person new.person)))
 
--- what the user is told of it
+-- the user's sentence of it
 abbrev pub differs_sentence : List ℕ
 differs_sentence = codes "a reply isn't the one that the plain index gives"
 
--- a place is told, and the user what it is
+-- the place is written, and the user's sentence says what it is
 pub record TellsPlace (place : ℕ) (old new : Outputs) (status : ℕ) : Type 0 where
   pub status_is : status ≡ 1
   pub told : Prints (differs_line place) old.replies new.replies
   pub heard : TellsPerson differs_sentence old.person new.person
 
--- a verdict is told
+-- what is written of a verdict
 abbrev pub TellsVerdict : Storm → Verdict → Outputs → Outputs → ℕ → Type 0
 TellsVerdict storm verdict.Sound old new status = TellsSound (storm.sessions * storm.calls) old new status
 TellsVerdict storm (verdict.Mismatch place) old new status = TellsPlace place old new status
@@ -53,25 +53,25 @@ TellsVerdict storm (verdict.Refused why) old new status = Refuses why old new st
 
 -- what an engine of boxes over a device in memory is seen as, and what its events make of it
 abbrev pub MemoryEvents : Type 1
-MemoryEvents = Ghosts (Parts Rectangle MemDisk) Rectangle
+MemoryEvents = Ghosts (Parts Rectangle RamDisk) Rectangle
 
 -- A new index in memory, of 4,096 pages with at most 8 entries in a node, and with 64 frames. Nothing is committed.
-pub record IsFresh (events : MemoryEvents) (e : Parts Rectangle MemDisk) : Type 0 where
+pub record IsFresh (events : MemoryEvents) (e : Parts Rectangle RamDisk) : Type 0 where
   pub new : IsNew 4096 8 64 e
   pub seen : events.sees e fresh_machine
 
 -- A storm over such an index was judged, which is reported. Nothing has to be granted of a device in memory.
 pub record WasJudged (k : Keys Rectangle) (events : MemoryEvents) (storm : Storm) (old new : Outputs)
     (status : ℕ) : Type 0 where
-  pub index : Parts Rectangle MemDisk
+  pub index : Parts Rectangle RamDisk
   pub fresh : IsFresh events index
   pub granted : events.granted
   pub said : Verdict
-  pub after : Parts Rectangle MemDisk
+  pub after : Parts Rectangle RamDisk
   pub ends : EndsStorm k events (events.sees index) storm said after
   pub told : TellsVerdict storm said old new status
 
--- how a storm may end: memory lacks for it, or the device fails for lack of it, which is reported; or it is judged
+-- how a storm may end: memory lacks for it, which is reported; or it is judged
 abbrev pub EndsStormed : Keys Rectangle → MemoryEvents → Storm → Outputs → Outputs → ℕ → Type 0
 EndsStormed k events storm old new status =
-    Refuses refusal.Memory old new status ⊎ (Refuses refusal.Device old new status ⊎ WasJudged k events storm old new status)
+    Refuses refusal.Memory old new status ⊎ WasJudged k events storm old new status

@@ -154,7 +154,7 @@ fn a_storm_is_sound(rt: HostRuntime) {
     );
 }
 
-// A file that can't be opened is told, and the script isn't read.
+// A file that can't be opened is named, and the script isn't read.
 #[test]
 fn no_file(rt: HostRuntime) {
     let none = b"refused 11 device\n\0";
@@ -191,7 +191,7 @@ struct Case {
     told: &'static [u8],
 }
 
-// A call that is done, and tells nothing of faults.
+// A call that is done, and prints nothing on standard error.
 const fn done(
     words: &'static [&'static str],
     script: &'static [u8],
@@ -310,8 +310,8 @@ fn what_is_committed_is_in_the_file(rt: HostRuntime) {
     let _ = fs::remove_file(&rt, "south");
 }
 
-// A file that another has, one that isn't there, and three that hold no index: each is told, and none is made, extended
-// or changed.
+// A file that another has, one that isn't there, and three that hold no index: each is named, and none is made,
+// extended or changed.
 #[test]
 fn files_that_hold_no_index(rt: HostRuntime) {
     carries_out(

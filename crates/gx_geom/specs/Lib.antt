@@ -4,3 +4,6 @@ pub mod Points
 pub mod Refusals
 pub mod Spans
 pub mod SpanLaws
+pub mod Solids
+pub mod SolidLaws
+pub mod SolidPoints

@@ -1,7 +1,8 @@
 //! Closed boxes of the plane.
-ghost use Rattle.std.specs.Prelude.{◌≡◌, ◌&&◌, ◌↔◌, ◌≤◌, ◌≤ℤ◌, ◌-ℤ◌, unsigned_abs};
+ghost use Rattle.std.specs.Prelude.{◌≡◌, ◌&&◌, ◌↔◌, ◌≤ℤ◌};
 ghost use Rattle.std.specs.Prelude.{int_le, IsTrue, IsOk, IfOk, OnErr, Some};
 
+use crate::axis::{at_most, both, distance};
 use crate::{Refusal, Shape};
 use std::fmt;
 use std::marker::Model;
@@ -27,29 +28,6 @@ impl Model for Box2 {
     ghost invariant = { λ b. IsBox (record { x1 = b.x1; y1 = b.y1; x2 = b.x2; y2 = b.y2 }) };
 
     ghost inverse = { λ b. record { x1 = b.x1; y1 = b.y1; x2 = b.x2; y2 = b.y2 } };
-}
-
-/// How far a number is above another. The difference may not fit in an `i32`, but its bits are the distance.
-fn distance(low: i32, high: i32) -> u32
-    requires { low ≤ℤ high }
-    ensures { result ≡ unsigned_abs (high -ℤ low) }
-{
-    high.wrapping_sub(low).cast_unsigned()
-}
-
-/// Whether the second number is at least the first.
-fn at_most(low: i32, high: i32) -> bool
-    ensures { result ≡ int_le low high }
-{
-    low <= high
-}
-
-/// Both, with no branch between them: where many boxes are tested one after another, a branch on the first test is
-/// foreseen in half of them at best.
-fn both(first: bool, second: bool) -> bool
-    ensures { result ≡ (first && second) }
-{
-    first & second
 }
 
 impl Box2 {

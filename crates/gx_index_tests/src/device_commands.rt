@@ -241,7 +241,8 @@ fn refusals(rt: HostRuntime) {
     }
 }
 
-// The tree has what a transaction that was left open inserted, marked by the opening that undid it.
+// The tree has what a transaction that was left open inserted, marked by the opening that undid it; and dumps change
+// nothing for the script behind them.
 #[test]
 fn trees_are_told(rt: HostRuntime) {
     let Some(disk) = fresh(rt.alloc()) else {
@@ -257,8 +258,14 @@ fn trees_are_told(rt: HostRuntime) {
     let text =
         b"commits 1 used 2 counter 0\npage 1 level 1 nsn 0 right 0 count 1\nchild 2 0 0 10 10\npage 2 level 0 nsn 0 right 0 count 2\nentry 7 0 0 10 10 live\nentry 8 5 5 6 6 marked\n";
     let (disk, first) = dump(rt.alloc(), disk);
-    let (_, second) = dump(rt.alloc(), disk);
+    let (disk, second) = dump(rt.alloc(), disk);
     assert!(rt; first.is(0, text) && second.is(0, text));
+    gives(
+        &rt,
+        disk,
+        b"1 BEGIN\n1 WITHIN 0 0 10 10\n1 INSERT 9 1 1 2 2\n1 COMMIT\n",
+        b"1 ok\n1 found 1\n1 entry 7 0 0 10 10\n1 inserted\n1 committed 2\n",
+    );
 }
 
 // A writer without room ends a dump, as does a device that isn't formatted.

@@ -34,6 +34,13 @@ IsWhyBehind old new why Memory = new ≡ old
 IsWhyBehind old new why (Broken page rule) = Unit {0}
 IsWhyBehind old new why Unsteady = Unit {0}
 
+-- how many calls failed where a test is refused: as many as its pages' fault says, and else none
+abbrev pub test_fails : {F : Type 0} → (F → ℕ) → LegalityFault F → ℕ
+test_fails fails (Pages fault) = fails fault
+test_fails fails Memory = 0
+test_fails fails (Broken page rule) = 0
+test_fails fails Unsteady = 0
+
 -- what a test says of pages that show the same each time: what it names is so
 abbrev pub IsFound : {F : Type 0} → (ℕ → Rule → Type 0) → LegalityFault F → Type 0
 IsFound breaks (Broken page rule) = breaks page rule

@@ -7,11 +7,11 @@ ghost use Rattle.gx_node.specs.Edits.{entry_of};
 ghost use Rattle.gx_node.specs.Reading.{format_of, is_node};
 ghost use Rattle.gx_node.specs.Legal.{Linked};
 ghost use Rattle.gx_node.specs.Trees.{Pair, Used, leaves};
-ghost use Rattle.gx_node.specs.Owner.{IsWhyLater};
+ghost use Rattle.gx_node.specs.Owner.{CountsFaults, IsWhyLater};
 ghost use Rattle.gx_node.specs.Store.{node_at, node_of, tree_of};
 ghost use Rattle.gx_legality.specs.Entries.{IsPairTwice, entries_on};
 ghost use Rattle.gx_legality.specs.Gathered.{Ascends, Gathers, StandsTwice};
-ghost use Rattle.gx_legality.specs.Owner.{OnlyReads, IsWhy, IsFound};
+ghost use Rattle.gx_legality.specs.Owner.{OnlyReads, IsWhy, IsFound, test_fails};
 ghost use Rattle.gx_legality.specs.Placing.{Moves, come_to, is_noted, met, noted, passed};
 
 use crate::fault::{LegalityFault, Rule};
@@ -96,6 +96,7 @@ fn take_leaf<K: KeyClass, P: Pages<K>>(
     requires in_order { Ascends (entry_cmp (keys_of K.Key.Shape)) (noted notes.now) }
     ensures reads { OnlyReads P.steady P.store P.since pages.old pages.new }
     ensures why { IfErr result (IsWhy (P.why pages.old pages.new)) }
+    ensures told { CountsFaults (test_fails P.fails) (P.faults pages.old) (P.faults pages.new) result }
     ensures later { OnOk result (IsWhyLater P.why pages.old pages.new) }
     ensures above { gather.new.above ≡ gather.old.above }
     ensures right { P.steady pages.old → IfOk result (λ right. right ≡ (node_at (P.store pages.old).nodes page).right) }
@@ -132,6 +133,7 @@ pub(crate) fn take_leaves<K: KeyClass, P: Pages<K>>(
     requires in_order { Ascends (entry_cmp (keys_of K.Key.Shape)) (noted notes.now) }
     ensures reads { OnlyReads P.steady P.store P.since pages.old pages.new }
     ensures why { IfErr result (IsWhy (P.why pages.old pages.new)) }
+    ensures told { CountsFaults (test_fails P.fails) (P.faults pages.old) (P.faults pages.new) result }
     ensures later { OnOk result (IsWhyLater P.why pages.old pages.new) }
     ensures above { gather.new.above ≡ gather.old.above }
     ensures gathers { P.steady pages.old → Linked (tree_of (P.store pages.old)) 2 (leaves (tree_of (P.store pages.old)))

@@ -4,7 +4,7 @@ ghost use Rattle.std.specs.Prelude.{length, slice_index_or, OnOk, IfOk, IfErr, I
 ghost use Rattle.gx_node.specs.Legal.{Legal, NodeFits};
 ghost use Rattle.gx_node.specs.Trees.{Tree, Rules, Used, parents};
 ghost use Rattle.gx_node.specs.Keyed.{rules_of};
-ghost use Rattle.gx_node.specs.Owner.{IsWhyLater};
+ghost use Rattle.gx_node.specs.Owner.{CountsFaults, IsWhyLater};
 ghost use Rattle.gx_node.specs.Store.{node_at, tree_of};
 ghost use Rattle.gx_machine.specs.Keys.{keys_of, entry_cmp};
 ghost use Rattle.gx_node.specs.Lists.{Each};
@@ -13,7 +13,7 @@ ghost use Rattle.gx_legality.specs.Gathered.{Ascends, gathered_above};
 ghost use Rattle.gx_legality.specs.Placing.{BreaksOrLeavesOut, IsPlaced, noted, stage_at};
 ghost use Rattle.gx_legality.specs.declared.notes.NoteStage.TheVariants.{Ahead};
 ghost use Rattle.gx_legality.specs.Marks.{AreLinks, HasShape, IsLegalButPairs, marked};
-ghost use Rattle.gx_legality.specs.Owner.{OnlyReads, IsWhy, IsWhyBehind, IsFound, TellsBreak, WereHeld};
+ghost use Rattle.gx_legality.specs.Owner.{OnlyReads, IsWhy, IsWhyBehind, IsFound, TellsBreak, WereHeld, test_fails};
 
 use crate::chain::test_chain;
 use crate::fault::{LegalityFault, Rule};
@@ -82,6 +82,7 @@ fn test_root<K: KeyClass, P: Pages<K>>(
 ) -> Result<(), LegalityFault<P::Fault>>
     ensures reads { OnlyReads P.steady P.store P.since pages.old pages.new }
     ensures why { IfErr result (IsWhy (P.why pages.old pages.new)) }
+    ensures told { CountsFaults (test_fails P.fails) (P.faults pages.old) (P.faults pages.new) result }
     ensures later { OnOk result (IsWhyLater P.why pages.old pages.new) }
     ensures counter { OnOk result ((P.store pages.old).counter + 2 ≤ length (P.store pages.old).nodes) }
     ensures root { P.steady pages.old → OnOk result (0 < (node_at (P.store pages.old).nodes 1).level) }
@@ -115,6 +116,7 @@ fn test_shape<K: KeyClass, P: Pages<K>>(
     requires unpassed { (q : ℕ) → marked passed.old q ≡ 0 }
     ensures reads { OnlyReads P.steady P.store P.since pages.old pages.new }
     ensures why { IfErr result (IsWhy (P.why pages.old pages.new)) }
+    ensures told { CountsFaults (test_fails P.fails) (P.faults pages.old) (P.faults pages.new) result }
     ensures later { OnOk result (IsWhyLater P.why pages.old pages.new) }
     ensures counter { OnOk result ((P.store pages.old).counter + 2 ≤ length (P.store pages.old).nodes) }
     ensures root { P.steady pages.old → OnOk result (0 < (node_at (P.store pages.old).nodes 1).level) }
@@ -147,6 +149,7 @@ fn test_leaves<K: KeyClass, P: Pages<K>>(
     requires in_order { Ascends (entry_cmp (keys_of K.Key.Shape)) (noted notes.now) }
     ensures reads { OnlyReads P.steady P.store P.since pages.old pages.new }
     ensures why { IfErr result (IsWhy (P.why pages.old pages.new)) }
+    ensures told { CountsFaults (test_fails P.fails) (P.faults pages.old) (P.faults pages.new) result }
     ensures later { OnOk result (IsWhyLater P.why pages.old pages.new) }
     ensures legal { P.steady pages.old → IsLegalButPairs (rules_of K.Key.Shape most) (tree_of (P.store pages.old))
         → OnOk result (Legal (rules_of K.Key.Shape most) (tree_of (P.store pages.old))) }
@@ -184,6 +187,7 @@ pub fn test_tree<K: KeyClass, P: Pages<K>>(
     requires in_order { Ascends (entry_cmp (keys_of K.Key.Shape)) (noted notes.now) }
     ensures reads { OnlyReads P.steady P.store P.since pages.old pages.new }
     ensures why { IfErr result (IsWhyBehind pages.old pages.new (P.why pages.old pages.new)) }
+    ensures told { CountsFaults (test_fails P.fails) (P.faults pages.old) (P.faults pages.new) result }
     ensures later { OnOk result (IsWhyLater P.why pages.old pages.new) }
     ensures held { OnOk result (WereHeld P.steady P.store P.since P.held pages.old) }
     ensures legal { P.steady pages.old → OnOk result (Legal (rules_of K.Key.Shape most) (tree_of (P.store pages.old))) }

@@ -4,10 +4,10 @@ ghost use Rattle.gx_node.specs.Legal.{ChildFits, NodeFits};
 ghost use Rattle.gx_node.specs.Lists.{Each};
 ghost use Rattle.gx_node.specs.Trees.{Child, Used, size};
 ghost use Rattle.gx_node.specs.Keyed.{rules_of};
-ghost use Rattle.gx_node.specs.Owner.{IsWhyLater};
+ghost use Rattle.gx_node.specs.Owner.{CountsFaults, IsWhyLater};
 ghost use Rattle.gx_node.specs.Store.{node_at, tree_of};
 ghost use Rattle.gx_legality.specs.Nodes.{FitsAlone};
-ghost use Rattle.gx_legality.specs.Owner.{OnlyReads, IsWhy, IsFound, TellsBreak};
+ghost use Rattle.gx_legality.specs.Owner.{OnlyReads, IsWhy, IsFound, TellsBreak, test_fails};
 
 use crate::bounds::{child_at, test_alone, test_below};
 use crate::fault::{LegalityFault, Rule};
@@ -24,6 +24,7 @@ pub(crate) fn bring_pages<K: KeyClass, P: Pages<K>>(
     ensures held { OnOk result (Each (P.held pages.new) these.now) }
     ensures reads { OnlyReads P.steady P.store P.since pages.old pages.new }
     ensures why { IfErr result (IsWhy (P.why pages.old pages.new)) }
+    ensures told { CountsFaults (test_fails P.fails) (P.faults pages.old) (P.faults pages.new) result }
     ensures later { OnOk result (IsWhyLater P.why pages.old pages.new) }
     ensures found { IfErr result (IsFound (λ p rule. ⊥)) }
 {
@@ -45,6 +46,7 @@ fn test_child<K: KeyClass, P: Pages<K>>(
     ensures held { OnOk result (P.held pages.new page) }
     ensures reads { OnlyReads P.steady P.store P.since pages.old pages.new }
     ensures why { IfErr result (IsWhy (P.why pages.old pages.new)) }
+    ensures told { CountsFaults (test_fails P.fails) (P.faults pages.old) (P.faults pages.new) result }
     ensures later { OnOk result (IsWhyLater P.why pages.old pages.new) }
     ensures fits { P.steady pages.old → OnOk result ((c : Child K.Key)
         → slice_get (node_at (P.store pages.old).nodes page).children slot ≡ Some c
@@ -79,6 +81,7 @@ fn test_first<K: KeyClass, P: Pages<K>>(
     ensures held { OnOk result (P.held pages.new page) }
     ensures reads { OnlyReads P.steady P.store P.since pages.old pages.new }
     ensures why { IfErr result (IsWhy (P.why pages.old pages.new)) }
+    ensures told { CountsFaults (test_fails P.fails) (P.faults pages.old) (P.faults pages.new) result }
     ensures later { OnOk result (IsWhyLater P.why pages.old pages.new) }
     ensures count { P.steady pages.old → IfOk result (λ count. count ≡ size (node_at (P.store pages.old).nodes page)) }
     ensures leaf { P.steady pages.old → OnOk result ((node_at (P.store pages.old).nodes page).level ≡ 0
@@ -111,6 +114,7 @@ pub fn test_node<K: KeyClass, P: Pages<K>>(
     ensures held { OnOk result (P.held pages.new page) }
     ensures reads { OnlyReads P.steady P.store P.since pages.old pages.new }
     ensures why { IfErr result (IsWhy (P.why pages.old pages.new)) }
+    ensures told { CountsFaults (test_fails P.fails) (P.faults pages.old) (P.faults pages.new) result }
     ensures later { OnOk result (IsWhyLater P.why pages.old pages.new) }
     ensures fits { P.steady pages.old
         → OnOk result (NodeFits (rules_of K.Key.Shape most) (tree_of (P.store pages.old))

@@ -4,12 +4,12 @@ ghost use Rattle.std.specs.Prelude.{slice_index_or, slice_set, OnOk, IfErr};
 ghost use Rattle.gx_node.specs.Legal.{NodeFits};
 ghost use Rattle.gx_node.specs.Trees.{Used, times, child_pages, parents};
 ghost use Rattle.gx_node.specs.Keyed.{rules_of};
-ghost use Rattle.gx_node.specs.Owner.{IsWhyLater};
+ghost use Rattle.gx_node.specs.Owner.{CountsFaults, IsWhyLater};
 ghost use Rattle.gx_node.specs.Store.{node_at, node_of, tree_of};
 ghost use Rattle.gx_node.specs.Reading.{format_of};
 ghost use Rattle.gx_legality.specs.Breaks.{Breaks};
 ghost use Rattle.gx_legality.specs.Marks.{AreLinks, IsTwice, link_of, marked};
-ghost use Rattle.gx_legality.specs.Owner.{OnlyReads, IsWhy, IsFound, TellsBreak, WereHeld};
+ghost use Rattle.gx_legality.specs.Owner.{OnlyReads, IsWhy, IsFound, TellsBreak, WereHeld, test_fails};
 
 use crate::fault::{LegalityFault, Rule};
 use crate::named::mark_children;
@@ -43,6 +43,7 @@ fn test_page<K: KeyClass, P: Pages<K>>(
     ensures held { OnOk result (P.held pages.new page) }
     ensures reads { OnlyReads P.steady P.store P.since pages.old pages.new }
     ensures why { IfErr result (IsWhy (P.why pages.old pages.new)) }
+    ensures told { CountsFaults (test_fails P.fails) (P.faults pages.old) (P.faults pages.new) result }
     ensures later { OnOk result (IsWhyLater P.why pages.old pages.new) }
     ensures fits { P.steady pages.old
         → OnOk result (NodeFits (rules_of K.Key.Shape most) (tree_of (P.store pages.old))
@@ -81,6 +82,7 @@ pub fn test_nodes<K: KeyClass, P: Pages<K>>(
     requires unlinked { slice_index_or links.old 0 None ≡ None }
     ensures reads { OnlyReads P.steady P.store P.since pages.old pages.new }
     ensures why { IfErr result (IsWhy (P.why pages.old pages.new)) }
+    ensures told { CountsFaults (test_fails P.fails) (P.faults pages.old) (P.faults pages.new) result }
     ensures later { OnOk result (IsWhyLater P.why pages.old pages.new) }
     ensures held { OnOk result (WereHeld P.steady P.store P.since P.held pages.old) }
     ensures fits { P.steady pages.old → OnOk result ((p : ℕ) → Used (tree_of (P.store pages.old)) p

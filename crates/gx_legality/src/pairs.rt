@@ -4,11 +4,11 @@ ghost use Rattle.gx_machine.specs.Keys.{keys_of, entry_cmp};
 ghost use Rattle.gx_node.specs.Legal.{Linked};
 ghost use Rattle.gx_node.specs.Trees.{Used, leaves, size, standing, is_entry};
 ghost use Rattle.gx_node.specs.Keyed.{rules_of};
-ghost use Rattle.gx_node.specs.Owner.{IsWhyLater};
+ghost use Rattle.gx_node.specs.Owner.{CountsFaults, IsWhyLater};
 ghost use Rattle.gx_node.specs.Store.{node_at, tree_of};
 ghost use Rattle.gx_legality.specs.Entries.{entries_on};
 ghost use Rattle.gx_legality.specs.Gathered.{Ascends, Gathers, gathered_above};
-ghost use Rattle.gx_legality.specs.Owner.{OnlyReads, IsWhy, TellsBreak};
+ghost use Rattle.gx_legality.specs.Owner.{OnlyReads, IsWhy, TellsBreak, test_fails};
 ghost use Rattle.gx_legality.specs.Placing.{Moves, is_noted, noted, passed};
 
 use crate::fault::{LegalityFault, Rule};
@@ -36,6 +36,7 @@ fn finish_passes<K: KeyClass, P: Pages<K>>(
     requires first { gather.old.above ≡ None }
     ensures reads { OnlyReads P.steady P.store P.since pages.old pages.new }
     ensures why { IfErr result (IsWhy (P.why pages.old pages.new)) }
+    ensures told { CountsFaults (test_fails P.fails) (P.faults pages.old) (P.faults pages.new) result }
     ensures later { OnOk result (IsWhyLater P.why pages.old pages.new) }
     ensures single { P.steady pages.old → Linked (tree_of (P.store pages.old)) 2 (leaves (tree_of (P.store pages.old)))
         → ((p : ℕ) → Used (tree_of (P.store pages.old)) p → size (node_at (P.store pages.old).nodes p) ≤ most)
@@ -80,6 +81,7 @@ pub(crate) fn test_pairs<K: KeyClass, P: Pages<K>>(
     requires in_order { Ascends (entry_cmp (keys_of K.Key.Shape)) (noted notes.now) }
     ensures reads { OnlyReads P.steady P.store P.since pages.old pages.new }
     ensures why { IfErr result (IsWhy (P.why pages.old pages.new)) }
+    ensures told { CountsFaults (test_fails P.fails) (P.faults pages.old) (P.faults pages.new) result }
     ensures later { OnOk result (IsWhyLater P.why pages.old pages.new) }
     ensures single { P.steady pages.old → Linked (tree_of (P.store pages.old)) 2 (leaves (tree_of (P.store pages.old)))
         → ((p : ℕ) → Used (tree_of (P.store pages.old)) p → size (node_at (P.store pages.old).nodes p) ≤ most)

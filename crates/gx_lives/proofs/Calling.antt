@@ -1,5 +1,6 @@
 -- What those who call an index do, as turns of its life.
-use Rattle.std.proofs.Common.{◌≡◌, ◌∙◌, ap, refl, inl, inr, ℕ, ◌+◌, Bool, true, false, List, [], ◌∷◌, ◌++◌, length, Option}
+use Rattle.std.proofs.Common.{◌≡◌, ◌∙◌, ap, sym, refl, inl, inr, subst, ℕ, ◌+◌, Bool, true, false, List, [], ◌∷◌, ◌++◌, append_assoc, Option}
+use Rattle.std.proofs.lemmas.List.{append-nil}
 use Rattle.std.specs.Prelude.{Result, Ok, Err}
 use Rattle.gx_geom.specs.Rectangles.{Rectangle}
 use Rattle.gx_geom.specs.declared.refusal.Refusal.{Refusal}
@@ -26,8 +27,9 @@ use Rattle.gx_script.specs.declared.fault.ScriptFault.TheVariants.{Read, Write}
 use Rattle.gx_script.specs.declared.line.Line.{Line}
 use Rattle.gx_script.specs.declared.line.Line.TheVariants.{Asks, Bad, Blank, Reversed}
 use Rattle.gx_script.specs.Scripts.{IsDone, IsScript, IsStopped, IsTold, asked, asked_as}
+use Rattle.gx_script.proofs.ScriptLemmas.{script_append}
 use Rattle.gx_shared.specs.Books.{IsMade, is_made, is_turned_away, is_unrecorded}
-use Rattle.gx_lives.specs.Calling.{AreLines, IsAnswered, IsCalled, IsExhausting, IsLine, IsOneEvent, IsSettled, IsSettling, LivesBy, LivesOn, turns_of}
+use Rattle.gx_lives.specs.Calling.{AreLines, DidSome, IsAnswered, IsCalled, IsExhausting, IsLine, IsOneEvent, IsSettled, IsSettling, LivesBy, LivesBySome, turns_of}
 use Rattle.gx_lives.specs.Lives.{Lives, Works}
 
 module _ {C B D : Type 0} (shape : Members B) (proper : B → Bool) (said : List ℕ → B) (class : Ghosts C B) (code : ℕ) (state : D → Device) where
@@ -42,29 +44,10 @@ module _ {C B D : Type 0} (shape : Members B) (proper : B → Bool) (said : List
       → LivesBy shape proper said class code state AreSo old new
   lives_by AreSo old new steps so made = record { steps = steps; so = so; lives = lives_made steps old new made }
 
-  -- some events led from one engine to another
-  record HasMade (old new : Parts B D) : Type 0 where
-    steps : List (Event B × Outcome B)
-    made : AreMade makes old steps new
-
-  none_made : (old new : Parts B D) → new ≡ old → HasMade old new
-  none_made old new same = record { steps = []; made = same }
-
-  both_made : (old middle new : Parts B D) → HasMade old middle → HasMade middle new → HasMade old new
-  both_made old middle new one other = record { steps = one.steps ++ other.steps; made = made_joined makes one.steps other.steps old middle new one.made other.made }
-
-  lives_on : (old new : Parts B D) → HasMade old new → LivesOn shape proper said class code state old new
-  lives_on old new has = lives_by (λ steps. Unit {0}) old new has.steps tt has.made
-
   -- a call
   pub answered : (old new : Parts B D) (s : ℕ) (call : Call B) (reply : Reply B) → IsDriven makes s (Ask s call) old reply new
       → LivesBy shape proper said class code state (IsAnswered s call reply) old new
   answered old new s call reply driven = lives_by (IsAnswered s call reply) old new driven.steps driven.driven driven.made
-
-  call_by : (ended : Bool) (old : State B D) (s : ℕ) (call : Call B) (reply : Reply B) (new : State B D) → CallsBy makes ended old s call reply new → HasMade old.engine new.engine
-  call_by true old s call reply new same = none_made old.engine new.engine (ap (λ (i : State B D). i.engine) same.1)
-  call_by false old s call reply new (inl driven) = record { steps = driven.0.steps; made = driven.0.made }
-  call_by false old s call reply new (inr given) = record { steps = given.0.1.steps; made = given.0.1.made }
 
   -- events of which this holds led from one engine to another
   abbrev MadeBy : (List (Event B × Outcome B) → Type 0) → Parts B D → Parts B D → Type 0
@@ -120,41 +103,53 @@ module _ {C B D : Type 0} (shape : Members B) (proper : B → Bool) (said : List
   held old new event outcome (is_unrecorded given made full same) =
       lives_by (IsOneEvent event) old.0 new.0 ((event, Replied given) ∷ []) (inr (Replied given, refl)) (new.0, made, refl)
 
+-- what a script that was stopped did of its lines
+module _ {I : Type 0} (answered : I → ℕ → Call Rectangle → Reply Rectangle → I → Type 0) where
+  pub record RanSome (had left held_so holds : Option (List ℕ)) (old new : I) : Type 0 where
+    pub lines : List Line
+    pub text : List ℕ
+    pub did : DidSome had left held_so holds lines text
+    pub ran : IsScript answered 1 lines old text new
+
+  pub did_some : (had left held_so holds : Option (List ℕ)) (old new : I) (fault : ScriptFault) → IsStopped answered had left held_so holds old new fault
+      → RanSome had left held_so holds old new
+  did_some had left held_so holds old new Read stopped = record {
+    lines = stopped.done;
+    text = stopped.text;
+    did = record {
+      input = stopped.input;
+      written = stopped.text;
+      unwritten = [];
+      read = stopped.read;
+      first = inl (stopped.begun, stopped.first);
+      wrote = stopped.wrote;
+      parts = sym (append-nil stopped.text);
+    };
+    ran = stopped.ran;
+  }
+  did_some had left held_so holds old new Write stopped =
+      let w = stopped.ran in
+      let text : List ℕ = w.settled ++ (w.late ++ stopped.unwritten) in
+      let all = script_append answered 1 w.before w.after old w.middle new w.settled (w.late ++ stopped.unwritten) w.ran w.runs in
+      record {
+        lines = stopped.done;
+        text = text;
+        did = record {
+          input = stopped.input;
+          written = stopped.written;
+          unwritten = stopped.unwritten;
+          read = stopped.read;
+          first = stopped.first;
+          wrote = stopped.wrote;
+          parts = sym (append_assoc w.settled w.late stopped.unwritten) ∙ ap (λ front. front ++ stopped.unwritten) (sym w.wrote);
+        };
+        ran = subst (λ lines. IsScript answered 1 lines old text new) (sym w.parts) all;
+      }
+
 -- a script of boxes
 module _ {C D : Type 0} (shape : Members Rectangle) (proper : Rectangle → Bool) (said : List ℕ → Rectangle) (class : Ghosts C Rectangle) (code : ℕ) (state : D → Device) where
   abbrev Asked : State Rectangle D → ℕ → Call Rectangle → Reply Rectangle → State Rectangle D → Type 0
   Asked = CallsIndex (Makes shape proper said class state)
-
-  abbrev Made : State Rectangle D → State Rectangle D → Type 0
-  Made old new = HasMade shape proper said class code state old.engine new.engine
-
-  line_made : (n : ℕ) (line : Line) (old new : State Rectangle D) (text : List ℕ) → IsTold Asked n line old text new → Made old new
-  line_made n Blank old new text told = none_made shape proper said class code state old.engine new.engine (ap (λ (i : State Rectangle D). i.engine) told.1)
-  line_made n Bad old new text told = none_made shape proper said class code state old.engine new.engine (ap (λ (i : State Rectangle D). i.engine) told.1)
-  line_made n (Reversed session) old new text told = none_made shape proper said class code state old.engine new.engine (ap (λ (i : State Rectangle D). i.engine) told.1)
-  line_made n (Asks session call) old new text told = call_by shape proper said class code state old.ended old _ call told.0 new told.1
-
-  script_made : (n : ℕ) (lines : List Line) (old new : State Rectangle D) (text : List ℕ) → IsScript Asked n lines old text new → Made old new
-  script_made n [] old new text ran = none_made shape proper said class code state old.engine new.engine (ap (λ (i : State Rectangle D). i.engine) ran.1)
-  script_made n (line ∷ more) old new text ran =
-      both_made shape proper said class code state old.engine ran.2.engine new.engine (line_made n line old ran.2 ran.0 ran.3) (script_made (n + 1) more ran.2 new ran.1 ran.4)
-
-  stopped_made : (had left held_so holds : Option (List ℕ)) (old new : State Rectangle D) (fault : ScriptFault) → IsStopped Asked had left held_so holds old new fault → Made old new
-  stopped_made had left held_so holds old new Read stopped = script_made 1 stopped.done old new stopped.text stopped.ran
-  stopped_made had left held_so holds old new Write stopped =
-      let w = stopped.ran in
-      both_made shape proper said class code state old.engine w.middle.engine new.engine (script_made 1 w.before old w.middle w.settled w.ran)
-      (script_made (1 + length w.before) w.after w.middle new _ w.runs)
-
-  pub script_done : (had left held_so holds : Option (List ℕ)) (old new : State Rectangle D) → IsDone Asked had left held_so holds old new
-      → LivesOn shape proper said class code state old.engine new.engine
-  script_done had left held_so holds old new done =
-      lives_on shape proper said class code state old.engine new.engine (script_made 1 (asked done.input) old new done.text done.ran)
-
-  pub script_stopped : (had left held_so holds : Option (List ℕ)) (old new : State Rectangle D) (fault : ScriptFault) → IsStopped Asked had left held_so holds old new fault
-      → LivesOn shape proper said class code state old.engine new.engine
-  script_stopped had left held_so holds old new fault stopped =
-      lives_on shape proper said class code state old.engine new.engine (stopped_made had left held_so holds old new fault stopped)
 
   -- a script's events are those of its calls' replies, line by line
   abbrev LinesBy : (List (Event Rectangle × Outcome Rectangle) → Type 0) → State Rectangle D → State Rectangle D → Type 0
@@ -190,3 +185,13 @@ module _ {C D : Type 0} (shape : Members Rectangle) (proper : Rectangle → Bool
       → LivesBy shape proper said class code state (λ steps. AreLines n lines text old.ended steps new.ended) old.engine new.engine
   script_so n lines old new text ran =
       lives_so shape proper said class code state (λ steps. AreLines n lines text old.ended steps new.ended) old.engine new.engine (lines_so n lines old new text ran)
+
+  pub script_done : (had left held_so holds : Option (List ℕ)) (old new : State Rectangle D) (is : IsDone Asked had left held_so holds old new)
+      → LivesBy shape proper said class code state (λ steps. AreLines 1 (asked is.input) is.text old.ended steps new.ended) old.engine new.engine
+  script_done had left held_so holds old new is = script_so 1 (asked is.input) old new is.text is.ran
+
+  pub script_stopped : (had left held_so holds : Option (List ℕ)) (old new : State Rectangle D) (fault : ScriptFault) → IsStopped Asked had left held_so holds old new fault
+      → LivesBySome shape proper said class code state had left held_so holds old.ended new.ended old.engine new.engine
+  script_stopped had left held_so holds old new fault stopped =
+      let some = did_some Asked had left held_so holds old new fault stopped in
+      record { lines = some.lines; text = some.text; did = some.did; lives = script_so 1 some.lines old new some.text some.ran }

@@ -84,7 +84,7 @@ module _ {C B D : Type 0} (shape : Members B) (proper : B → Bool) (said : List
   Sets = HasSets shape proper said class state p
 
   -- an image that stands for a kept set of the index that an engine holds
-  image_of_index : (m : Machine B) (e : Parts B D) (s : Seen m e) (image : List ℕ) → durable.Stands k r s.index.log image → Has m image
+  pub image_of_index : (m : Machine B) (e : Parts B D) (s : Seen m e) (image : List ℕ) → durable.Stands k r s.index.log image → Has m image
   image_of_index m e s image stands =
       let set = set_of_image c lawful r s.index s.holds.whole m s.seen image stands in
       let same : stands.bodies ≡ set.bodies = bodies_one_way r (open_bodies image) stands.bodies set.bodies stands.told set.told in

@@ -29,7 +29,7 @@ use Rattle.gx_lives.specs.Bearing.{AreOf}
 use Rattle.gx_lives.specs.Later.{AreMatching, IsSearched, asks, changes, is_change}
 use Rattle.gx_lives.specs.Lives.{Turn}
 use Rattle.gx_lives.specs.Lives as life
-use Rattle.gx_lives.specs.Told.{TellsEvent, TellsReply, TellsTurn, TellsWork}
+use Rattle.gx_lives.specs.Told.{TellsEvent, TellsReply, TellsTurn, TellsUpkeep, TellsWork}
 use Rattle.gx_lives.proofs.Kept.{AllAre, idle_are, step_asks, step_changes, step_keeps_all}
 use Rattle.gx_lives.proofs.Told.{told, turn_told}
 use Rattle.gx_lives.proofs.Unchanged.{HoldsOnly, OpenFor, Unchanged, of_another, only_kept, open_kept, open_search, view_of_none}
@@ -53,6 +53,13 @@ module _ {B : Type 0} where
   of_work test durable fails (Replied r) steps none = no_step test steps none
   of_work test durable fails (Help need) steps none = no_step test steps none
   of_work test durable fails Nothing steps none = no_step test steps none
+
+  of_upkeep : (test : Step B → Bool) → ((number : ℕ) → test (Durable number) ≡ false) → test Fails ≡ false → (steps : List (Step B)) → TellsUpkeep steps
+      → list_any test steps ≡ false
+  of_upkeep test durable fails [] told = refl
+  of_upkeep test durable fails (Durable number ∷ steps) told = ap (λ b. b || list_any test steps) (durable number) ∙ of_upkeep test durable fails steps told
+  of_upkeep test durable fails (Fails ∷ steps) told = ap (λ b. b || list_any test steps) fails ∙ of_upkeep test durable fails steps told
+  of_upkeep test durable fails (other ∷ steps) told = absurd told
 
   -- steps of turns without a change tell of none
   of_reply : (s : ℕ) (r : Reply B) (steps : List (Step B)) → is_change r ≡ false → TellsReply s r steps → list_any step_changes steps ≡ false
@@ -79,6 +86,7 @@ module _ {B : Type 0} where
   turn_changes life.Crashes steps quiet is = no_step step_changes steps is
   turn_changes life.GivesUp steps quiet is = no_step step_changes steps is
   turn_changes (life.Refuses why) steps quiet is = no_step step_changes steps is
+  turn_changes life.Reads steps quiet told = of_upkeep step_changes (λ number. refl) refl steps told
 
   -- and of turns in which a session asks nothing, in none it asks
   reply_asks : (a s : ℕ) (r : Reply B) (steps : List (Step B)) → TellsReply s r steps → list_any (step_asks a) steps ≡ false
@@ -105,6 +113,7 @@ module _ {B : Type 0} where
   turn_asks a life.Crashes steps quiet is = no_step (step_asks a) steps is
   turn_asks a life.GivesUp steps quiet is = no_step (step_asks a) steps is
   turn_asks a (life.Refuses why) steps quiet is = no_step (step_asks a) steps is
+  turn_asks a life.Reads steps quiet told = of_upkeep (step_asks a) (λ number. refl) refl steps told
 
 module _ {B : Type 0} (k : Keys B) where
   -- what each step without a mark keeps, each turn without one keeps

@@ -1,6 +1,7 @@
 pub mod Calling
 pub mod Fitting
 pub mod Images
+pub mod Readings
 pub mod Lived
 pub mod OneRun
 pub mod Told
@@ -11,4 +12,5 @@ pub mod Later
 pub mod Beginning
 pub mod Narrow
 pub mod Undamaged
+pub mod Dumping
 pub mod OverDevices

@@ -27,6 +27,7 @@ use Rattle.gx_lives.specs.Bearing.{AreOf, Bears, HasSet, HasSets, IsOf, IsSeen}
 use Rattle.gx_lives.specs.Lives.{ComesUp, GoesOn, Lies, LiesOn, Lives, MayBeLeft, Stage, Turn, Works, WorksOn}
 use Rattle.gx_lives.specs.Lives as life
 use Rattle.gx_lives.proofs.Images.{come_up, event_went, given_up, kept_log, left_of_engine, refused_sets, says, since_event, since_opening}
+use Rattle.gx_lives.proofs.Readings.{read_on, read_sets, since_read, since_reading}
 
 module _ {C B D : Type 0} (shape : Members B) (proper : B → Bool) (said : List ℕ → B) (class : Ghosts C B) (code : ℕ) (state : D → Device) (p : Parameters) (fit : Fit p)
     (lawful : IsLawful (class_of shape proper (limits_of p)))
@@ -46,12 +47,15 @@ module _ {C B D : Type 0} (shape : Members B) (proper : B → Bool) (said : List
   left_working : (m : Machine B) (e : Parts B D) → IsSeen shape proper said class state p m e → (image : List ℕ) → MayBeLeft shape proper said class code state (Works e) image
       → HasSet shape proper said class state p m image
   left_working m e s image (inl may) = left_of_engine shape proper said class state p lawful m e s image may
-  left_working m e s image (inr (event, outcome, new, made, left)) = since_event shape proper said class state p lawful counts_now only_now m e new event outcome made s image left
+  left_working m e s image (inr (new, inl (event, outcome, made), left)) =
+      since_event shape proper said class state p lawful counts_now only_now m e new event outcome made s image left
+  left_working m e s image (inr (new, inr reading, left)) = since_reading shape proper said class code state p lawful counts_now only_now m e new reading s image left
 
   left_lying : (m : Machine B) (d : D) → HasSets shape proper said class state p m (state d) → (image : List ℕ) → MayBeLeft shape proper said class code state (Lies d) image
       → HasSet shape proper said class state p m image
   left_lying m d sets image (inl may) = sets.sets image may
-  left_lying m d sets image (inr (new, tried, left)) = since_opening shape proper said class state p lawful counts_now only_now fit m d new sets tried image left
+  left_lying m d sets image (inr (new, inl tried, left)) = since_opening shape proper said class state p lawful counts_now only_now fit m d new sets tried image left
+  left_lying m d sets image (inr (new, inr read, left)) = since_read shape proper said class code state p lawful counts_now only_now m d new sets read image left
 
   up_again : (m : Machine B) (IsLeft : List ℕ → Type 0) (d : D) → ((image : List ℕ) → IsLeft image → HasSet shape proper said class state p m image)
       → (sectors : ℕ) → sectors_of p.pages ≤ sectors → ComesUp sectors IsLeft (state d) → HasSets shape proper said class state p m (state d)
@@ -96,6 +100,9 @@ module _ {C B D : Type 0} (shape : Members B) (proper : B → Bool) (said : List
   goes_working m e life.GivesUp (Works new) same s = absurd same
   goes_working m e life.GivesUp (Lies d) same s =
       (m, refl, subst (λ (x : D). HasSets shape proper said class state p m (state x)) (sym same) (given_up shape proper said class state p lawful m e s))
+  goes_working m e life.Reads (Works new) reading s =
+      let on = read_on shape proper said class code state p lawful m e new reading s in (on.machine, (on.steps, on.told, on.runs), on.seen)
+  goes_working m e life.Reads (Lies d) none s = absurd none
   goes_working m e life.Opens new none s = absurd none
   goes_working m e (life.Refuses why) new none s = absurd none
 
@@ -110,6 +117,8 @@ module _ {C B D : Type 0} (shape : Members B) (proper : B → Bool) (said : List
   goes_lying m d (life.Refuses why) (Works e) none sets = absurd none
   goes_lying m d (life.Refuses why) (Lies new) tried sets =
       (m, refl, refused_sets shape proper said class state p lawful counts_now only_now fit m d new sets tried)
+  goes_lying m d life.Reads (Works e) none sets = absurd none
+  goes_lying m d life.Reads (Lies new) read sets = (m, ([], tt, refl), read_sets shape proper said class code state p lawful m d new sets read)
 
   goes : (m : Machine B) (old : Stage B D) (turn : Turn B) (new : Stage B D) → GoesOn shape proper said class code state old turn new → Bear m old → Went m turn new
   goes m (Works e) turn new on bears = goes_working m e turn new on bears

@@ -111,6 +111,7 @@ module _ {B : Type 0} (k : Keys B) where
   turn_told life.GivesUp old new same = none old new (TellsTurn life.GivesUp) refl same
   turn_told life.Opens old new (number, step) = one old new (Crashes number) (TellsTurn life.Opens) (number, refl) step
   turn_told (life.Refuses why) old new same = none old new (TellsTurn (life.Refuses why)) refl same
+  turn_told life.Reads old new upkeep = upkeep
 
   -- a life is a run
   pub told : (turns : List (Turn B)) (old new : Machine B) → AreOf k old turns new → Run old new (Tells turns)

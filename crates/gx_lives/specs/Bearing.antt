@@ -27,15 +27,17 @@ use Rattle.gx_recovery.specs.Damage.{records_of}
 use Rattle.gx_recovery.specs.Records.{Record}
 use Rattle.gx_lives.specs.Lives.{Lies, Stage, Turn, Works}
 use Rattle.gx_lives.specs.Lives as life
+use Rattle.gx_lives.specs.Told.{TellsUpkeep}
 
--- What a turn is of the machine: an event is what it does by its outcome; an opening is a crash of the machine, to a set that it keeps; nothing else
--- is anything to it.
+-- What a turn is of the machine: an event is what it does by its outcome; an opening is a crash of the machine, to a set that it keeps; a reading
+-- makes commits durable at most, or meets a fault; nothing else is anything to it.
 abbrev pub IsOf : {B : Type 0} → Keys B → Machine B → Turn B → Machine B → Type 0
 IsOf k old (life.Happens event outcome) new = events.Happens k old event outcome new
 IsOf k old life.Crashes new = new ≡ old
 IsOf k old life.GivesUp new = new ≡ old
 IsOf k old life.Opens new = (number : ℕ) × runs.IsStep k old (runs.Crashes number) new
 IsOf k old (life.Refuses why) new = new ≡ old
+IsOf {B} k old life.Reads new = (steps : List (runs.Step B)) × TellsUpkeep steps × runs.IsRun k old steps new
 
 -- turn by turn
 abbrev pub AreOf : {B : Type 0} → Keys B → Machine B → List (Turn B) → Machine B → Type 0

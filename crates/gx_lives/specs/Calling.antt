@@ -1,5 +1,6 @@
 -- What those who call an index do, as turns of its life.
-use Rattle.std.specs.Prelude.{ℕ, ◌≡◌, ◌+◌, ◌⊎◌, Bool, true, false, List, [], ◌∷◌, ◌++◌, Result, Ok, Err}
+use Rattle.std.specs.Prelude.{ℕ, ◌≡◌, ◌+◌, ◌⊎◌, Bool, true, false, List, [], ◌∷◌, ◌++◌, Option, Result, Ok, Err}
+use Rattle.std.specs.Io.KnownBytes.{Appends, Consumes, IsAtEnd}
 use Rattle.gx_class.specs.declared.class.KeyClass.{Ghosts}
 use Rattle.gx_disk.specs.Device.{Device}
 use Rattle.gx_engine.specs.Driven.{AreDriven}
@@ -19,7 +20,7 @@ use Rattle.gx_machine.specs.Keys.{Members}
 use Rattle.gx_script.specs.declared.line.Line.{Line}
 use Rattle.gx_script.specs.declared.line.Line.TheVariants.{Asks, Bad, Blank, Reversed}
 use Rattle.gx_script.specs.Replies.{bad_line, reply_text}
-use Rattle.gx_script.specs.Scripts.{asked_as}
+use Rattle.gx_script.specs.Scripts.{FirstLines, asked, asked_as}
 use Rattle.gx_lives.specs.Lives.{Lives, Turn, Works}
 use Rattle.gx_lives.specs.Lives as life
 
@@ -85,6 +86,32 @@ pub record LivesBy {C B D : Type 0} (shape : Members B) (proper : B → Bool) (s
   pub so : AreSo steps
   pub lives : Lives shape proper said class code state (Works old) (turns_of steps) (Works new)
 
--- by any events
-abbrev pub LivesOn : {C B D : Type 0} → Members B → (B → Bool) → (List ℕ → B) → Ghosts C B → ℕ → (D → Device) → Parts B D → Parts B D → Type 0
-LivesOn shape proper said class code state old new = LivesBy shape proper said class code state (λ steps. Unit {0}) old new
+-- These lines were done of what was read, the first that have ended or at the end of the input all of them; and of their text a front was written.
+pub record DidSome (had left held holds : Option (List ℕ)) (lines : List Line) (text : List ℕ) : Type 0 where
+  pub input : List ℕ
+  pub written : List ℕ
+  pub unwritten : List ℕ
+  pub read : Consumes had left input
+  pub first : ((rest : List ℕ) × FirstLines input lines rest) ⊎ (IsAtEnd left × (asked input ≡ lines))
+  pub wrote : Appends held holds written
+  pub parts : text ≡ written ++ unwritten
+
+-- A script that was stopped did some of its lines, by these events.
+pub record LivesBySome {C D : Type 0} (shape : Members Rectangle) (proper : Rectangle → Bool) (said : List ℕ → Rectangle) (class : Ghosts C Rectangle) (code : ℕ) (state : D → Device)
+    (had left held holds : Option (List ℕ)) (before after : Bool) (old new : Parts Rectangle D) : Type 0 where
+  pub lines : List Line
+  pub text : List ℕ
+  pub did : DidSome had left held holds lines text
+  pub lives : LivesBy shape proper said class code state (λ steps. AreLines 1 lines text before steps after) old new
+
+-- turns that read, and none that does anything else
+abbrev pub AreReads : {B : Type 0} → List (Turn B) → Type 0
+AreReads [] = Unit {0}
+AreReads (life.Reads ∷ turns) = AreReads turns
+AreReads (other ∷ turns) = ⊥
+
+-- An engine lived on by readings alone.
+pub record LivesByReading {C B D : Type 0} (shape : Members B) (proper : B → Bool) (said : List ℕ → B) (class : Ghosts C B) (code : ℕ) (state : D → Device) (old new : Parts B D) : Type 0 where
+  pub turns : List (Turn B)
+  pub reads : AreReads turns
+  pub lives : Lives shape proper said class code state (Works old) turns (Works new)

@@ -1,15 +1,19 @@
--- The life of an index on a device: events of an engine, crashes at any moment, and openings, of which a crash or a fault may cut some off.
+-- The life of an index on a device: events of an engine, readings, crashes at any moment, and openings, of which a crash or a fault may cut
+-- some off.
 use Rattle.std.specs.Prelude.{ℕ, ◌≡◌, ◌⊎◌, Bool, true, List, [], ◌∷◌}
 use Rattle.gx_geom.specs.declared.refusal.Refusal.{Refusal}
 use Rattle.gx_geom.specs.declared.refusal.Refusal.TheVariants.{Damaged}
 use Rattle.gx_class.specs.declared.class.KeyClass.{Ghosts}
 use Rattle.gx_disk.specs.Device.{Device, IsSettled, MayLeave}
 use Rattle.gx_engine.specs.States.{Parts}
+use Rattle.gx_engine.specs.Setting.{LeadsSoAs}
+use Rattle.gx_events.specs.Events as laws
 use Rattle.gx_events.specs.declared.event.Event.{Event}
 use Rattle.gx_events.specs.declared.outcome.Outcome.{Outcome}
 use Rattle.gx_machine.specs.Keys.{Members}
 use Rattle.gx_node.specs.Reading.{format_of}
 use Rattle.gx_engine.specs.Made.{Makes}
+use Rattle.gx_opening.specs.Formatted.{OnlyRests}
 use Rattle.gx_restart.specs.Beginning.{HasFailed, IsSameDevice}
 use Rattle.gx_restart.specs.Keeping.{KeepsItsSet}
 use Rattle.gx_restart.specs.Opened.{IsOpened}
@@ -20,13 +24,28 @@ pub data Stage (B D : Type 0) : Type 0 where
   Lies : (disk : D) → Stage B D
 
 -- What comes next: an event of the engine, with its outcome; a crash; the engine is given up, and its device is left as it is; the device is
--- opened; an opening is refused.
+-- opened; an opening is refused; pages are read, or the device is.
 pub data Turn (B : Type 0) : Type 0 where
   Happens : (event : Event B) (outcome : Outcome B) → Turn B
   Crashes : Turn B
   GivesUp : Turn B
   Opens : Turn B
   Refuses : (why : Refusal) → Turn B
+  Reads : Turn B
+
+-- events of an index that no session sees: work, commits that get durable, a fault
+abbrev pub AreUpkeep : {B : Type 0} → List (laws.Event B) → Type 0
+AreUpkeep [] = Unit {0}
+AreUpkeep (laws.Works ∷ events) = AreUpkeep events
+AreUpkeep (laws.Durable number ∷ events) = AreUpkeep events
+AreUpkeep (laws.Fails ∷ events) = AreUpkeep events
+AreUpkeep (other ∷ events) = ⊥
+
+-- A device was read, and perhaps settled: it has as many sectors and is as honest, nothing reads otherwise, and a crash leaves nothing that it
+-- couldn't leave before.
+pub record IsRead (d e : Device) : Type 0 where
+  pub same : IsSameDevice d e
+  pub only : OnlyRests d e
 
 -- A device of so many sectors comes up again behind a crash: it reads as an image that could be left, and nothing of it is pending.
 pub record ComesUp (many : ℕ) (IsLeft : List ℕ → Type 0) (d : Device) : Type 0 where
@@ -46,19 +65,31 @@ module _ {C B D : Type 0} (shape : Members B) (proper : B → Bool) (said : List
   abbrev pub IsTriedOn : D → D → Type 0
   IsTriedOn old new = IsTried shape proper said class (state old) (state new)
 
-  -- what a crash may leave now, and at each moment of an event or of an opening that begins now
+  -- A page was read, or what gives it a frame was done: whatever index the engine held, it holds what upkeep led to, and at each moment a crash
+  -- leaves what stands for a set that this index keeps.
+  abbrev pub IsReading : Parts B D → Parts B D → Type 0
+  IsReading old new = LeadsSoAs shape proper said class state old new AreUpkeep
+
+  -- what may begin of an engine, an event or a reading; and of a device, an opening or a reading
+  abbrev pub MayMake : Parts B D → Parts B D → Type 0
+  MayMake e new = ((event : Event B) × (outcome : Outcome B) × Makes shape proper said class state e event outcome new) ⊎ IsReading e new
+
+  abbrev pub MayTry : D → D → Type 0
+  MayTry d new = IsTriedOn d new ⊎ IsRead (state d) (state new)
+
+  -- what a crash may leave now, and at each moment of what begins now
   abbrev pub MayBeLeft : Stage B D → List ℕ → Type 0
   MayBeLeft (Works e) image =
       MayLeave (state e.volume.shelf.disk) image
-      ⊎ ((event : Event B) × (outcome : Outcome B) × (new : Parts B D) × Makes shape proper said class state e event outcome new
-      × (state new.volume.shelf.disk).left_since (state e.volume.shelf.disk).moment image)
-  MayBeLeft (Lies d) image = MayLeave (state d) image ⊎ ((new : D) × IsTriedOn d new × (state new).left_since (state d).moment image)
+      ⊎ ((new : Parts B D) × MayMake e new × (state new.volume.shelf.disk).left_since (state e.volume.shelf.disk).moment image)
+  MayBeLeft (Lies d) image = MayLeave (state d) image ⊎ ((new : D) × MayTry d new × (state new).left_since (state d).moment image)
 
   -- how an engine at work goes on
   abbrev pub WorksOn : Parts B D → Turn B → Stage B D → Type 0
   WorksOn e (Happens event outcome) (Works new) = Makes shape proper said class state e event outcome new
   WorksOn e Crashes (Lies d) = ComesUp (state e.volume.shelf.disk).sectors (MayBeLeft (Works e)) (state d)
   WorksOn e GivesUp (Lies d) = d ≡ e.volume.shelf.disk
+  WorksOn e Reads (Works new) = IsReading e new
   WorksOn e other new = ⊥
 
   -- what becomes of a device alone
@@ -67,6 +98,7 @@ module _ {C B D : Type 0} (shape : Members B) (proper : B → Bool) (said : List
   LiesOn d Opens (Works e) =
       IsTriedOn d e.volume.shelf.disk × IsOpened shape proper said (format_of class) code (state d) (state e.volume.shelf.disk) e
   LiesOn d (Refuses why) (Lies new) = IsTriedOn d new
+  LiesOn d Reads (Lies new) = IsRead (state d) (state new)
   LiesOn d other new = ⊥
 
   abbrev pub GoesOn : Stage B D → Turn B → Stage B D → Type 0

@@ -35,10 +35,18 @@ TellsEvent (WritePage page) outcome steps = TellsWork outcome steps
 TellsEvent CheckpointStep outcome steps = TellsWork outcome steps
 TellsEvent (Sweep page) outcome steps = TellsWork outcome steps
 
--- the steps of a turn: an opening is one crash
+-- steps of upkeep, which are no session's: commits get durable, a fault comes
+abbrev pub TellsUpkeep : {B : Type 0} → List (Step B) → Type 0
+TellsUpkeep [] = Unit {0}
+TellsUpkeep (Durable number ∷ steps) = TellsUpkeep steps
+TellsUpkeep (Fails ∷ steps) = TellsUpkeep steps
+TellsUpkeep (other ∷ steps) = ⊥
+
+-- the steps of a turn: an opening is one crash, a reading is upkeep
 abbrev pub TellsTurn : {B : Type 0} → Turn B → List (Step B) → Type 0
 TellsTurn (life.Happens event outcome) steps = TellsEvent event outcome steps
 TellsTurn life.Opens steps = (number : ℕ) × (steps ≡ Crashes number ∷ [])
+TellsTurn life.Reads steps = TellsUpkeep steps
 TellsTurn other steps = steps ≡ []
 
 -- turn by turn

@@ -11,14 +11,18 @@ ghost use Rattle.gx_geom.specs.declared.refusal.Refusal.{Refusal};
 ghost use Rattle.gx_machine.specs.declared.call.Call.{Call};
 ghost use Rattle.gx_machine.specs.declared.item.Item.{Item};
 ghost use Rattle.gx_machine.specs.declared.reply.Reply.{Reply};
+ghost use Rattle.gx_restart.specs.Bringing.{Brings, Helps};
 ghost use Rattle.gx_restart.specs.Called.{CallsIndex};
+ghost use Rattle.gx_restart.specs.declared.fault.DumpFault.{DumpFault};
+ghost use Rattle.gx_restart.specs.Dumped.{Dumps};
 ghost use Rattle.gx_restart.specs.Settled.{Settles};
 ghost use Rattle.gx_restart.specs.States.{State};
 ghost use Rattle.gx_script.specs.declared.fault.ScriptFault.{ScriptFault};
 ghost use Rattle.gx_script.specs.declared.line.Line.{Line};
-ghost use Rattle.gx_script.specs.Scripts.{IsDone, IsScript, IsStopped};
+ghost use Rattle.gx_script.specs.Scripts.{IsDone, IsScript, IsStopped, asked};
 ghost use Rattle.gx_shared.specs.Books.{IsMade};
-ghost use Rattle.gx_lives.specs.Calling.{AreLines, IsAnswered, IsCalled, IsOneEvent, IsSettled, LivesBy, LivesOn};
+ghost use Rattle.gx_lives.specs.Calling.{AreLines, IsAnswered, IsCalled, IsOneEvent, IsSettled, LivesBy};
+ghost use Rattle.gx_lives.specs.Calling.{LivesByReading, LivesBySome};
 ghost use Rattle.gx_lives.specs.Lives.{GoesOn, Works};
 ghost use Rattle.gx_lives.specs.Lives as life;
 
@@ -57,11 +61,25 @@ pub fn scripts_are_turns<D: SectorDisk, K: ReadKeys + KeyClass<Key = Box2>>()
         new → LivesBy ⟦<Box2 as Shape>⟧ K.is_proper K.said K.KeyClass K.CLASS D.state
         (λ steps. AreLines number lines text old.ended steps new.ended) old.engine new.engine }
     ensures done { (had left held holds : Option (List ℕ)) (old new : State Rectangle D)
-        → IsDone (CallsIndex (Makes ⟦<Box2 as Shape>⟧ K.is_proper K.said K.KeyClass D.state)) had left held holds old
-        new → LivesOn ⟦<Box2 as Shape>⟧ K.is_proper K.said K.KeyClass K.CLASS D.state old.engine new.engine }
+        → (is : IsDone (CallsIndex (Makes ⟦<Box2 as Shape>⟧ K.is_proper K.said K.KeyClass D.state)) had left held holds
+        old new) → LivesBy ⟦<Box2 as Shape>⟧ K.is_proper K.said K.KeyClass K.CLASS D.state
+        (λ steps. AreLines 1 (asked is.input) is.text old.ended steps new.ended) old.engine new.engine }
     ensures stopped { (had left held holds : Option (List ℕ)) (old new : State Rectangle D) (fault : ScriptFault)
         → IsStopped (CallsIndex (Makes ⟦<Box2 as Shape>⟧ K.is_proper K.said K.KeyClass D.state)) had left held holds old
-        new fault → LivesOn ⟦<Box2 as Shape>⟧ K.is_proper K.said K.KeyClass K.CLASS D.state old.engine new.engine }
+        new fault → LivesBySome ⟦<Box2 as Shape>⟧ K.is_proper K.said K.KeyClass K.CLASS D.state had left held holds
+        old.ended new.ended old.engine new.engine }
+{}
+
+/// A dump (`gx_restart::Index::dump`) is readings, each of which changes nothing that counts: a page that is brought
+/// (`Engine::bring_page`), or an event that gives one a frame. It is so also where it is stopped.
+pub fn dumps_are_turns<D: SectorDisk, K: ReadKeys>()
+    ensures page { (page : ℕ) (old new : Parts K.Key D) (result : Result (Unit {0}) (outcome.Outcome K.Key))
+        → Brings K.Key.Shape K.is_proper K.said K.KeyClass D.state page old result new
+        → GoesOn K.Key.Shape K.is_proper K.said K.KeyClass K.CLASS D.state (Works old) life.Reads (Works new) }
+    ensures dump { (old new : State K.Key D) (result : Result (Unit {0}) DumpFault)
+        → Dumps (Brings K.Key.Shape K.is_proper K.said K.KeyClass D.state)
+        (Helps K.Key.Shape K.is_proper K.said K.KeyClass D.state) old result new
+        → LivesByReading K.Key.Shape K.is_proper K.said K.KeyClass K.CLASS D.state old.engine new.engine }
 {}
 
 /// A hold of a book over an engine (`gx_shared::Book::apply_for`) is one turn of its life, or none where an ask is

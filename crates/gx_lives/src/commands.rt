@@ -1,48 +1,58 @@
-//! What a command does to a device is a life of its index. Each function is its contract alone.
-ghost use Rattle.std.specs.Prelude.{◌≡◌, ℕ, List, Ok, [], ◌∷◌, true};
-ghost use Rattle.gx_commands.specs.declared.watched.Watched.{Watched};
-ghost use Rattle.gx_commands.specs.Endings.{AnswersWatched, HasRun, WasRefused, device_of, watched_over};
-ghost use Rattle.gx_commands.specs.Openings.{Opens};
-ghost use Rattle.gx_commands.specs.Streams.{Outputs, Stream};
-ghost use Rattle.gx_engine.specs.States.{Parts};
+//! What commands do to a device is a life of its index. Each function is its contract alone.
+ghost use Rattle.std.specs.Prelude.{◌≡◌, List, true};
+ghost use Rattle.gx_commands.specs.Endings.{FormatsOver};
+ghost use Rattle.gx_commands.specs.Streams.{Outputs};
+ghost use Rattle.gx_format.specs.Fresh.{fresh_root};
 ghost use Rattle.gx_geom.specs.Rectangles.{Rectangle};
-ghost use Rattle.gx_restart.specs.States.{State};
-ghost use Rattle.gx_script.specs.declared.line.Line.{Line};
-ghost use Rattle.gx_script.specs.Scripts.{IsScript, asked};
-ghost use Rattle.gx_lives.specs.Commands.{LivesScript, MaySettle};
-ghost use Rattle.gx_lives.specs.Lives.{Lies, Lives};
-ghost use Rattle.gx_lives.specs.Lives as life;
+ghost use Rattle.gx_glog.specs.declared.parameters.Parameters.{Parameters};
+ghost use Rattle.gx_machine.specs.Machine.{Machine};
+ghost use Rattle.gx_opening.specs.Formatted.{IsAllowed};
+ghost use Rattle.gx_lives.specs.Bearing.{Bears};
+ghost use Rattle.gx_lives.specs.Commands.{AreGiven, AreOf, AreOfAll, Command, IsGiven, LivesSo};
+ghost use Rattle.gx_lives.specs.Lives.{Lies};
+ghost use Rattle.gx_lives.specs.OneRun.{IsNew, IsOneRun};
 
+use crate::laws::{an_index_lives_as_one_run, an_opening_finds_no_damage};
 use gx_class::KeyClass;
 use gx_disk::SectorDisk;
 use gx_durable::ReadKeys;
 use gx_geom::{Box2, Shape};
 
-/// A script that is run over an honest device (`gx_commands::run_over`) is a life: an opening; the events of its lines'
-/// calls, one after another, each up to exactly the reply that the text says; those of a settling, unless a reply told
-/// of a fault; and the engine is given up, which leaves the device that is handed back.
-///
-/// `done` is of a script that was read to its end; `stopped` of the lines of one that its reader or its writer stopped,
-/// behind which no event comes; `refused` of an opening that is refused, up to the device that it was refused on.
-pub fn scripts_over_devices_are_lives<D: SectorDisk, K: ReadKeys + KeyClass<Key = Box2>>()
-    ensures done { (frames : ℕ) (disk after : D) (engine : Parts Rectangle D) (had left : Stream) (from to : Outputs)
-        (status : ℕ) → (D.state disk).honest ≡ true
-        → Opens ⟦<Box2 as Shape>⟧ K.is_proper K.said K.KeyClass D.state K.CLASS frames disk (Ok engine)
-        → (is : HasRun ⟦<Box2 as Shape>⟧ K.is_proper K.said K.KeyClass D.state
-        (watched_over ⟦<Box2 as Shape>⟧ K.is_proper K.said K.KeyClass D.state engine) after had left from to status)
-        → LivesScript ⟦<Box2 as Shape>⟧ K.is_proper K.said K.KeyClass K.CLASS D.state disk after
-        (asked is.done.input) is.done.text (MaySettle is.new.met) }
-    ensures stopped { (frames : ℕ) (disk after : D) (engine : Parts Rectangle D) (lines : List Line) (text : List ℕ)
-        (new : Watched (State Rectangle D)) → (D.state disk).honest ≡ true
-        → Opens ⟦<Box2 as Shape>⟧ K.is_proper K.said K.KeyClass D.state K.CLASS frames disk (Ok engine)
-        → IsScript (AnswersWatched ⟦<Box2 as Shape>⟧ K.is_proper K.said K.KeyClass D.state) 1 lines
-        (watched_over ⟦<Box2 as Shape>⟧ K.is_proper K.said K.KeyClass D.state engine) text new
-        → after ≡ device_of new.index
-        → LivesScript ⟦<Box2 as Shape>⟧ K.is_proper K.said K.KeyClass K.CLASS D.state disk after lines text
-        (MaySettle true) }
-    ensures refused { (frames : ℕ) (disk after : D) (had left : Stream) (from to : Outputs) (status : ℕ)
-        → (D.state disk).honest ≡ true
-        → (is : WasRefused ⟦<Box2 as Shape>⟧ K.is_proper K.said K.KeyClass D.state K.CLASS frames disk after had left
-        from to status) → Lives ⟦<Box2 as Shape>⟧ K.is_proper K.said K.KeyClass K.CLASS D.state (Lies disk)
-        (life.Refuses is.refused.why ∷ []) (Lies is.refused.disk) }
+/// A command over a device that has an index is a life. A script (`gx_commands::run_over`) is an opening; the events
+/// of its lines' calls, one after another, each up to exactly the reply that the text says; those of a settling, whose
+/// result the status tells, unless a reply told of a fault; and the engine given up, which leaves the device that is
+/// handed back. Where its reader or its writer failed it is the lines that were done, of whose text a front was
+/// written, and no settling. A dump (`gx_commands::dump_over`) is an opening, readings, and the engine given up;
+/// verifying (`gx_commands::verify_over`) is a reading of the device. An opening that is refused is all that comes, and
+/// with frames in range only because a call of the device failed or memory was refused: so no device of a life is
+/// examined for damage.
+pub fn commands_are_lives<D: SectorDisk, K: ReadKeys + KeyClass<Key = Box2>>()
+    ensures { (p : Parameters) → IsAllowed K.CLASS p → (m : Machine Rectangle) (disk after : D) (command : Command)
+        → Bears ⟦<Box2 as Shape>⟧ K.is_proper K.said K.KeyClass D.state p m (Lies disk)
+        → IsGiven ⟦<Box2 as Shape>⟧ K.is_proper K.said K.KeyClass K.CLASS D.state disk command after
+        → LivesSo ⟦<Box2 as Shape>⟧ K.is_proper K.said K.KeyClass K.CLASS D.state (AreOf command) disk after }
+{
+    an_opening_finds_no_damage::<D, K>();
+}
+
+/// Where a format of an honest device (`gx_commands::format_over`) ended with status 0, the device is new: a life
+/// begins.
+pub fn a_format_begins_a_life<D: SectorDisk, K: ReadKeys>()
+    ensures { (p : Parameters) (disk after : D) (from to : Outputs) → (D.state disk).honest ≡ true
+        → FormatsOver D.state p (fresh_root K.spelling K.start_key) disk after from to 0
+        → IsNew K.KeyClass K.start_key D.state p after }
 {}
+
+/// Commands over a device that was formatted, one after another, each over what the one before it left, are one life,
+/// and so one run of the set machine: whatever each of them answered, also where it was refused or cut off.
+pub fn commands_are_one_life<D: SectorDisk, K: ReadKeys + KeyClass<Key = Box2>>()
+    ensures { (p : Parameters) → p.class ≡ K.CLASS → (disk after : D) (commands : List Command)
+        → IsNew K.KeyClass K.start_key D.state p disk
+        → AreGiven ⟦<Box2 as Shape>⟧ K.is_proper K.said K.KeyClass K.CLASS D.state disk commands after
+        → (all : LivesSo ⟦<Box2 as Shape>⟧ K.is_proper K.said K.KeyClass K.CLASS D.state (AreOfAll commands)
+        disk after)
+        × IsOneRun ⟦<Box2 as Shape>⟧ K.is_proper K.said K.KeyClass K.CLASS D.state p all.turns (Lies after) }
+{
+    an_index_lives_as_one_run::<D, K>();
+    commands_are_lives::<D, K>();
+}

@@ -6,4 +6,4 @@ pub mod commands;
 pub mod laws;
 mod turns;
 
-pub use turns::{format, open, step};
+pub use turns::{bring_page, format, open, step, verify};

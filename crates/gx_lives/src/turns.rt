@@ -9,9 +9,11 @@ ghost use Rattle.gx_glog.specs.declared.parameters.Parameters.{Parameters};
 ghost use Rattle.gx_machine.specs.Machine.{Machine, fresh_machine};
 ghost use Rattle.gx_node.specs.Reading.{format_of};
 ghost use Rattle.gx_pool.specs.declared.frames.TheConstants.{FRAMES};
-ghost use Rattle.gx_restart.specs.Beginning.{HasFailed};
+ghost use Rattle.gx_restart.specs.Beginning.{CountsOpening, HasFailed};
 ghost use Rattle.gx_restart.specs.Opened.{IsRefused};
 ghost use Rattle.gx_restart.specs.Undoing.{BeganWith};
+ghost use Rattle.gx_restart.specs.Verified.{IsVerified};
+ghost use Rattle.gx_store.specs.State.{IsHeld};
 ghost use Rattle.gx_opening.specs.Formatted.{IsAllowed};
 ghost use Rattle.gx_opening.specs.Standing.{IsFormatted};
 ghost use Rattle.gx_lives.specs.Bearing.{Bears};
@@ -28,6 +30,7 @@ use gx_engine::{Engine, NotOpened};
 use gx_events::{Event, Outcome};
 use gx_geom::Refusal;
 use gx_node::laws::{inners, leaves};
+use gx_restart::Report;
 use std::alloc::Global;
 
 // Each number of what a device is formatted for is one of its field.
@@ -86,7 +89,7 @@ pub fn open<D: SectorDisk, K: ReadKeys + Probing>(
         → result ≡ Err (record { why = Refusal.BadParameter; disk = disk }) }
     ensures small { 16 ≤ frames → frames ≤ FRAMES → (D.state disk).sectors < MIN_SECTORS
         → result ≡ Err (record { why = Refusal.TooSmall; disk = disk }) }
-    ensures faults { IfErr result (λ n. n.why ≡ Refusal.Device → (D.state disk).faults < (D.state n.disk).faults) }
+    ensures faults { CountsOpening D.state (D.state disk).faults result }
     ensures refused { (D.state disk).honest ≡ true → 16 ≤ frames → frames ≤ FRAMES
         → MIN_SECTORS ≤ (D.state disk).sectors
         → IfErr result (λ n. IsRefused K.Key.Shape K.is_proper K.said (format_of K.KeyClass) D.state K.CLASS
@@ -103,4 +106,33 @@ pub fn open<D: SectorDisk, K: ReadKeys + Probing>(
 {
     an_opening_finds_no_damage::<D, K>();
     gx_restart::open(alloc, disk, frames)
+}
+
+/// Brings a page of an engine (`Engine::bring_page`, with its refusals): a reading.
+pub fn bring_page<D: SectorDisk, K: ReadKeys>(
+    engine: &mut Engine<D, K>,
+    page: u32,
+) -> Result<(), Outcome<K::Key>>
+    requires from { 1 ≤ page }
+    requires to { page ≤ engine.old.volume.shelf.used }
+    ensures held { OnOk result (IsHeld engine.new.volume.shelf page) }
+    ensures turn { GoesOn K.Key.Shape K.is_proper K.said K.KeyClass K.CLASS D.state
+        (Works engine.old) life.Reads (Works engine.new) }
+{
+    engine.bring_page(page)
+}
+
+/// Verifies a device (`gx_restart::verify`, with its refusals). Of an honest one that is a reading.
+pub fn verify<D: SectorDisk, K: ReadKeys + Probing>(
+    alloc: Global,
+    disk: &mut D,
+    frames: usize,
+) -> Result<Report, Refusal>
+    ensures verified { (D.state disk.old).honest ≡ true
+        → IfOk result (IsVerified K.Key.Shape K.is_proper K.said (format_of K.KeyClass) K.CLASS (D.state disk.old)) }
+    ensures turn { (D.state disk.old).honest ≡ true
+        → GoesOn K.Key.Shape K.is_proper K.said K.KeyClass K.CLASS D.state
+        (Lies disk.old) life.Reads (Lies disk.new) }
+{
+    gx_restart::verify::<D, K>(alloc, disk, frames)
 }

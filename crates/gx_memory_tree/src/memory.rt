@@ -130,6 +130,10 @@ impl<K: KeyClass> Pages<K> for MemoryPages<K> {
 
     ghost why = { λ old new fault. ⊥ };
 
+    ghost faults = { λ s. 0 };
+
+    ghost fails = { λ fault. 0 };
+
     fn used(&self) -> u32 {
         self.pages.len() as u32
     }

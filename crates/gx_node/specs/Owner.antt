@@ -1,5 +1,5 @@
 -- What a step leaves of its pages' owner.
-use Rattle.std.specs.Prelude.{ℕ, ◌≢◌, ◌≤◌, ◌⊎◌, Bool, true, false, List, [], ◌∷◌, ◌++◌, map}
+use Rattle.std.specs.Prelude.{◌≡◌, ℕ, ◌+◌, ◌≢◌, ◌≤◌, ◌⊎◌, Bool, true, false, List, [], ◌∷◌, ◌++◌, map, Result, MatchResult}
 use Rattle.gx_node.specs.Trees.{times}
 use Rattle.gx_node.specs.declared.fault.StepFault.{StepFault}
 use Rattle.gx_node.specs.declared.fault.StepFault.TheVariants.{Damaged, Pages}
@@ -33,6 +33,23 @@ IsWhyOfSplit why split.PagesFull = Unit {0}
 -- why pages are refused from here on is why they are refused from before on
 abbrev pub IsWhyLater : {P F : Type 0} → (P → P → F → Type 0) → P → P → Type 0
 IsWhyLater {P} {F} why old new = (later : P) (fault : F) → why new later fault → why old later fault
+
+-- how many calls failed where a step is refused, a look, or a split: as many as its pages' fault says, and else none
+abbrev pub step_fails : {F : Type 0} → (F → ℕ) → StepFault F → ℕ
+step_fails fails (Pages fault) = fails fault
+step_fails fails Damaged = 0
+
+abbrev pub look_fails : {F : Type 0} → (F → ℕ) → LookFault F → ℕ
+look_fails fails (look.Step fault) = step_fails fails fault
+look_fails fails look.Memory = 0
+
+abbrev pub split_fails : {F : Type 0} → (F → ℕ) → SplitFault F → ℕ
+split_fails fails (split.Step fault) = step_fails fails fault
+split_fails fails split.PagesFull = 0
+
+-- no call has failed where the result is well, and else as many as its fault says
+abbrev pub CountsFaults : {A F : Type 0} → (F → ℕ) → ℕ → ℕ → Result A F → Type 0
+CountsFaults fails before after result = MatchResult result (λ _. after ≡ before) (λ why. after ≡ before + fails why)
 
 -- what is asked of the owner before anything is changed: to bring pages; to make ready to change pages, and to take so many
 pub data Asking : Type 0 where

@@ -3,7 +3,7 @@ ghost use Rattle.std.specs.Prelude.{◌≡◌, ◌≤◌, ◌<◌, ◌+◌, ◌-
 ghost use Rattle.gx_node.specs.Reading.{format_of, is_node};
 ghost use Rattle.gx_node.specs.Lists.{Each};
 ghost use Rattle.gx_node.specs.Trees.{Node};
-ghost use Rattle.gx_node.specs.Owner.{Prepares, KeepsSince, KeepsSinceBut, IsWhyLater, Asks};
+ghost use Rattle.gx_node.specs.Owner.{Prepares, KeepsSince, KeepsSinceBut, IsWhyLater, Asks, CountsFaults};
 ghost use Rattle.gx_node.specs.Store.{node_of, node_at, with_node, with_page, with_split};
 
 use crate::pages::Pages;
@@ -51,7 +51,8 @@ pub trait PagesMut<K: KeyClass>: Pages<K> {
         ensures since { KeepsSince Self.since self.old self.new }
         ensures asked { Asks Self.asked (Prepares changes.now taken ∷ []) self.old self.new }
         ensures why { IfErr result (Self.why self.old self.new) }
-        ensures later { OnOk result (IsWhyLater Self.why self.old self.new) };
+        ensures later { OnOk result (IsWhyLater Self.why self.old self.new) }
+        ensures told { CountsFaults Self.fails (Self.faults self.old) (Self.faults self.new) result };
 
     /// Changes a page that is held and made ready, and no other, on a device that lies too.
     fn change<E: Edit<K>>(&mut self, page: u32, edit: E)
@@ -67,7 +68,8 @@ pub trait PagesMut<K: KeyClass>: Pages<K> {
         ensures ready { ready self.new ≡ ready self.old }
         ensures steady { Self.steady self.old → Self.steady self.new }
         ensures since { KeepsSinceBut Self.since page self.old self.new }
-        ensures asked { Asks Self.asked [] self.old self.new };
+        ensures asked { Asks Self.asked [] self.old self.new }
+        ensures told { Self.faults self.new ≡ Self.faults self.old };
 
     /// Takes the next page: a copy of one that is held, except for the page's own number. It is held and may be
     /// changed. No other page changes, also on a device that lies.
@@ -83,7 +85,8 @@ pub trait PagesMut<K: KeyClass>: Pages<K> {
         ensures ready { ready self.old ≡ suc (ready self.new) }
         ensures steady { Self.steady self.old → Self.steady self.new }
         ensures since { KeepsSinceBut Self.since (suc (length (Self.store self.old).nodes)) self.old self.new }
-        ensures asked { Asks Self.asked [] self.old self.new };
+        ensures asked { Asks Self.asked [] self.old self.new }
+        ensures told { Self.faults self.new ≡ Self.faults self.old };
 
     /// Counts a split of a node other than the root.
     fn count_split(&mut self)
@@ -94,5 +97,6 @@ pub trait PagesMut<K: KeyClass>: Pages<K> {
         ensures ready { ready self.new ≡ ready self.old }
         ensures steady { Self.steady self.old → Self.steady self.new }
         ensures since { KeepsSince Self.since self.old self.new }
-        ensures asked { Asks Self.asked [] self.old self.new };
+        ensures asked { Asks Self.asked [] self.old self.new }
+        ensures told { Self.faults self.new ≡ Self.faults self.old };
 }

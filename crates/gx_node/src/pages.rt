@@ -3,7 +3,7 @@ ghost use Rattle.std.specs.Prelude.{◌≡◌, ◌≤◌, ℕ, true, List, [], �
 ghost use Rattle.gx_node.specs.Reading.{format_of, is_node};
 ghost use Rattle.gx_node.specs.Lists.{Each};
 ghost use Rattle.gx_node.specs.Trees.{Used};
-ghost use Rattle.gx_node.specs.Owner.{Asking, Brings, KeepsSince, IsWhyLater, Asks};
+ghost use Rattle.gx_node.specs.Owner.{Asking, Brings, KeepsSince, IsWhyLater, Asks, CountsFaults};
 ghost use Rattle.gx_node.specs.Store.{Store, Stays, node_of, node_at, tree_of};
 
 use gx_class::KeyClass;
@@ -35,6 +35,12 @@ pub trait Pages<K: KeyClass> {
     /// Why pages were refused between two moments.
     ghost why: { Self → Self → Self.Fault → Type 0 };
 
+    /// How many calls have failed that read or write pages.
+    ghost faults: { Self → ℕ };
+
+    /// How many calls failed where pages are refused so.
+    ghost fails: { Self.Fault → ℕ };
+
     /// The greatest page that is taken.
     fn used(&self) -> u32
         ensures { result ≡ length (store self.now).nodes };
@@ -58,7 +64,8 @@ pub trait Pages<K: KeyClass> {
         ensures since { KeepsSince since self.old self.new }
         ensures asked { Asks asked (Brings pages.now ∷ []) self.old self.new }
         ensures why { IfErr result (why self.old self.new) }
-        ensures later { OnOk result (IsWhyLater why self.old self.new) };
+        ensures later { OnOk result (IsWhyLater why self.old self.new) }
+        ensures told { CountsFaults fails (faults self.old) (faults self.new) result };
 
     /// A page that is held.
     fn page(&self, page: u32) -> &Page

@@ -11,6 +11,7 @@ use Rattle.gx_format.specs.Formatting.{AreInRange, sectors_of}
 use Rattle.gx_format.specs.Fresh.{HasMagic, magic_bytes}
 use Rattle.gx_glog.specs.Parameters.{parameters_bytes, Fit}
 use Rattle.gx_glog.specs.declared.parameters.Parameters.{Parameters}
+use Rattle.gx_store.specs.Faults.{refusal_fails}
 
 -- the first eight bytes of sector 1 say so
 pub record Says (image : List ℕ) (p : Parameters) : Type 0 where
@@ -43,19 +44,10 @@ AreRead image (Err NotFormatted) = HasMagic image → ⊥
 AreRead image (Err Device) = Unit {0}
 AreRead image (Err refusal) = ⊥
 
--- how many failed calls a refusal tells of: one, or none
-abbrev pub faults_of : Refusal → ℕ
-faults_of Device = 1
-faults_of refusal = 0
-
+-- no call has failed where a result is well, and else as many as its refusal says
 abbrev pub FaultsAre : {T : Type 0} → (before now : ℕ) → Result T Refusal → Type 0
 FaultsAre before now (Ok x) = now ≡ before
-FaultsAre before now (Err why) = now ≡ before + faults_of why
-
--- No fewer calls have failed than before, and more where that is told.
-pub record TellsFaults {T : Type 0} (before now : ℕ) (result : Result T Refusal) : Type 0 where
-  pub no_fewer : before ≤ now
-  pub more : result ≡ Err Device → before < now
+FaultsAre before now (Err why) = now ≡ before + refusal_fails why
 
 -- The device has as many sectors and is as honest, and no write is made: so many syncs at most. A call that failed is told.
 pub record Counted {T : Type 0} (syncs : ℕ) (old new : disk.Device) (result : Result T Refusal) : Type 0 where

@@ -1,13 +1,15 @@
 //! The pages of a device whose log is laid are tested: that each can be read, that they are a legal tree, and that what
 //! open transactions have touched is in its place.
 ghost use Rattle.std.specs.Prelude.{◌≡◌, ◌≤◌, ◌<◌, ◌+◌, ◌*◌, ◌/◌, true, min, OnOk, IfErr, IfOk, Err};
+ghost use Rattle.gx_store.specs.Faults.{refusal_fails, store_fails};
 ghost use Rattle.gx_store.specs.State.{IsSteady};
+ghost use Rattle.gx_legality.specs.Owner.{test_fails};
 ghost use Rattle.gx_disk.specs.declared.layout.TheConstants.{MAX_PAGES, PAGES_AT, PAGE_SECTORS};
 ghost use Rattle.gx_machine.specs.Keys.{keys_of, entry_cmp};
 ghost use Rattle.gx_node.specs.Reading.{format_of, is_node};
 ghost use Rattle.gx_pool.specs.Bringing.{OnlyRead};
 ghost use Rattle.gx_recovery.specs.Known.{Limits};
-ghost use Rattle.gx_opening.specs.Formatted.{TellsFaults};
+ghost use Rattle.gx_opening.specs.Formatted.{FaultsAre};
 ghost use Rattle.gx_opening.specs.Noting.{AreOfOthers};
 ghost use Rattle.gx_opening.specs.Sound.{AreClean, IsCause, IsDamage, OnlyReadsStore};
 ghost use Rattle.gx_opening.specs.Sound.{Tells, refusal_of, store_refusal_of};
@@ -48,7 +50,7 @@ fn half_of(used: u32, most: u16) -> usize
 fn store_refusal(fault: StoreFault) -> Refusal
     ensures told { result ≡ store_refusal_of fault }
     ensures damaged { result ≡ Refusal.Damaged → fault ≡ StoreFault.Damaged }
-    ensures device { result ≡ Refusal.Device → fault ≡ StoreFault.Device }
+    ensures faults { refusal_fails result ≡ store_fails fault }
     ensures cause { IsCause result }
 {
     match fault {
@@ -63,7 +65,7 @@ fn store_refusal(fault: StoreFault) -> Refusal
 fn test_refusal(fault: LegalityFault<StoreFault>) -> Refusal
     ensures told { result ≡ refusal_of fault }
     ensures damaged { result ≡ Refusal.Damaged → IsDamage fault }
-    ensures device { result ≡ Refusal.Device → fault ≡ LegalityFault.Pages StoreFault.Device }
+    ensures faults { refusal_fails result ≡ test_fails store_fails fault }
     ensures cause { IsCause result }
 {
     match fault {
@@ -84,7 +86,7 @@ fn test_store<D: SectorDisk, K: ReadKeys>(
     ensures cause { IfErr result IsCause }
     ensures others { OnOk result (AreOfOthers (entry_cmp (keys_of K.Key.Shape)) touched.now) }
     ensures reads { OnlyReadsStore (format_of K.KeyClass) (is_node (format_of K.KeyClass)) D.state store.old store.new }
-    ensures faults { result ≡ Err Refusal.Device → (D.state store.old.disk).faults < (D.state store.new.disk).faults }
+    ensures faults { FaultsAre (D.state store.old.disk).faults (D.state store.new.disk).faults result }
     ensures tested { IsSteady (D.state store.old.disk) store.old.frames → AreClean store.old.frames
         → AreOfOthers (entry_cmp (keys_of K.Key.Shape)) touched.now
         → Tells (IsSoundStoreAs K.Key.Shape K.KeyClass D.state most touched.now store.old) result }
@@ -114,7 +116,7 @@ fn test_over<D: SectorDisk, K: ReadKeys>(
     ensures cause { IfErr result.1 IsCause }
     ensures others { OnOk result.1 (AreOfOthers (entry_cmp (keys_of K.Key.Shape)) touched.now) }
     ensures read { OnlyRead (D.state store.disk) (D.state result.0) }
-    ensures faults { TellsFaults (D.state store.disk).faults (D.state result.0).faults result.1 }
+    ensures faults { FaultsAre (D.state store.disk).faults (D.state result.0).faults result.1 }
     ensures tested { IsSteady (D.state store.disk) store.frames → AreClean store.frames
         → AreOfOthers (entry_cmp (keys_of K.Key.Shape)) touched.now
         → Tells (IsSoundStoreAs K.Key.Shape K.KeyClass D.state most touched.now store) result.1 }
@@ -143,7 +145,7 @@ pub(crate) fn test_pages<D: SectorDisk, K: ReadKeys>(
     ensures cause { IfErr result.1 IsCause }
     ensures others { OnOk result.1 (AreOfOthers (entry_cmp (keys_of K.Key.Shape)) analysis.now.told.touched) }
     ensures read { OnlyRead (D.state disk) (D.state result.0) }
-    ensures faults { TellsFaults (D.state disk).faults (D.state result.0).faults result.1 }
+    ensures faults { FaultsAre (D.state disk).faults (D.state result.0).faults result.1 }
     ensures tested { (l : Limits) → l.pages ≡ pages → l.most ≡ most → (D.state disk).honest ≡ true
         → AreOfOthers (entry_cmp (keys_of K.Key.Shape)) analysis.now.told.touched
         → Tells (AreSoundAs K.Key.Shape K.is_proper K.said K.KeyClass l pages analysis.now.told

@@ -5,7 +5,7 @@ ghost use Rattle.gx_disk.specs.declared.layout.TheConstants.{MAX_PAGES, MIN_SECT
 ghost use Rattle.gx_disk.specs.Device.{SameDevice};
 ghost use Rattle.gx_machine.specs.Keys.{keys_of, entry_cmp};
 ghost use Rattle.gx_pool.specs.Bringing.{OnlyRead};
-ghost use Rattle.gx_opening.specs.Formatted.{IsAllowed, IsLarge, TellsFaults};
+ghost use Rattle.gx_opening.specs.Formatted.{FaultsAre, IsAllowed, IsLarge};
 ghost use Rattle.gx_opening.specs.Noting.{AreOfOthers};
 ghost use Rattle.gx_opening.specs.Sound.{IsCause, Tells};
 ghost use Rattle.gx_opening.specs.Standing.{MayStart, limits_of, told_with};
@@ -39,7 +39,7 @@ fn stand<D: SectorDisk, K: ReadKeys>(
 ) -> Result<Standing<K::Key>, Refusal>
     requires { MIN_SECTORS ≤ (D.state disk.old).sectors }
     ensures device { SameDevice (D.state disk.old) (D.state disk.new) }
-    ensures faults { TellsFaults (D.state disk.old).faults (D.state disk.new).faults result }
+    ensures faults { FaultsAre (D.state disk.old).faults (D.state disk.new).faults result }
     ensures allowed { IfOk result (λ s. IsAllowed K.CLASS s.parameters
         × IsLarge (D.state disk.old).sectors s.parameters) }
     ensures bodies { IfOk result (λ s. (1 ≤ s.log.bodies) × (s.log.bodies ≤ PLACES)) }
@@ -76,7 +76,7 @@ fn tested<D: SectorDisk, K: ReadKeys>(
     requires inside { (standing.parameters.pages ≤ MAX_PAGES)
         × (PAGES_AT + PAGE_SECTORS * standing.parameters.pages ≤ (D.state disk).sectors) }
     ensures read { OnlyRead (D.state disk) (D.state result.0) }
-    ensures faults { TellsFaults (D.state disk).faults (D.state result.0).faults result.1 }
+    ensures faults { FaultsAre (D.state disk).faults (D.state result.0).faults result.1 }
     ensures ok { IfOk result.1 (λ s. s ≡ standing) }
     ensures fits { IfOk result.1 (λ s. s.log.analysis.told.used ≤ s.parameters.pages) }
     ensures others { IfOk result.1 (λ s. AreOfOthers (entry_cmp (keys_of K.Key.Shape)) s.log.analysis.told.touched) }
@@ -99,7 +99,7 @@ fn find_in<D: SectorDisk, K: ReadKeys>(
 ) -> (D, Result<Standing<K::Key>, Refusal>)
     requires { MIN_SECTORS ≤ (D.state disk).sectors }
     ensures device { SameDevice (D.state disk) (D.state result.0) }
-    ensures faults { TellsFaults (D.state disk).faults (D.state result.0).faults result.1 }
+    ensures faults { FaultsAre (D.state disk).faults (D.state result.0).faults result.1 }
     ensures allowed { IfOk result.1 (λ s. IsAllowed K.CLASS s.parameters
         × IsLarge (D.state disk).sectors s.parameters) }
     ensures starts { IfOk result.1 MayStart }
@@ -135,7 +135,7 @@ pub fn find<D: SectorDisk, K: ReadKeys>(
     disk: D,
 ) -> (D, Result<Standing<K::Key>, Refusal>)
     ensures device { SameDevice (D.state disk) (D.state result.0) }
-    ensures faults { TellsFaults (D.state disk).faults (D.state result.0).faults result.1 }
+    ensures faults { FaultsAre (D.state disk).faults (D.state result.0).faults result.1 }
     ensures allowed { IfOk result.1 (λ s. IsAllowed K.CLASS s.parameters
         × IsLarge (D.state disk).sectors s.parameters) }
     ensures starts { IfOk result.1 MayStart }

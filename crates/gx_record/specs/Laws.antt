@@ -12,7 +12,7 @@ use Rattle.gx_record.specs.Writing.{size_of}
 abbrev pub NoSpellingBeginsAnother : Type 0
 NoSpellingBeginsAnother = (key : ℕ) (r s : Rec) (x y : List ℕ) → IsRecord key r → IsRecord key s → spelling r ++ x ≡ spelling s ++ y → (r ≡ s) × (x ≡ y)
 
--- a spelling stands at the front of the bytes that it begins
+-- a spelling is at the front of the bytes that it begins
 abbrev pub SpellingsBegin : Type 0
 SpellingsBegin = (key : ℕ) (r : Rec) (rest : List ℕ) → IsRecord key r → BeginsWith key (spelling r ++ rest) r (length (spelling r)) × (drop (length (spelling r)) (spelling r ++ rest) ≡ rest)
 

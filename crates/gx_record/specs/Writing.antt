@@ -7,7 +7,7 @@ use Rattle.gx_record.specs.declared.sizes.TheConstants.{ADD_BESIDE_KEY, BIT_BESI
 use Rattle.gx_record.specs.declared.sizes.TheConstants.{NUMBERED_IMAGE, NOTE_BESIDE_KEY, PAGES_HEAD, SLOT_NUMBER, SWEEP_BESIDE_SLOTS, WIDEN_BESIDE_KEY, WRITE_BESIDE_KEY}
 use Rattle.gx_record.specs.Rec.{Rec, Pages, Write, Commit, End, Counters, Note, Bit, Add, Widen, Sweep}
 
--- a text stands from a place on up to another one, and all else is as it was
+-- a text is written from one place up to another, and all other bytes are unchanged
 pub record Wrote (old new : List ℕ) (at : ℕ) (text : List ℕ) (end : ℕ) : Type 0 where
   pub written : new ≡ overwrite old at text
   pub ends : end ≡ at + length text

@@ -7,7 +7,7 @@ ghost use Rattle.gx_record.specs.Seen.{numbered, images};
 
 use gx_page::Page;
 
-/// A page's number, and its image of 4,096 bytes, lent by whoever has the page.
+/// A page's number, and its image of 4,096 bytes, borrowed.
 #[derive(Clone, Copy, PartialEq, Eq)]
 pub struct PageImage<'a> {
     pub page: u32,

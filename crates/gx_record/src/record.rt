@@ -116,9 +116,9 @@ impl<'a> Record<'a> {
     /// The record at the front of the bytes, and how many bytes its spelling has. A key has `key` bytes.
     /// None where no front is the spelling of a record in range.
     pub fn decode(bytes: &'a [u8], key: usize) -> Option<(Record<'a>, usize)>
-        // What is answered stands at the front.
+        // What is returned is at the front.
         ensures found { IfSome result (λ answer. BeginsWith key bytes.now (rec_of answer.0) answer.1) }
-        // What stands at the front is answered.
+        // What is at the front is returned.
         ensures only { (r : Rec) (n : ℕ) → BeginsWith key bytes.now r n → seen result ≡ Some (r, n) }
     {
         let (record, rest) = decode::record_at(bytes, key)?;

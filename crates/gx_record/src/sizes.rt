@@ -6,7 +6,7 @@ use gx_page::PAGE_SIZE;
 /// A page's number and its image.
 pub const NUMBERED_IMAGE: usize = 4 + PAGE_SIZE;
 
-/// What stands in front of the images in a record of pages.
+/// The bytes in front of the images in a record of pages.
 pub const PAGES_HEAD: usize = 1 + 8 + 4 + 1;
 
 /// A record of one page.

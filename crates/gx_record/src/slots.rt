@@ -5,7 +5,7 @@ ghost use Rattle.gx_record.specs.Slots.{rise_from, slots_bytes, slots_in};
 
 use crate::sizes::SLOT_NUMBER;
 
-/// The slots of a sweep, spelled in bytes that whoever has them lends: two bytes a slot, the greater first. A last byte
+/// The slots of a sweep, spelled in bytes that are borrowed: two bytes a slot, the greater first. A last byte
 /// alone isn't read. In a record in range there are 1 to 100 slots, and each is greater than the one before.
 #[derive(Clone, Copy, PartialEq, Eq)]
 pub struct Slots<'a> {

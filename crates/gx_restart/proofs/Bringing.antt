@@ -15,6 +15,8 @@ use Rattle.gx_events.specs.declared.outcome.Need.{Need}
 use Rattle.gx_events.specs.declared.outcome.Need.TheVariants as need
 use Rattle.gx_events.specs.declared.outcome.Outcome.{Outcome}
 use Rattle.gx_events.specs.declared.outcome.Outcome.TheVariants.{Replied, More, Help, Nothing, Refused}
+use Rattle.gx_events.specs.Events as laws
+use Rattle.gx_events.specs.Steps.{IsSync, IsWork}
 use Rattle.gx_engine.specs.declared.checkpoint.Checkpoint.{Checkpoint}
 use Rattle.gx_engine.specs.declared.checkpoint.Checkpoint.TheVariants.{Off, Running, Turning}
 use Rattle.gx_engine.specs.Checkpoints.{CheckpointSteps, HeadComes, RunsOn, StepsFrom, StepsOff, SyncComes}
@@ -31,6 +33,14 @@ use Rattle.gx_engine.specs.Helping.{HelpComes}
 use Rattle.gx_restart.specs.Bringing.{AreBrought, AreTurns, Brings, HasTurned, Helps, IsBrought, IsMade, IsRead, IsRefused, IsTurn}
 use Rattle.gx_restart.specs.Reading.{Reads, Runs}
 use Rattle.gx_restart.proofs.Reading.{leads_read, leads_run, nothing_read, read_joined, read_runs, run_joined, spares_read}
+
+-- work is an event by which commits may become durable
+pub work_sync : {B : Type 0} (failed : Bool) (outcome : Outcome B) (events : List (laws.Event B)) → IsWork failed outcome events → IsSync failed outcome events
+work_sync failed More events is = (is.0, inr (inl is.1))
+work_sync failed (Replied r) events is = is
+work_sync failed (Help named) events is = is
+work_sync failed Nothing events is = is
+work_sync failed (Refused why) events is = is
 
 -- Turns, one more at a time.
 module _ {B D : Type 0} (brings : Parts B D → Result (Unit {0}) (Outcome B) → Parts B D → Type 0) (helps : Need → Parts B D → Outcome B → Parts B D → Type 0) where
@@ -225,7 +235,7 @@ module _ {C B D : Type 0} (shape : Members B) (proper : B → Bool) (said : List
 
     help_read : (named : Need) (outcome : Outcome B) (old new : Parts B D) → IsMade outcome → helps named old outcome new → ReadsSo old new
     help_read named outcome old new made is =
-        spares_read (class_of shape proper l) (reading_of said (format_of class)) (format_of class) (is_node (format_of class)) state old new (λ events. Unit {0}) (is.spares l)
+        spares_read (class_of shape proper l) (reading_of said (format_of class)) (format_of class) (is_node (format_of class)) state old new (IsSync old.sessions.failed outcome) (is.spares l)
 
     pub brought_read : (page : ℕ) (old new : Parts B D) → IsBrought (brings page) helps old (Ok tt) new → ReadsSo old new
     brought_read =
@@ -246,4 +256,4 @@ module _ {C B D : Type 0} (shape : Members B) (proper : B → Bool) (said : List
         (λ page why old new is. leads_run (class_of shape proper l) (reading_of said (format_of class)) (format_of class) (is_node (format_of class)) state old new _ (is.leads l))
         (λ named why old new is.
         read_runs (class_of shape proper l) (reading_of said (format_of class)) (format_of class) (is_node (format_of class)) state old new
-        (spares_read (class_of shape proper l) (reading_of said (format_of class)) (format_of class) (is_node (format_of class)) state old new (λ events. Unit {0}) (is.spares l)))
+        (spares_read (class_of shape proper l) (reading_of said (format_of class)) (format_of class) (is_node (format_of class)) state old new (IsSync old.sessions.failed (Refused why)) (is.spares l)))

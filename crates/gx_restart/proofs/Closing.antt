@@ -59,24 +59,26 @@ use Rattle.gx_recovery.specs.Records.{any_number}
 use Rattle.gx_recovery.proofs.DamageItems.{bodies_log}
 use Rattle.gx_recovery.proofs.Moves.{found_latest, found_set}
 use Rattle.gx_storage.specs.State.{Volume}
-use Rattle.gx_store.specs.Faults.{is_taken}
-use Rattle.gx_restart.specs.Beginning.{HasBegun, HasFailed, HasNotBegun, HoldsFound, StartsFrom}
+use Rattle.gx_store.specs.Faults.{is_taken, refusal_fails}
+use Rattle.gx_restart.specs.Beginning.{CountsOpening, HasBegun, HasFailed, HasNotBegun, HoldsFound, StartsFrom}
 use Rattle.gx_restart.specs.Keeping.{StandsForFound}
 
 -- ---- an engine that starts
 
-no_device : {B : Type 0} (k : Keys B) (start : Start B) (why : Refusal) → WhyNot k start why → why ≡ refusal.Device → ⊥
-no_device k start why (inl memory) is = let no : refusal.Memory ≡ refusal.Device = sym memory ∙ is in cc
-no_device k start why (inr damaged) is = let no : refusal.Damaged ≡ refusal.Device = sym damaged.0 ∙ is in cc
+no_device : {B : Type 0} (k : Keys B) (start : Start B) (why : Refusal) → WhyNot k start why → refusal_fails why ≡ 0
+no_device k start why (inl memory) = ap refusal_fails memory
+no_device k start why (inr damaged) = ap refusal_fails damaged.0
 
 -- and it makes no call of the device
 pub starts_quietly : {B D : Type 0} (state : D → Device) (k : Keys B) (start : Start B) (before : ℕ) (disk : D) → (state disk).faults ≡ before → (result : Result (Parts B D) (NotOpened D))
-    → IfOk result (Started k start disk) → IfErr result (λ n. (n.disk ≡ disk) × WhyNot k start n.why)
-    → MatchResult result (λ engine. before ≤ (state engine.volume.shelf.disk).faults) (λ n. n.why ≡ refusal.Device → before < (state n.disk).faults)
+    → IfOk result (Started k start disk) → IfErr result (λ n. (n.disk ≡ disk) × WhyNot k start n.why) → CountsOpening state before result
 starts_quietly {B} {D} state k start before disk same (Ok engine) started refused =
     let there : (state engine.volume.shelf.disk).faults ≡ (state disk).faults = ap (λ (v : Volume D). (state v.shelf.disk).faults) started.volume in
-    omega (arith, there, same)
-starts_quietly state k start before disk same (Err n) started refused = λ is. absurd (no_device k start n.why refused.1 is)
+    there ∙ same
+starts_quietly {B} {D} state k start before disk same (Err n) started refused =
+    let there : (state n.disk).faults ≡ (state disk).faults = ap (λ (x : D). (state x).faults) refused.0 in
+    let none = no_device k start n.why refused.1 in
+    omega (arith, there, same, none)
 
 -- ---- the gates behind the log
 

@@ -35,17 +35,16 @@ use Rattle.gx_phases.specs.declared.phase.Phase.TheVariants as phase
 use Rattle.gx_phases.specs.States.{phase_at, slot_of, slots_of}
 use Rattle.gx_durable.specs.Classes.{class_of}
 use Rattle.gx_txn.specs.Tables.{Held}
-use Rattle.gx_restart.specs.Beginning.{HasBegun, HasNotBegun, HoldsFound, IsSameDevice}
+use Rattle.gx_restart.specs.Beginning.{CountsOpening, HasBegun, HasNotBegun, HoldsFound, IsSameDevice}
 use Rattle.gx_restart.specs.Keeping.{ArePagesGood, IsKept, KeepsItsSet, OpensSafely, StandsForFound}
 use Rattle.gx_restart.specs.Opened.{IsOpened, IsRefused}
 use Rattle.gx_restart.specs.Undoing.{BeganWith, GoesBy, IsIdle}
 use Rattle.gx_restart.proofs.Opened.{keeps_of, stands_so}
 
--- where none failed before, a call that failed since then failed since before
-pub fails_later : {P D : Type 0} (state : D → Device) (before middle : ℕ) → before ≤ middle → (result : Result P (NotOpened D))
-    → IfErr result (λ n. n.why ≡ DeviceRefusal → middle < (state n.disk).faults) → IfErr result (λ n. n.why ≡ DeviceRefusal → before < (state n.disk).faults)
-fails_later state before middle low (Ok x) told = tt
-fails_later state before middle low (Err n) told = λ is. (let more = told is in omega (arith, low, more))
+-- where none failed before
+pub told_later : {B D : Type 0} (state : D → Device) (before middle : ℕ) → middle ≡ before → (result : Result (Parts B D) (NotOpened D)) → CountsOpening state middle result → CountsOpening state before result
+told_later state before middle same (Ok engine) told = told ∙ same
+told_later state before middle same (Err n) told = omega (arith, same, told)
 
 -- a device that is the same since is the same since before
 pub device_later : {P D : Type 0} (state : D → Device) (of : P → Device) (before middle : Device) → IsSameDevice before middle → (result : Result P (NotOpened D))

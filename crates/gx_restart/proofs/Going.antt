@@ -26,8 +26,9 @@ use Rattle.gx_phases.specs.States.{phase_at}
 use Rattle.gx_engine.specs.declared.work.Work.{Work}
 use Rattle.gx_engine.specs.States.{Parts}
 use Rattle.gx_engine.specs.Driven.{AreDriven, IsDriven, IsGivenUp}
+use Rattle.gx_engine.specs.Calls.{TellsAs, TellsWhy, outcome_fails}
 use Rattle.gx_engine.specs.Made.{AreMade, Makes}
-use Rattle.gx_engine.specs.Repeated.{AreAgain, GoesOn, IsGoingOn, IsRepeated, last_of}
+use Rattle.gx_engine.specs.Repeated.{AreAgain, GoesOn, IsFlushing, IsGoingOn, IsRepeated, last_of}
 use Rattle.gx_engine.specs.Resting.{WorksOff}
 use Rattle.gx_engine.proofs.Making.{made_joined, made_more}
 use Rattle.gx_engine.proofs.Resting.{checkpoint_rests}
@@ -166,40 +167,6 @@ module _ {C B D : Type 0} (shape : Members B) (proper : B → Bool) (said : List
   abbrev fault_count : Parts B D → ℕ
   fault_count e = (state e.volume.shelf.disk).faults
 
-  -- ---- an event that was refused as the device's fault
-
-  refused_flush : (event : Event B) (old new : Parts B D) (x : Refusal) → IsFlush event → makes old event (outcome.Refused x) new → x ≡ refusal.Device → fault_count old < fault_count new
-  refused_flush event old new x flush one is =
-      let now = subst (λ (y : Refusal). makes old event (outcome.Refused y) new) is one in
-      flush_ends state (keys_of shape) (known_at shape proper) (reading_of said (format_of class)) (format_of class) (is_node (format_of class)) class.is_key class.spelling class.KEY
-      event old new (outcome.Refused refusal.Device) flush now.comes
-
-  refused_rose : (event : Event B) (old new : Parts B D) (given : Outcome B) → IsOfOpening event → OnlyUndoes old → makes old event given new → IsRefusal event given refusal.Device
-      → fault_count old < fault_count new
-  refused_rose (Move s) old new (outcome.Replied r) is undoes one refused =
-      let now = subst (λ (q : Reply B). makes old (Move s) (outcome.Replied q) new) refused one in
-      (move_comes state (keys_of shape) (known_at shape proper) (reading_of said (format_of class)) (format_of class) (is_node (format_of class)) class.is_key class.spelling class.KEY
-      s old new (outcome.Replied (reply.Refused refusal.Device)) undoes now.comes).1
-  refused_rose (Move s) old new other is undoes one refused = absurd refused
-  refused_rose LogStep old new (outcome.Refused x) is undoes one refused = refused_flush LogStep old new x tt one refused
-  refused_rose LogStep old new other is undoes one refused = absurd refused
-  refused_rose (WritePage page) old new (outcome.Refused x) is undoes one refused = refused_flush (WritePage page) old new x tt one refused
-  refused_rose (WritePage page) old new other is undoes one refused = absurd refused
-  refused_rose CheckpointStep old new (outcome.Refused x) is undoes one refused = refused_flush CheckpointStep old new x tt one refused
-  refused_rose CheckpointStep old new other is undoes one refused = absurd refused
-  refused_rose (Ask s call) old new given is undoes one refused = absurd is
-  refused_rose (Sweep page) old new given is undoes one refused = absurd is
-
-  -- where an opening was stopped by the device's fault, a call failed since
-  pub stopped_rose : (old new : Parts B D) (why : Refusal) → OnlyUndoes old → WhyStopped makes old why new → why ≡ refusal.Device → fault_count old < fault_count new
-  stopped_rose old new why undoes (inl refused) is =
-      let before = goes_stays old refused.middle undoes refused.before in
-      let low = before.device.faults in
-      let more = refused_rose refused.event refused.middle new refused.outcome refused.is before.undoes refused.last_made
-      (subst (λ (x : Refusal). IsRefusal refused.event refused.outcome x) is refused.refused) in
-      omega (arith, low, more)
-  stopped_rose old new why undoes (inr endless) is = let no : refusal.Damaged ≡ refusal.Device = sym endless.0 ∙ is in let bad : ⊥ = cc in absurd bad
-
   -- ---- a checkpoint that is ended
 
   flush_end : (event : Event B) (old new : Parts B D) (given : Outcome B) → IsFlush event → makes old event given new → FlushEnds state old new given
@@ -220,6 +187,45 @@ module _ {C B D : Type 0} (shape : Members B) (proper : B → Bool) (said : List
   again_works (step ∷ steps) old new again made works =
       let one = subst (λ (e : Event B). makes old e step.1 made.0) again.0.0 made.1 in
       again_works steps made.0 new again.1 made.2 (still_works old made.0 step.1 (flush_end CheckpointStep old made.0 step.1 tt one) again.0.1 works)
+
+  -- an event that is made over and over has no call that failed before its last
+  goes_quietly : (old new : Parts B D) (given : Outcome B) → FlushEnds state old new given → GoesOn given → outcome_fails given ≡ 0
+  goes_quietly old new outcome.More ends on = refl
+  goes_quietly old new (outcome.Replied r) ends on = absurd ends
+  goes_quietly old new (outcome.Help help) ends on = absurd ends
+  goes_quietly old new outcome.Nothing ends on = absurd on
+  goes_quietly old new (outcome.Refused why) ends on = absurd on
+
+  again_told : (event : Event B) (steps : List (Event B × Outcome B)) (old new : Parts B D) → IsFlush event → AreAgain event steps → AreMade makes old steps new → fault_count new ≡ fault_count old
+  again_told event [] old new flush again made = ap fault_count made
+  again_told event (step ∷ steps) old new flush again made =
+      let one = subst (λ (e : Event B). makes old e step.1 made.0) again.0.0 made.1 in
+      let none = goes_quietly old made.0 step.1 (flush_end event old made.0 step.1 flush one) again.0.1 in
+      let first = one.told in
+      let rest = again_told event steps made.0 new flush again.1 made.2 in
+      omega (arith, none, first, rest)
+
+  pub repeated_told : (event : Event B) (old new : Parts B D) (ends : Result (Unit {0}) Refusal) → IsFlush event → IsRepeated makes event old (last_of ends) new → TellsWhy state old new ends
+  repeated_told event old new (Ok done) flush again =
+      let before = again_told event again.before.steps old again.middle flush again.before.again again.before.made in
+      let last = again.last_made.told in
+      omega (arith, before, last)
+  repeated_told event old new (Err why) flush again =
+      let before = again_told event again.before.steps old again.middle flush again.before.again again.before.made in
+      let last = again.last_made.told in
+      omega (arith, before, last)
+
+  -- a step of the log, or of a checkpoint
+  pub exhausted_told : (event : Event B) (old new : Parts B D) (ends : Result (Unit {0}) Refusal) → IsFlushing event → IsRepeated makes event old (last_of ends) new → TellsWhy state old new ends
+  exhausted_told LogStep old new ends flushes again = repeated_told LogStep old new ends tt again
+  exhausted_told CheckpointStep old new ends flushes again = repeated_told CheckpointStep old new ends tt again
+  exhausted_told (Ask s call) old new ends flushes again = absurd flushes
+  exhausted_told (Move s) old new ends flushes again = absurd flushes
+  exhausted_told (WritePage page) old new ends flushes again = absurd flushes
+  exhausted_told (Sweep page) old new ends flushes again = absurd flushes
+
+  pub ended_told : (old new : Parts B D) (ends : Result (Unit {0}) Refusal) → IsRepeated makes CheckpointStep old (last_of ends) new → TellsWhy state old new ends
+  ended_told old new ends again = repeated_told CheckpointStep old new ends tt again
 
   repeated_goes : (old new : Parts B D) (last : Outcome B) → IsRepeated makes CheckpointStep old last new → GoesBy makes old new
   repeated_goes old new last again =
@@ -455,3 +461,43 @@ module _ {C B D : Type 0} (shape : Members B) (proper : B → Bool) (said : List
   free_more place old new undoes goes free one = λ at below.
       (let same : place + 1 - 1 ≡ place = omega arith in
       free_by place at new (at == place) refl below (subst (λ n. IsFreeAt n new) same one) (λ less. (goes_stays old new undoes goes).free at (free at less)))
+
+module _ {B D : Type 0} (state : D → Device) (old new : Parts B D) where
+  refused_told : (why : Refusal) → TellsAs state old new (outcome.Replied (reply.Refused why)) → TellsWhy state old new (undone_by {B = B} (Some (reply.Refused why)))
+  refused_told refusal.NoCall told = omega (arith, told)
+  refused_told refusal.NoTransaction told = told
+  refused_told refusal.InTransaction told = told
+  refused_told refusal.Present told = told
+  refused_told refusal.Absent told = told
+  refused_told refusal.BadBox told = told
+  refused_told refusal.PagesFull told = told
+  refused_told refusal.ClaimsFull told = told
+  refused_told refusal.PredicatesFull told = told
+  refused_told refusal.Device told = told
+  refused_told refusal.Failed told = told
+  refused_told refusal.Damaged told = told
+  refused_told refusal.NotFormatted told = told
+  refused_told refusal.BadSession told = told
+  refused_told refusal.CallOpen told = told
+  refused_told refusal.TooSmall told = told
+  refused_told refusal.BadParameter told = told
+  refused_told refusal.HistoryFull told = told
+  refused_told refusal.Memory told = told
+  refused_told (refusal.Busy s) told = told
+
+  -- what an undo says of the calls that failed, by the reply that ended its moves
+  pub undone_told : (reply : Option (Reply B)) → MatchOption reply (TellsAs state old new outcome.More) (λ r. TellsAs state old new (outcome.Replied r)) → TellsWhy state old new (undone_by reply)
+  undone_told None told = told
+  undone_told (Some reply.Aborted) told = omega (arith, told)
+  undone_told (Some (reply.Refused why)) told = refused_told why told
+  undone_told (Some reply.Ok) told = told
+  undone_told (Some reply.Inserted) told = told
+  undone_told (Some reply.Deleted) told = told
+  undone_told (Some (reply.Found entries)) told = told
+  undone_told (Some (reply.Committed number)) told = told
+
+-- where none failed before
+pub told_then : {A B D : Type 0} (state : D → Device) (old middle new : Parts B D) (result : Result A Refusal)
+    → (state middle.volume.shelf.disk).faults ≡ (state old.volume.shelf.disk).faults → TellsWhy state middle new result → TellsWhy state old new result
+told_then state old middle new (Ok done) same told = told ∙ same
+told_then state old middle new (Err why) same told = omega (arith, same, told)

@@ -18,7 +18,8 @@ use Rattle.gx_machine.specs.declared.entry.Entry.{Entry}
 use Rattle.gx_machine.specs.Keys.{Members}
 use Rattle.gx_machine.proofs.SetsByTests.{set_of_a_test_that_agrees}
 use Rattle.gx_node.specs.Reading.{Format}
-use Rattle.gx_opening.specs.Formatted.{Counted, faults_of}
+use Rattle.gx_opening.specs.Formatted.{Counted}
+use Rattle.gx_store.specs.Faults.{refusal_fails}
 use Rattle.gx_opening.specs.Standing.{known_for, limits_of, reading}
 use Rattle.gx_durable.specs.Classes.{class_of}
 use Rattle.gx_recovery.specs.Damage.{records_of}
@@ -100,7 +101,7 @@ never_damaged P (Ok x) is = tt
 never_damaged P (Err n) is = λ damaged. (let no : refusal.Memory ≡ refusal.Damaged = sym is ∙ damaged in cc)
 
 -- a call that makes no call of the device comes after one that counted right
-none_of : (why : Refusal) → why ≢ refusal.Device → faults_of why ≡ 0
+none_of : (why : Refusal) → why ≢ refusal.Device → refusal_fails why ≡ 0
 none_of refusal.Device other = absurd (other refl)
 none_of other is = refl
 

@@ -1,5 +1,5 @@
 -- An engine that begins over what stands on a device.
-use Rattle.std.specs.Prelude.{◌≡◌, ◌⊎◌, ℕ, Bool, List, []}
+use Rattle.std.specs.Prelude.{◌≡◌, ◌⊎◌, ℕ, ◌+◌, Bool, List, [], Result, Ok, Err}
 use Rattle.gx_geom.specs.declared.refusal.Refusal.{Refusal}
 use Rattle.gx_geom.specs.declared.refusal.Refusal.TheVariants.{Device as DeviceRefusal, Memory}
 use Rattle.gx_disk.specs.Device.{Device}
@@ -7,6 +7,8 @@ use Rattle.gx_disk.specs.Moments.{Leaves}
 use Rattle.gx_durable.specs.Area.{area_of}
 use Rattle.gx_durable.specs.Fitting.{AreGood}
 use Rattle.gx_events.specs.Engines.{stood}
+use Rattle.gx_store.specs.Faults.{refusal_fails}
+use Rattle.gx_engine.specs.declared.start.NotOpened.{NotOpened}
 use Rattle.gx_engine.specs.declared.start.Start.{Start}
 use Rattle.gx_engine.specs.Holds.{Holds}
 use Rattle.gx_engine.specs.Starting.{cut_off}
@@ -31,6 +33,11 @@ use Rattle.gx_restart.specs.Keeping.{StandsForFound}
 -- a device has as many sectors, and is as honest
 abbrev pub IsSameDevice : Device → Device → Type 0
 IsSameDevice old new = (new.sectors ≡ old.sectors) × (new.honest ≡ old.honest)
+
+-- no call of the device has failed where an engine begins, and else as many as its refusal says
+abbrev pub CountsOpening : {B D : Type 0} → (D → Device) → ℕ → Result (Parts B D) (NotOpened D) → Type 0
+CountsOpening state before (Ok engine) = (state engine.volume.shelf.disk).faults ≡ before
+CountsOpening state before (Err n) = (state n.disk).faults ≡ before + refusal_fails n.why
 
 -- what an engine starts from is what was found
 pub record StartsFrom {B : Type 0} (s : Standing B) (frames : ℕ) (start : Start B) : Type 0 where

@@ -13,6 +13,7 @@ use Rattle.gx_store.specs.State.{IsSteady}
 use Rattle.gx_events.specs.declared.outcome.Need.{Need}
 use Rattle.gx_events.specs.declared.outcome.Outcome.{Outcome}
 use Rattle.gx_events.specs.declared.outcome.Outcome.TheVariants.{Replied, More, Help, Nothing, Refused}
+use Rattle.gx_events.specs.Steps.{IsSync}
 use Rattle.gx_engine.specs.Ending.{SparesSo}
 use Rattle.gx_engine.specs.Holds.{Leads}
 use Rattle.gx_engine.specs.Lending.{BringPageComes}
@@ -36,7 +37,7 @@ module _ {C B D : Type 0} (shape : Members B) (proper : B → Bool) (said : List
   pub record Helps (named : Need) (old : Parts B D) (outcome : Outcome B) (new : Parts B D) : Type 0 where
     pub comes : HelpComes (state old.volume.shelf.disk) (state new.volume.shelf.disk) named old new outcome
     pub spares : (l : Limits) → SparesSo (class_of shape proper l) (reading_of said (format_of class)) (format_of class) (is_node (format_of class))
-        (state old.volume.shelf.disk) (state new.volume.shelf.disk) old new (λ events. Unit {0})
+        (state old.volume.shelf.disk) (state new.volume.shelf.disk) old new (IsSync old.sessions.failed outcome)
 
 -- an event that was not refused
 abbrev pub IsMade : {B : Type 0} → Outcome B → Type 0

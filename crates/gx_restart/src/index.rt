@@ -5,13 +5,14 @@ ghost use Rattle.gx_recovery.specs.Known.{Limits};
 ghost use Rattle.gx_durable.specs.Classes.{class_of, reading_of};
 ghost use Rattle.gx_restart.specs.Alone.{RunsOn};
 ghost use Rattle.gx_restart.specs.Called.{CallsBy, CallsIndex, EndsWhereHeld};
+ghost use Rattle.gx_engine.specs.Calls.{TellsAs};
 ghost use Rattle.gx_engine.specs.Made.{Makes};
 
 use gx_class::Probing;
 use gx_disk::SectorDisk;
 use gx_durable::ReadKeys;
 use gx_engine::{Engine, drive};
-use gx_events::Event;
+use gx_events::{Event, Outcome};
 use gx_geom::Refusal;
 use gx_machine::{Call, Reply};
 use std::marker::Model;
@@ -58,6 +59,7 @@ impl<D: SectorDisk, K: ReadKeys + Probing> Index<D, K> {
         requires { self.old.ended ≡ false }
         ensures calls { CallsBy (Makes K.Key.Shape K.is_proper K.said K.KeyClass D.state) false
             self.old session call result self.new }
+        ensures told { TellsAs D.state self.old.engine self.new.engine (Outcome.Replied result) }
         ensures ends { (l : Limits) → EndsWhereHeld K.Key.Shape K.is_proper K.said
             K.KeyClass D.state l self.old self.new }
     {
@@ -80,6 +82,7 @@ impl<D: SectorDisk, K: ReadKeys + Probing> Index<D, K> {
     pub fn call(&mut self, session: u8, call: Call<K::Key>) -> Reply<K::Key>
         ensures calls { CallsIndex (Makes K.Key.Shape K.is_proper K.said K.KeyClass D.state)
             self.old session call result self.new }
+        ensures told { TellsAs D.state self.old.engine self.new.engine (Outcome.Replied result) }
         ensures runs { (l : Limits) → RunsOn (class_of K.Key.Shape K.is_proper l)
             (reading_of K.said (format_of K.KeyClass)) (format_of K.KeyClass) (is_node (format_of K.KeyClass))
             D.state self.old.engine self.new.engine }

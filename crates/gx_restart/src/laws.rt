@@ -7,6 +7,8 @@ ghost use Rattle.gx_machine.specs.declared.reply.Reply.{Reply};
 ghost use Rattle.gx_node.specs.Reading.{format_of, is_node};
 ghost use Rattle.gx_recovery.specs.Known.{Limits};
 ghost use Rattle.gx_recovery.specs.Records.{Record};
+ghost use Rattle.gx_pool.specs.declared.frames.TheConstants.{FRAMES};
+ghost use Rattle.gx_index_laws.specs.declared.TheConstants.{CHECKPOINT_AT};
 ghost use Rattle.gx_index_laws.specs.Classes.{Class, IsLawful, Page};
 ghost use Rattle.gx_index_laws.specs.States as index;
 ghost use Rattle.gx_durable.specs.Classes.{class_of, reading_of};
@@ -91,4 +93,11 @@ pub fn a_settled_index_is_durable<D: SectorDisk, K: ReadKeys>()
         → Holds (class_of K.Key.Shape K.is_proper l) (reading_of K.said (format_of K.KeyClass)) (format_of K.KeyClass)
         (is_node (format_of K.KeyClass)) (D.state e.volume.shelf.disk) e bodies i
         → IsAtRest e → e.sessions.durable ≡ e.sessions.latest }
+{}
+
+/// The limits of an index, in numbers: a pool has 4,096 frames at most, and a checkpoint begins once the selected
+/// extent has 24 batches.
+pub fn limits()
+    ensures frames { FRAMES ≡ 4096 }
+    ensures checkpoint { CHECKPOINT_AT ≡ 24 }
 {}

@@ -6,7 +6,7 @@ ghost use Rattle.gx_node.specs.Reading.{format_of};
 ghost use Rattle.gx_glog.specs.declared.parameters.Parameters.{Parameters};
 ghost use Rattle.gx_opening.specs.Formatted.{IsAllowed};
 ghost use Rattle.gx_opening.specs.Standing.{MayStart, Stands};
-ghost use Rattle.gx_restart.specs.Beginning.{HasBegun, HasNotBegun, HoldsFound, IsSameDevice};
+ghost use Rattle.gx_restart.specs.Beginning.{CountsOpening, HasBegun, HasNotBegun, HoldsFound, IsSameDevice};
 ghost use Rattle.gx_restart.specs.Keeping.{KeepsItsSet, OpensSafely};
 ghost use Rattle.gx_restart.specs.Opened.{IsOpened, IsRefused};
 ghost use Rattle.gx_restart.specs.Order.{OpensInOrder};
@@ -44,8 +44,7 @@ fn finished<D: SectorDisk, K: ReadKeys + Probing>(
     ensures device { MatchResult result (λ new. IsSameDevice (D.state engine.volume.shelf.disk)
         (D.state new.volume.shelf.disk))
         (λ n. IsSameDevice (D.state engine.volume.shelf.disk) (D.state n.disk)) }
-    ensures faults { IfErr result (λ n. n.why ≡ Refusal.Device
-        → (D.state engine.volume.shelf.disk).faults < (D.state n.disk).faults) }
+    ensures faults { CountsOpening D.state (D.state engine.volume.shelf.disk).faults result }
     ensures idle { IfOk result IsIdle }
     ensures goes { IfOk result (GoesBy (Makes K.Key.Shape K.is_proper K.said K.KeyClass D.state) engine) }
     ensures keeps { (p : Parameters) (seen : List ℕ) → 4 ≤ p.most
@@ -82,7 +81,7 @@ fn open_over<D: SectorDisk, K: ReadKeys + Probing>(
     requires frames { (16 ≤ frames) × (frames ≤ 4096) }
     ensures device { MatchResult result (λ engine. IsSameDevice (D.state disk) (D.state engine.volume.shelf.disk))
         (λ n. IsSameDevice (D.state disk) (D.state n.disk)) }
-    ensures faults { IfErr result (λ n. n.why ≡ Refusal.Device → (D.state disk).faults < (D.state n.disk).faults) }
+    ensures faults { CountsOpening D.state (D.state disk).faults result }
     ensures idle { IfOk result IsIdle }
     ensures began { IfOk result (BeganWith (Makes K.Key.Shape K.is_proper K.said K.KeyClass D.state) frames) }
     ensures keeps { (a : D) → (D.state disk).honest ≡ true
@@ -108,7 +107,7 @@ fn open_with<D: SectorDisk, K: ReadKeys + Probing>(
         → result ≡ Err (record { why = Refusal.TooSmall; disk = disk }) }
     ensures device { MatchResult result (λ engine. IsSameDevice (D.state disk) (D.state engine.volume.shelf.disk))
         (λ n. IsSameDevice (D.state disk) (D.state n.disk)) }
-    ensures faults { IfErr result (λ n. n.why ≡ Refusal.Device → (D.state disk).faults < (D.state n.disk).faults) }
+    ensures faults { CountsOpening D.state (D.state disk).faults result }
     ensures idle { IfOk result IsIdle }
     ensures began { IfOk result (BeganWith (Makes K.Key.Shape K.is_proper K.said K.KeyClass D.state) frames) }
     ensures safe { (D.state disk).honest ≡ true → MatchResult result
@@ -161,7 +160,7 @@ pub fn open<D: SectorDisk, K: ReadKeys + Probing>(
         → result ≡ Err (record { why = Refusal.TooSmall; disk = disk }) }
     ensures device { MatchResult result (λ engine. IsSameDevice (D.state disk) (D.state engine.volume.shelf.disk))
         (λ n. IsSameDevice (D.state disk) (D.state n.disk)) }
-    ensures faults { IfErr result (λ n. n.why ≡ Refusal.Device → (D.state disk).faults < (D.state n.disk).faults) }
+    ensures faults { CountsOpening D.state (D.state disk).faults result }
     ensures idle { IfOk result IsIdle }
     ensures began { IfOk result (BeganWith (Makes K.Key.Shape K.is_proper K.said K.KeyClass D.state) frames) }
     ensures safe { (D.state disk).honest ≡ true → MatchResult result

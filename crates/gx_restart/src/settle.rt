@@ -4,6 +4,7 @@ ghost use Rattle.gx_node.specs.Reading.{format_of, is_node};
 ghost use Rattle.gx_recovery.specs.Known.{Limits};
 ghost use Rattle.gx_durable.specs.Classes.{class_of, reading_of};
 ghost use Rattle.gx_restart.specs.Alone.{RunsOn};
+ghost use Rattle.gx_engine.specs.Calls.{TellsWhy};
 ghost use Rattle.gx_engine.specs.Made.{Makes};
 ghost use Rattle.gx_engine.specs.Repeated.{IsFlushing};
 ghost use Rattle.gx_engine.specs.Resting.{IsAtRest, KeepsSessions};
@@ -23,6 +24,7 @@ impl<D: SectorDisk, K: ReadKeys + Probing> Index<D, K> {
         requires { IsFlushing event }
         ensures made { IsExhausted (Makes K.Key.Shape K.is_proper K.said K.KeyClass D.state) event
             self.old.engine result self.new.engine }
+        ensures told { TellsWhy D.state self.old.engine self.new.engine result }
         ensures same { self.new.ended ≡ self.old.ended }
         ensures memory { result ≢ Err Refusal.Memory }
     {
@@ -36,6 +38,7 @@ impl<D: SectorDisk, K: ReadKeys + Probing> Index<D, K> {
     fn exhaust_both(&mut self) -> Result<(), Refusal>
         ensures made { SettlesOn (Makes K.Key.Shape K.is_proper K.said K.KeyClass D.state)
             self.old.engine result self.new.engine }
+        ensures told { TellsWhy D.state self.old.engine self.new.engine result }
         ensures same { self.new.ended ≡ self.old.ended }
         ensures memory { result ≢ Err Refusal.Memory }
     {
@@ -50,6 +53,7 @@ impl<D: SectorDisk, K: ReadKeys + Probing> Index<D, K> {
     /// flush.
     pub fn settle(&mut self) -> Result<(), Refusal>
         ensures settles { Settles (Makes K.Key.Shape K.is_proper K.said K.KeyClass D.state) self.old result self.new }
+        ensures told { TellsWhy D.state self.old.engine self.new.engine result }
         ensures runs { (l : Limits) → RunsOn (class_of K.Key.Shape K.is_proper l)
             (reading_of K.said (format_of K.KeyClass)) (format_of K.KeyClass) (is_node (format_of K.KeyClass))
             D.state self.old.engine self.new.engine }

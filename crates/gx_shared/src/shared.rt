@@ -5,6 +5,7 @@ ghost use Rattle.gx_shared.specs.Sharing.{fresh_sessions, shares_of};
 
 use crate::turns::Turns;
 use crate::{Book, Run, Session};
+use gx_disk::SyncAhead;
 use gx_events::Events;
 use gx_geom::{Refusal, Shape};
 use gx_machine::SESSIONS;
@@ -47,6 +48,7 @@ fn gathered<R: Ledger>(first: Share<R>, sessions: Vec<Session<R>>) -> Share<R>
 pub struct Shared<B: Shape, E: Events<B>, R: Run<B>> {
     pub(crate) book: Mutex<Book<B, E, R>>,
     pub(crate) turns: Turns,
+    ahead: Option<SyncAhead>,
 }
 
 impl<B: Shape, E: Events<B>, R: Run<B>> Shared<B, E, R> {
@@ -80,10 +82,25 @@ impl<B: Shape, E: Events<B>, R: Run<B>> Shared<B, E, R> {
                 Shared {
                     book: Mutex::new(book),
                     turns: Turns::new(),
+                    ahead: None,
                 },
                 sessions,
             )),
             Err(engine) => Err((Refusal::Memory, engine)),
+        }
+    }
+
+    /// The same, with a handle of the file that the engine works on, if there is one. A call or a flusher that wrote to
+    /// the log syncs the file by it between two events, while no lock is held.
+    pub fn with_sync_ahead(self, ahead: Option<SyncAhead>) -> Self {
+        let Shared { book, turns, .. } = self;
+        Shared { book, turns, ahead }
+    }
+
+    /// Syncs the file where a write of the log isn't settled, by the handle for it.
+    pub(crate) fn sync_ahead(&self) {
+        if let Some(ahead) = &self.ahead {
+            ahead.sync();
         }
     }
 

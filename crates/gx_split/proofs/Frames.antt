@@ -5,6 +5,9 @@ use Rattle.std.specs.Int.{int_min, int_max}
 use Rattle.std.proofs.lemmas.Int.{ints, clamps}
 use Rattle.gx_geom.specs.Rectangles.{Rectangle, union, within}
 use Rattle.gx_geom.specs.BoxLaws.{one_of, within_corners}
+use Rattle.gx_geom.specs.Solids as solids
+use Rattle.gx_geom.specs.Solids.{Solid}
+use Rattle.gx_geom.specs.SolidLaws as solid
 
 lesser_stays : (a b : ℤ) → a ≤ℤ b → int_min a b ≡ a
 lesser_stays a b h = omega (arith, ints, clamps)
@@ -17,6 +20,19 @@ pub union_of_covered : (a b : Rectangle) → within b a ≡ true → union a b �
 union_of_covered a b e =
     let w = within_corners b a e in
     rw (lesser_stays a.x1 b.x1 w.x_from, lesser_stays a.y1 b.y1 w.y_from, greater_stays a.x2 b.x2 w.x_to, greater_stays a.y2 b.y2 w.y_to) refl
+
+-- so it is in space
+pub union_of_covered_solid : (a b : Solid) → solids.within b a ≡ true → solids.union a b ≡ a
+union_of_covered_solid a b e =
+    let w = solid.within_corners b a e in
+    rw (
+      lesser_stays a.x1 b.x1 w.in_x.from,
+      lesser_stays a.y1 b.y1 w.in_y.from,
+      lesser_stays a.z1 b.z1 w.in_z.from,
+      greater_stays a.x2 b.x2 w.in_x.to,
+      greater_stays a.y2 b.y2 w.in_y.to,
+      greater_stays a.z2 b.z2 w.in_z.to,
+    ) refl
 
 -- a side from one of two low ends to one of two high ends
 pub side_reached : (low high from to a b : ℤ) (longest : ℕ) → low ≤ℤ high → from ≤ℤ a → a ≤ℤ b → b ≤ℤ to

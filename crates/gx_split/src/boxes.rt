@@ -36,7 +36,7 @@ fn framed(frame: &BoxFrame, key: &Box2) -> BoxFrame
 
 /// How long a side from `low` to `high` becomes at most, where it is joined with one of at most `longest` that lies
 /// between `from` and `to`.
-fn longest_side(low: i32, high: i32, from: i32, to: i32, longest: u32) -> u32
+pub(crate) fn longest_side(low: i32, high: i32, from: i32, to: i32, longest: u32) -> u32
     requires { low ≤ℤ high }
     ensures { (a b : ℤ) → from ≤ℤ a → a ≤ℤ b → b ≤ℤ to → unsigned_abs (b -ℤ a) ≤ longest
         → unsigned_abs (int_max high b -ℤ int_min low a) ≤ result }

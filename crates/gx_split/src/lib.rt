@@ -9,8 +9,10 @@ mod narrow;
 mod place;
 mod seeds;
 mod sides;
+mod solids;
 mod waiting;
 
 pub use boxes::BoxFrame;
 pub use measure::Measure;
 pub use sides::split;
+pub use solids::SolidFrame;

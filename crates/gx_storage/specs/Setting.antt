@@ -43,6 +43,10 @@ module _ {D : Type 0} (state : D → Device) where
   abbrev pub IsSteadyAs : Shelf D → Type 0
   IsSteadyAs s = IsSteady (state s.disk) s.frames
 
+  -- no call of the device has failed where the result is well, and else as many as its fault says
+  abbrev pub ToldAs : {A F : Type 0} → (F → ℕ) → Shelf D → Shelf D → Result A F → Type 0
+  ToldAs fails old new result = owner.CountsFaults fails (state old.disk).faults (state new.disk).faults result
+
   -- the image of a page's content has that page's number as its own
   abbrev pub OwnNumberAs : Shelf D → ℕ → Type 0
   OwnNumberAs s page = HasOwnNumber (state s.disk).seen s page

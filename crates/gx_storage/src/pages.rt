@@ -10,7 +10,8 @@ ghost use Rattle.gx_node.specs.Trees.{Pair};
 ghost use Rattle.gx_node.specs.Writes.{is_sweepable};
 ghost use Rattle.gx_node.specs.Store.{node_of};
 ghost use Rattle.gx_storage.specs.Bringing.{bringing, has_removable};
-ghost use Rattle.gx_storage.specs.Setting.{FaultsAs, StaysAs, UnloggedAs, tree_at};
+ghost use Rattle.gx_store.specs.Faults.{store_fails};
+ghost use Rattle.gx_storage.specs.Setting.{FaultsAs, StaysAs, ToldAs, UnloggedAs, tree_at};
 
 use crate::Storage;
 use crate::changes::room::begin_reading;
@@ -67,6 +68,7 @@ impl<D: SectorDisk, K: ReadKeys> Storage<D, K> {
             self.new }
         ensures stays { StaysAs K.KeyClass D.state self.old.shelf self.new.shelf }
         ensures held { OnOk result (IsHeld self.new.shelf page) }
+        ensures told { ToldAs D.state store_fails self.old.shelf self.new.shelf result }
         ensures why { IfErr result (FaultsAs K.KeyClass D.state (bringing self.old) self.new.shelf) }
         ensures room { result ≢ Err StoreFault.NoRoom }
     {

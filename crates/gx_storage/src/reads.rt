@@ -6,8 +6,10 @@ ghost use Rattle.gx_node.specs.Trees.{Used};
 ghost use Rattle.gx_tree.specs.Looking.{LookStep};
 ghost use Rattle.gx_tree.specs.Seeking.{Seeks};
 ghost use Rattle.gx_tree.specs.Wants.{wants};
+ghost use Rattle.gx_node.specs.Owner.{look_fails, step_fails};
+ghost use Rattle.gx_store.specs.Faults.{store_fails};
 ghost use Rattle.gx_storage.specs.Bringing.{bringing};
-ghost use Rattle.gx_storage.specs.Setting.{IsWhyAs, IsWhyOfLookAs, StaysAs, UnloggedAs, tree_at};
+ghost use Rattle.gx_storage.specs.Setting.{IsWhyAs, IsWhyOfLookAs, StaysAs, ToldAs, UnloggedAs, tree_at};
 
 use crate::Storage;
 use crate::changes::room::begin_reading;
@@ -35,6 +37,7 @@ impl<D: SectorDisk, K: ReadKeys + Probing> Storage<D, K> {
         ensures step { OnOk result (LookStep (tree_at K.KeyClass D.state self.new.shelf)
             (wants K.passes wanted.now.keys wanted.now.row) (K.passes wanted.now.bounds) look.old.stack.items
             look.new.stack.items look.old.found.items look.new.found.items) }
+        ensures told { ToldAs D.state (look_fails store_fails) self.old.shelf self.new.shelf result }
         ensures why { IfErr result (IsWhyOfLookAs K.KeyClass D.state (bringing self.old) self.new.shelf) }
         ensures room { result ≢ Err (LookFault.Step (StepFault.Pages StoreFault.NoRoom)) }
         ensures damaged { result ≡ Err (LookFault.Step StepFault.Damaged)
@@ -62,6 +65,7 @@ impl<D: SectorDisk, K: ReadKeys + Probing> Storage<D, K> {
         ensures held { OnOk result (IsHeld self.new.shelf page) }
         ensures sought { IfOk result (Seeks (wants K.passes wanted.now.keys wanted.now.row)
             ((tree_at K.KeyClass D.state self.new.shelf).node page)) }
+        ensures told { ToldAs D.state (step_fails store_fails) self.old.shelf self.new.shelf result }
         ensures why { IfErr result (IsWhyAs K.KeyClass D.state (bringing self.old) self.new.shelf) }
         ensures room { result ≢ Err (StepFault.Pages StoreFault.NoRoom) }
         ensures damaged { result ≡ Err StepFault.Damaged → Used (tree_at K.KeyClass D.state self.new.shelf) page

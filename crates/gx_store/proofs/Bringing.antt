@@ -6,6 +6,7 @@ use Rattle.gx_page.specs.Contents.{Contents}
 use Rattle.gx_page.specs.Reading.{read_of}
 use Rattle.gx_node.specs.Reading.{Format}
 use Rattle.gx_node.specs.Lists.{Each}
+use Rattle.gx_node.specs.Owner.{CountsFaults}
 use Rattle.gx_node.specs.Store.{Stays, node_of}
 use Rattle.gx_pool.specs.declared.fault.PoolFault.{PoolFault}
 use Rattle.gx_pool.specs.declared.fault.PoolFault.TheVariants as pool
@@ -18,7 +19,7 @@ use Rattle.gx_pool.proofs.Bringing.{same_held_kept}
 use Rattle.gx_pool.proofs.Creating.{none_clean_counted}
 use Rattle.gx_pool.proofs.Readable.{bringing_readable, some_not_damaged}
 use Rattle.gx_pool.proofs.Shown.{brings_backed, brings_shown, brings_passed}
-use Rattle.gx_store.specs.Faults.{IsWhy, told_of, is_taken, CanBeRead}
+use Rattle.gx_store.specs.Faults.{IsWhy, told_of, store_fails, is_taken, CanBeRead}
 use Rattle.gx_store.specs.Since.{IsAsItWas, GoesOn}
 use Rattle.gx_store.specs.Standing.{standing, standing_node, store_of}
 use Rattle.gx_store.specs.State.{Shelf, IsHeld, IsInOrder, IsSteady}
@@ -173,12 +174,20 @@ brought_nodes f passes d e s disk' t pages brings read = record {
   room = refl;
 }
 
+-- how many calls have failed
+bringing_told : (before after : ℕ) (result : Result (Unit {0}) PoolFault) → after ≡ before + faults_of result → CountsFaults store_fails before after (told_of result)
+bringing_told before after (Ok done) is = omega (arith, is)
+bringing_told before after (Err pool.NoCleanFrame) is = is
+bringing_told before after (Err pool.Device) is = is
+bringing_told before after (Err pool.Damaged) is = is
+
 -- what a bringing leaves of a store, told at once
 pub record Fetched {D : Type 0} (passes : ℕ → Contents → Bool) (d e : disk.Device) (s t : Shelf D) (pages : List ℕ) (result : Result (Unit {0}) PoolFault) : Type 0 where
   pub goes_on : GoesOn passes d e s t
   pub same : (q : ℕ) → IsAsItWas d e s.frames t.frames q
   pub held : OnOk (told_of result) (Each (IsHeld t) pages)
   pub why : IfErr (told_of result) (IsWhy passes d e s t)
+  pub told : CountsFaults store_fails d.faults e.faults (told_of result)
 
 pub fetched : {D : Type 0} (passes : ℕ → Contents → Bool) (d e : disk.Device) (s : Shelf D) (disk' : D) (t : State) (pages : List ℕ) (result : Result (Unit {0}) PoolFault) (n : ℕ) → n ≡ s.pages
     → Each (λ p. (1 ≤ p) × (p ≤ s.used)) pages → BringsAll (passes n) d e (holding s.frames pages) t pages result → IsInOrder (passes s.pages) d.sectors s.frames s.used s.pages
@@ -190,4 +199,5 @@ fetched passes d e s disk' t pages result n same taken first order =
       same = λ q. brought_same passes d e s disk' t pages result q brought;
       held = brought_held passes d e s disk' t pages result taken brought;
       why = bringing_why passes d e s disk' t pages result taken brought;
+      told = bringing_told d.faults e.faults result brought.faults;
     }

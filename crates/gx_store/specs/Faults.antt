@@ -1,5 +1,7 @@
 -- Why pages were refused.
 use Rattle.std.specs.Prelude.{◌≡◌, ℕ, ◌-◌, ◌<◌, ◌≤◌, false, max, nat_le, Bool, Result, Ok, Err}
+use Rattle.gx_geom.specs.declared.refusal.Refusal.{Refusal}
+use Rattle.gx_geom.specs.declared.refusal.Refusal.TheVariants as refusal
 use Rattle.gx_disk.specs.Device as disk
 use Rattle.gx_page.specs.Contents.{Contents}
 use Rattle.gx_pool.specs.declared.fault.PoolFault.{PoolFault}
@@ -16,6 +18,15 @@ told_of (Ok done) = Ok done
 told_of (Err pool.NoCleanFrame) = Err (TooFewFrames 1)
 told_of (Err pool.Device) = Err Device
 told_of (Err pool.Damaged) = Err Damaged
+
+-- how many calls of the device failed where this is refused, and where pages are: one where the device is said to have failed, else none
+abbrev pub refusal_fails : Refusal → ℕ
+refusal_fails refusal.Device = 1
+refusal_fails other = 0
+
+abbrev pub store_fails : StoreFault → ℕ
+store_fails Device = 1
+store_fails fault = 0
 
 -- whether a page is taken, where so many are
 abbrev pub is_taken : ℕ → ℕ → Bool

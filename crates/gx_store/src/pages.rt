@@ -15,7 +15,7 @@ impl<D: SectorDisk, K: KeyClass> Pages<K> for PageStore<D, K> {
     ghost use Rattle.gx_node.specs.Reading.{format_of, is_node};
     ghost use Rattle.gx_pool.proofs.Going.{none_goes};
     ghost use Rattle.gx_store.specs.Asked.{MovesAsAsked};
-    ghost use Rattle.gx_store.specs.Faults.{IsWhy};
+    ghost use Rattle.gx_store.specs.Faults.{IsWhy, store_fails};
     ghost use Rattle.gx_store.specs.Since.{IsSince};
     ghost use Rattle.gx_store.specs.Standing.{store_of};
     ghost use Rattle.gx_store.specs.State.{IsHeld, IsSteady};
@@ -33,6 +33,10 @@ impl<D: SectorDisk, K: KeyClass> Pages<K> for PageStore<D, K> {
 
     ghost why = { λ old new fault. IsWhy (is_node (format_of K.KeyClass)) (D.state old.disk)
         (D.state new.disk) old new fault };
+
+    ghost faults = { λ s. (D.state s.disk).faults };
+
+    ghost fails = { λ fault. store_fails fault };
 
     fn used(&self) -> u32 {
         self.used

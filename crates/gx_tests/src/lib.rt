@@ -39,4 +39,6 @@ mod scripts;
 #[cfg(test)]
 mod small;
 #[cfg(test)]
+mod solids;
+#[cfg(test)]
 mod trees;

@@ -1,6 +1,7 @@
 //! A page is brought for a step.
 ghost use Rattle.std.specs.Prelude.{◌≡◌, [], ◌∷◌, Err, IfErr, OnOk, OnErr};
 ghost use Rattle.gx_node.specs.Trees.{Used};
+ghost use Rattle.gx_node.specs.Owner.{CountsFaults, step_fails};
 ghost use Rattle.gx_node.specs.Owner.{Brings, AsksAtMost, KeepsSince, IsWhy, IsWhyLater, Asks};
 ghost use Rattle.gx_node.specs.Store.{Stays, tree_of};
 
@@ -21,6 +22,7 @@ pub(crate) fn bring_page<K: KeyClass, P: Pages<K>>(
     ensures asked { OnOk result (Asks P.asked (Brings (page ∷ []) ∷ []) pages.old pages.new) }
     ensures tried { OnErr result (AsksAtMost P.asked (page ∷ []) pages.old pages.new) }
     ensures why { IfErr result (IsWhy (P.why pages.old pages.new)) }
+    ensures told { CountsFaults (step_fails P.fails) (P.faults pages.old) (P.faults pages.new) result }
     ensures later { OnOk result (IsWhyLater P.why pages.old pages.new) }
     ensures damaged { result ≡ Err StepFault.Damaged → ¬ Used (tree_of (P.store pages.new)) page }
 {

@@ -5,6 +5,7 @@ ghost use Rattle.std.specs.Bool.{OnTrue, OnFalse};
 ghost use Rattle.gx_node.specs.Reading.{format_of, is_node};
 ghost use Rattle.gx_node.specs.Trees.{Used};
 ghost use Rattle.gx_tree.specs.Descending.{Descends, SlotBelow, StepsDown, is_widened, next_of};
+ghost use Rattle.gx_node.specs.Owner.{CountsFaults, step_fails};
 ghost use Rattle.gx_node.specs.Owner.{KeepsSince, KeepsSinceBut, IsWhy, IsWhyLater, Brings, AsksAtMost, AsksToWrite};
 ghost use Rattle.gx_node.specs.Owner.{Asks, to_write};
 ghost use Rattle.gx_node.specs.Store.{node_of, tree_of, Stays};
@@ -141,6 +142,7 @@ pub fn way_step<K: KeyClass, P: Pages<K>>(
     ensures asked { OnOk result (Asks P.asked (Brings (item.now.page ∷ []) ∷ []) pages.old pages.new) }
     ensures tried { OnErr result (AsksAtMost P.asked (item.now.page ∷ []) pages.old pages.new) }
     ensures why { IfErr result (IsWhy (P.why pages.old pages.new)) }
+    ensures told { CountsFaults (step_fails P.fails) (P.faults pages.old) (P.faults pages.new) result }
     ensures later { OnOk result (IsWhyLater P.why pages.old pages.new) }
     ensures way { IfOk result (Descends K.cost K.joined most ((tree_of (P.store pages.new)).node item.now.page)
         item.now.seen coming.now) }
@@ -177,6 +179,7 @@ pub fn descend_step<K: KeyClass, P: PagesMut<K>>(
     ensures tried { OnErr result (AsksToWrite P.asked (item.now.page ∷ []) 0 pages.old pages.new) }
     ensures read { IfOk result (λ did. is_widened did ≡ false → KeepsSince P.since pages.old pages.new) }
     ensures why { IfErr result (IsWhy (P.why pages.old pages.new)) }
+    ensures told { CountsFaults (step_fails P.fails) (P.faults pages.old) (P.faults pages.new) result }
     ensures held { OnOk result (P.held pages.new item.now.page) }
     ensures changing { IfOk result (λ did. is_widened did ≡ true → P.changing pages.new item.now.page) }
     ensures descended { P.steady pages.old

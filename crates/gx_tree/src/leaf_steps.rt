@@ -7,6 +7,7 @@ ghost use Rattle.gx_node.specs.Edits.{entry_of};
 ghost use Rattle.gx_node.specs.declared.items.TheConstants.{MAX_ENTRIES};
 ghost use Rattle.gx_node.specs.Trees.{Pair, Used};
 ghost use Rattle.gx_node.specs.Writes.{is_sweepable};
+ghost use Rattle.gx_node.specs.Owner.{CountsFaults, step_fails};
 ghost use Rattle.gx_node.specs.Owner.{KeepsSince, KeepsSinceBut, IsWhy, IsWhyLater, Brings, Prepares, AsksAtMost};
 ghost use Rattle.gx_node.specs.Owner.{AsksToWrite, Asks, to_write};
 ghost use Rattle.gx_tree.specs.Seeking.{is_here};
@@ -42,6 +43,7 @@ pub(crate) fn bring_leaf<K: KeyClass, P: PagesMut<K>>(
     ensures asked { OnOk result (Asks P.asked (Brings (page ∷ []) ∷ []) pages.old pages.new) }
     ensures tried { OnErr result (AsksAtMost P.asked (page ∷ []) pages.old pages.new) }
     ensures why { IfErr result (IsWhy (P.why pages.old pages.new)) }
+    ensures told { CountsFaults (step_fails P.fails) (P.faults pages.old) (P.faults pages.new) result }
     ensures later { OnOk result (IsWhyLater P.why pages.old pages.new) }
     ensures damaged { result ≡ Err StepFault.Damaged → Used (tree_of (P.store pages.new)) page
         → ((tree_of (P.store pages.new)).node page).level ≢ 0 }
@@ -69,6 +71,7 @@ pub(crate) fn prepare_page<K: KeyClass, P: PagesMut<K>>(
     ensures since { KeepsSince P.since pages.old pages.new }
     ensures asked { Asks P.asked (Prepares (page ∷ []) 0 ∷ []) pages.old pages.new }
     ensures why { IfErr result (P.why pages.old pages.new) }
+    ensures told { CountsFaults P.fails (P.faults pages.old) (P.faults pages.new) result }
 {
     pages.prepare(&[page], 0)
 }
@@ -91,6 +94,7 @@ pub fn add_step<K: KeyClass, P: PagesMut<K>>(
     ensures asked { OnOk result (Asks P.asked (to_write true (page ∷ []) 0) pages.old pages.new) }
     ensures tried { OnErr result (AsksToWrite P.asked (page ∷ []) 0 pages.old pages.new) }
     ensures why { IfErr result (IsWhy (P.why pages.old pages.new)) }
+    ensures told { CountsFaults (step_fails P.fails) (P.faults pages.old) (P.faults pages.new) result }
     ensures held { OnOk result (P.held pages.new page × P.changing pages.new page) }
     ensures added { P.steady pages.old
         → OnOk result (Appends most (tree_of (P.store pages.old)) (tree_of (P.store pages.new)) page entry.now) }
@@ -125,6 +129,7 @@ pub fn set_mark_step<K: Probing, P: PagesMut<K>>(
     ensures tried { OnErr result (AsksToWrite P.asked (page ∷ []) 0 pages.old pages.new) }
     ensures passed { IfOk result (λ sought. is_here sought ≡ false → KeepsSince P.since pages.old pages.new) }
     ensures why { IfErr result (IsWhy (P.why pages.old pages.new)) }
+    ensures told { CountsFaults (step_fails P.fails) (P.faults pages.old) (P.faults pages.new) result }
     ensures held { OnOk result (P.held pages.new page) }
     ensures changing { IfOk result (λ sought. is_here sought ≡ true → P.changing pages.new page) }
     ensures marked { P.steady pages.old → IfOk result (SetsMark (wants K.passes wanted.now.keys wanted.now.row)

@@ -7,6 +7,7 @@ ghost use Rattle.gx_node.specs.Trees.{Pair, Used};
 ghost use Rattle.gx_node.specs.Reach as reach;
 ghost use Rattle.gx_tree.specs.Found.{found_at};
 ghost use Rattle.gx_tree.specs.Looking.{below, beyond, item_of, LookStep, Reads};
+ghost use Rattle.gx_node.specs.Owner.{CountsFaults, look_fails};
 ghost use Rattle.gx_node.specs.Owner.{AsksAtMost, KeepsSince, IsWhyOfLook, IsWhyLater, Brings, Asks};
 ghost use Rattle.gx_node.specs.Store.{node_of, tree_of, Stays};
 ghost use Rattle.gx_tree.specs.Wants.{has_row, wants};
@@ -211,6 +212,7 @@ pub fn look_step<K: Probing, P: Pages<K>>(
     ensures tried { OnErr result ((rest : List reach.TraversalItem) (item : reach.TraversalItem)
         → look.old.stack.items ≡ rest ++ item ∷ [] → AsksAtMost P.asked (item.page ∷ []) pages.old pages.new) }
     ensures why { IfErr result (IsWhyOfLook (P.why pages.old pages.new)) }
+    ensures told { CountsFaults (look_fails P.fails) (P.faults pages.old) (P.faults pages.new) result }
     ensures later { OnOk result (IsWhyLater P.why pages.old pages.new) }
     ensures step { OnOk result (LookStep (tree_of (P.store pages.new)) (wants K.passes wanted.now.keys wanted.now.row)
         (K.passes wanted.now.bounds) look.old.stack.items look.new.stack.items

@@ -41,6 +41,7 @@ pub(crate) fn take_side<K: KeyClass, P: PagesMut<K>>(
     ensures steady { P.steady pages.old → P.steady pages.new }
     ensures since { KeepsSinceBut P.since result pages.old pages.new }
     ensures asked { Asks P.asked [] pages.old pages.new }
+    ensures told { P.faults pages.new ≡ P.faults pages.old }
 {
     pages.take(from);
     let page = pages.used();
@@ -67,6 +68,7 @@ pub(crate) fn keep_side<K: KeyClass, P: PagesMut<K>>(
     ensures steady { P.steady pages.old → P.steady pages.new }
     ensures since { KeepsSinceBut P.since page pages.old pages.new }
     ensures asked { Asks P.asked [] pages.old pages.new }
+    ensures told { P.faults pages.new ≡ P.faults pages.old }
 {
     pages.change(page, KeepSide { sides });
     pages.change(page, link);

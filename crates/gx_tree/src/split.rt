@@ -7,6 +7,7 @@ ghost use Rattle.gx_node.specs.declared.items.TheConstants.{MAX_ENTRIES};
 ghost use Rattle.gx_node.specs.Legal.{Legal};
 ghost use Rattle.gx_node.specs.Trees.{Used, size, times, child_pages};
 ghost use Rattle.gx_node.specs.Keyed.{rules_of};
+ghost use Rattle.gx_node.specs.Owner.{CountsFaults, split_fails, step_fails};
 ghost use Rattle.gx_node.specs.Owner.{KeepsSince, KeepsSinceBut, IsWhy, IsWhyLater, Brings, AsksAtMost, AsksToWrite};
 ghost use Rattle.gx_node.specs.Owner.{Asks, IsWhyOfSplit, to_write};
 ghost use Rattle.gx_tree.specs.Splitting.{NamesOnce, CanSplit, DidSplit, HasNoPlace, Splits, parent_of, has_split};
@@ -101,6 +102,7 @@ fn bring_both<K: KeyClass, P: Pages<K>>(
     ensures asked { OnOk result (Asks P.asked (Brings (page ∷ parent ∷ []) ∷ []) pages.old pages.new) }
     ensures tried { OnErr result (AsksAtMost P.asked (page ∷ parent ∷ []) pages.old pages.new) }
     ensures why { IfErr result (IsWhy (P.why pages.old pages.new)) }
+    ensures told { CountsFaults (step_fails P.fails) (P.faults pages.old) (P.faults pages.new) result }
     ensures later { OnOk result (IsWhyLater P.why pages.old pages.new) }
     ensures damaged { result ≡ Err StepFault.Damaged → Used (tree_of (P.store pages.new)) page
         → Used (tree_of (P.store pages.new)) parent → page ≡ parent }
@@ -180,6 +182,7 @@ fn name_halves<K: KeyClass, P: PagesMut<K>>(
     ensures steady { P.steady pages.old → P.steady pages.new }
     ensures since { KeepsSinceBut P.since parent pages.old pages.new }
     ensures asked { Asks P.asked [] pages.old pages.new }
+    ensures told { P.faults pages.new ≡ P.faults pages.old }
 {
     pages.change(parent, bound);
     pages.change(parent, sibling);
@@ -211,6 +214,7 @@ fn make_split<K: KeyClass, P: PagesMut<K>>(
     ensures changing { P.changing pages.new page × P.changing pages.new parent × P.changing pages.new result.sibling }
     ensures sibling { result.sibling ≡ suc (length (P.store pages.old).nodes) }
     ensures asked { Asks P.asked [] pages.old pages.new }
+    ensures told { P.faults pages.new ≡ P.faults pages.old }
     ensures keys { K.is_key result.left × K.is_key result.right }
 {
     let sides = halves.sides();
@@ -251,7 +255,7 @@ fn make_split<K: KeyClass, P: PagesMut<K>>(
 /// Refused with `PagesFull` only where no page is left; with `Pages` where a page could not be brought, or what the
 /// changes need could not be had; and with `Damaged` where the two aren't a full node and an inner node above it, or
 /// the counter is at its end. Nothing has changed then. The node's keys are written over the first of `keys`.
-#[tactic(auto, using(crate::proofs::Owner::why_any))]
+#[tactic(auto, using(crate::proofs::Owner::why_any, crate::proofs::Owner::fails_none))]
 pub fn split_step<K: KeyClass, P: PagesMut<K>>(
     pages: &mut P,
     page: u32,
@@ -270,6 +274,7 @@ pub fn split_step<K: KeyClass, P: PagesMut<K>>(
     ensures tried { OnErr result (AsksToWrite P.asked (page ∷ parent ∷ []) 1 pages.old pages.new) }
     ensures none { IfOk result (λ did. IfNone did (KeepsSince P.since pages.old pages.new)) }
     ensures why { IfErr result (IsWhyOfSplit (P.why pages.old pages.new)) }
+    ensures told { CountsFaults (split_fails P.fails) (P.faults pages.old) (P.faults pages.new) result }
     ensures held { IfOk result (λ did. IfSome did (λ split.
         P.held pages.new page × P.held pages.new parent × P.held pages.new split.sibling)) }
     ensures changing { IfOk result (λ did. IfSome did (λ split.

@@ -5,6 +5,7 @@ ghost use Rattle.gx_node.specs.declared.items.TheConstants.{MAX_ENTRIES};
 ghost use Rattle.gx_node.specs.Legal.{Legal};
 ghost use Rattle.gx_node.specs.Trees.{Used, size};
 ghost use Rattle.gx_node.specs.Keyed.{rules_of};
+ghost use Rattle.gx_node.specs.Owner.{CountsFaults, split_fails};
 ghost use Rattle.gx_node.specs.Owner.{KeepsSince, IsWhyOfSplit, AsksToWrite, Asks, to_write};
 ghost use Rattle.gx_tree.specs.Splitting.{CanSplitRoot, DidSplitRoot};
 ghost use Rattle.gx_node.specs.Store.{node_at, tree_of};
@@ -87,6 +88,7 @@ fn make_root_split<K: KeyClass, P: PagesMut<K>>(
     ensures held { P.held pages.new 1 × P.held pages.new result.first × P.held pages.new result.second }
     ensures changing { P.changing pages.new 1 × P.changing pages.new result.first × P.changing pages.new result.second }
     ensures asked { Asks P.asked [] pages.old pages.new }
+    ensures told { P.faults pages.new ≡ P.faults pages.old }
     ensures places { (result.first ≡ suc (length (P.store pages.old).nodes))
         × (result.second ≡ suc (suc (length (P.store pages.old).nodes))) }
     ensures keys { K.is_key result.left × K.is_key result.right }
@@ -133,7 +135,7 @@ fn make_root_split<K: KeyClass, P: PagesMut<K>>(
 /// Refused with `PagesFull` only where fewer than two pages are left; with `Pages` where the root could not be
 /// brought, or what the changes need could not be had; and with `Damaged` where page 1 isn't a full inner node, or
 /// has the level 65535. Nothing has changed then. The root's keys are written over the first of `keys`.
-#[tactic(auto, using(crate::proofs::Owner::why_any))]
+#[tactic(auto, using(crate::proofs::Owner::why_any, crate::proofs::Owner::fails_none))]
 pub fn split_root_step<K: KeyClass, P: PagesMut<K>>(
     pages: &mut P,
     most: usize,
@@ -148,6 +150,7 @@ pub fn split_root_step<K: KeyClass, P: PagesMut<K>>(
     ensures asked { OnOk result (Asks P.asked (to_write true (1 ∷ []) 2) pages.old pages.new) }
     ensures tried { OnErr result (AsksToWrite P.asked (1 ∷ []) 2 pages.old pages.new) }
     ensures why { IfErr result (IsWhyOfSplit (P.why pages.old pages.new)) }
+    ensures told { CountsFaults (split_fails P.fails) (P.faults pages.old) (P.faults pages.new) result }
     ensures held { IfOk result (λ did. P.held pages.new 1 × P.held pages.new did.first × P.held pages.new did.second) }
     ensures changing { IfOk result (λ did. P.changing pages.new 1 × P.changing pages.new did.first
         × P.changing pages.new did.second) }

@@ -6,6 +6,7 @@ ghost use Rattle.gx_node.specs.Edits.{entry_of};
 ghost use Rattle.gx_node.specs.declared.items.TheConstants.{MAX_ENTRIES};
 ghost use Rattle.gx_node.specs.Trees.{Pair, Used};
 ghost use Rattle.gx_node.specs.Writes.{is_sweepable};
+ghost use Rattle.gx_node.specs.Owner.{CountsFaults, step_fails};
 ghost use Rattle.gx_node.specs.Owner.{KeepsSince, KeepsSinceBut, IsWhy, IsWhyLater, Brings, AsksAtMost, AsksToWrite};
 ghost use Rattle.gx_node.specs.Owner.{Asks, to_write};
 ghost use Rattle.gx_node.specs.Store.{node_at, tree_of, Stays};
@@ -157,6 +158,7 @@ pub fn plan_sweep<K: KeyClass, P: PagesMut<K>, F: Fn(Entry<K::Key>) -> bool>(
     ensures asked { OnOk result (Asks P.asked (Brings (page ∷ []) ∷ []) pages.old pages.new) }
     ensures tried { OnErr result (AsksAtMost P.asked (page ∷ []) pages.old pages.new) }
     ensures why { IfErr result (IsWhy (P.why pages.old pages.new)) }
+    ensures told { CountsFaults (step_fails P.fails) (P.faults pages.old) (P.faults pages.new) result }
     ensures later { OnOk result (IsWhyLater P.why pages.old pages.new) }
     ensures held { OnOk result (P.held pages.new page × Used (tree_of (P.store pages.new)) page) }
     ensures page { IfOk result (λ sweep. sweep.page ≡ page) }
@@ -194,6 +196,7 @@ pub fn make_sweep<K: KeyClass, P: PagesMut<K>>(pages: &mut P, sweep: &Sweep) -> 
     ensures spared { takes_none sweep.now ≡ true → KeepsSince P.since pages.old pages.new }
     ensures asked { Asks P.asked (to_take_out (takes_none sweep.now) sweep.now.page) pages.old pages.new }
     ensures why { IfErr result (P.why pages.old pages.new) }
+    ensures told { CountsFaults P.fails (P.faults pages.old) (P.faults pages.new) result }
     ensures held { P.held pages.new sweep.now.page }
     ensures changing { OnOk result (takes_none sweep.now ≡ false → P.changing pages.new sweep.now.page) }
     ensures takes { OnOk result (TakesOut sweep.now (P.store pages.old) (P.store pages.new)) }
@@ -231,6 +234,7 @@ pub fn sweep_step<K: KeyClass, P: PagesMut<K>, F: Fn(Entry<K::Key>) -> bool>(
     ensures tried { OnErr result (AsksToWrite P.asked (page ∷ []) 0 pages.old pages.new) }
     ensures spared { IfOk result (λ any. any ≡ false → KeepsSince P.since pages.old pages.new) }
     ensures why { IfErr result (IsWhy (P.why pages.old pages.new)) }
+    ensures told { CountsFaults (step_fails P.fails) (P.faults pages.old) (P.faults pages.new) result }
     ensures held { OnOk result (P.held pages.new page) }
     ensures changing { IfOk result (λ any. any ≡ true → P.changing pages.new page) }
     ensures swept { P.steady pages.old → (test : Entry K.Key → Bool)

@@ -6,8 +6,8 @@ use Rattle.gx_words.specs.Program.{gist_app}
 use Rattle.gx_words.specs.declared.asking.AskedCommand.{AskedCommand}
 use Rattle.gx_words.specs.declared.asking.AskedCommand.TheVariants.{Plain, Format, Run, Dump, Verify, Storm}
 
--- the word that was given under this name, or stands for it by default, is this number in decimal digits, and the number lies
--- in this range
+-- the word that was given under this name, or its default, is this number in decimal digits, and the number lies in
+-- this range
 pub record IsNumber (rows : List Row) (name : Text) (lowest highest number : ℕ) : Type 0 where
   pub word : Text
   pub given : one_of name rows ≡ Some word

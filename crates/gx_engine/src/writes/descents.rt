@@ -1,23 +1,21 @@
 //! The descent of an insert whose pair stands nowhere yet: from the root to a leaf that has room.
-ghost use Rattle.std.specs.Prelude.{◌≡◌, ◌≢◌, ◌-◌, ◌≤◌, true, false, Some, length};
-ghost use Rattle.gx_machine.specs.declared.call.Call.{Call};
+ghost use Rattle.std.specs.Prelude.{◌≡◌, ◌≢◌, ◌-◌, ◌≤◌, true, false, length};
 ghost use Rattle.gx_machine.specs.declared.call.Call.TheVariants.{Insert};
 ghost use Rattle.gx_machine.specs.Keys.{keys_of};
 ghost use Rattle.gx_machine.specs.Machine.{is_session};
 ghost use Rattle.gx_tree.specs.declared.descent.Way.TheVariants.{Add};
-ghost use Rattle.gx_tree.specs.Descending.{WayAt, next_of};
-ghost use Rattle.gx_node.specs.Reach as reach;
+ghost use Rattle.gx_tree.specs.Descending.{WayAt};
 ghost use Rattle.gx_phases.specs.declared.phase.Phase.TheVariants.{Open};
 ghost use Rattle.gx_phases.specs.Moves.{HasWrite, is_open, transaction_of, written_state};
 ghost use Rattle.gx_disk.specs.declared.layout.TheConstants.{MAX_PAGES};
-ghost use Rattle.gx_engine.specs.Calls.{IsRead};
-ghost use Rattle.gx_engine.specs.declared.work.Work as declared;
+ghost use Rattle.gx_node.specs.Owner.{split_fails, step_fails};
+ghost use Rattle.gx_store.specs.Faults.{store_fails};
+ghost use Rattle.gx_engine.specs.Calls.{IsRead, TellsAs};
 ghost use Rattle.gx_engine.specs.declared.work.Work.TheVariants.{Descends};
-ghost use Rattle.gx_engine.specs.Moves.{calling};
 ghost use Rattle.gx_engine.specs.States.{is_due};
 ghost use Rattle.gx_engine.specs.Sweeping.{is_held};
 ghost use Rattle.gx_engine.specs.Writes.{AddsAs, MakesRoomAs, SplitsAs, WritesAs, write_events};
-ghost use Rattle.gx_storage.specs.Setting.{IsSteadyAs, store_at, tree_at};
+ghost use Rattle.gx_storage.specs.Setting.{IsSteadyAs, ToldAs, store_at, tree_at};
 ghost use Rattle.gx_engine.specs.Setting.{AddingAs, IsFullAs, LeafSweepingAs, MovesAs, RootSplittingAs, SplittingAs};
 ghost use Rattle.gx_engine.specs.Setting.{SteppingAs, may_sweep, phase_in};
 
@@ -35,52 +33,6 @@ use gx_store::StoreFault;
 use gx_tree::{Descended, RootSplit, Split, SplitFault, StepFault, TraversalItem};
 
 impl<D: SectorDisk, K: ReadKeys> Engine<D, K> {
-    // A call descends at this item, to which it came from this page.
-    fn go_to(&mut self, session: u8, from: u32, item: TraversalItem) -> Outcome<K::Key>
-        requires session { is_session session ≡ true }
-        ensures outcome { result ≡ Outcome.More }
-        ensures there { (call : Call K.Key) (was : declared.Work K.Key) → phase_in session self.old ≡ Open call was
-            → self.new ≡ calling session call (Descends from item) self.old }
-        ensures device { IsRead D.state self.old self.new }
-    {
-        self.sessions
-            .replace_work(session, Work::Descends(from, item));
-        Outcome::More
-    }
-
-    // A call's descent begins again at the root.
-    fn begin_again(&mut self, session: u8) -> Outcome<K::Key>
-        requires session { is_session session ≡ true }
-        ensures outcome { result ≡ Outcome.More }
-        ensures there { (call : Call K.Key) (was : declared.Work K.Key) → phase_in session self.old ≡ Open call was
-            → self.new ≡ calling session call (Descends 0 (record { page = 1; seen = self.old.volume.shelf.counter }))
-            self.old }
-        ensures device { IsRead D.state self.old self.new }
-    {
-        let root = TraversalItem::new(1, self.storage.counter());
-        self.go_to(session, 0, root)
-    }
-
-    // A step at an item's page has gone down, and the descent with it.
-    fn go_down(
-        &mut self,
-        session: u8,
-        from: &TraversalItem,
-        did: &Descended<K::Key>,
-    ) -> Outcome<K::Key>
-        requires session { is_session session ≡ true }
-        ensures outcome { result ≡ Outcome.More }
-        ensures there { (next : reach.TraversalItem) → next_of did.now ≡ Some next
-            → (call : Call K.Key) (was : declared.Work K.Key) → phase_in session self.old ≡ Open call was
-            → self.new ≡ calling session call (Descends from.now.page next) self.old }
-        ensures device { IsRead D.state self.old self.new }
-    {
-        let next = did
-            .next()
-            .unwrap_or(TraversalItem::new(from.page(), from.seen()));
-        self.go_to(session, from.page(), next)
-    }
-
     // A descent's step at the page of its item, as storage makes it.
     fn step_down(
         &mut self,
@@ -92,6 +44,7 @@ impl<D: SectorDisk, K: ReadKeys> Engine<D, K> {
             item.now coming.now result }
         ensures only { self.new ≡ record self.old { volume = self.new.volume } }
         ensures device { IsRead D.state self.old self.new }
+        ensures told { ToldAs D.state (step_fails store_fails) self.old.volume.shelf self.new.volume.shelf result }
     {
         self.storage.descend(item, coming)
     }
@@ -109,6 +62,7 @@ impl<D: SectorDisk, K: ReadKeys> Engine<D, K> {
             (transaction_of session self.old.sessions) entry.now item.now.page result }
         ensures only { self.new ≡ record self.old { volume = self.new.volume } }
         ensures device { IsRead D.state self.old self.new }
+        ensures told { ToldAs D.state (step_fails store_fails) self.old.volume.shelf self.new.volume.shelf result }
     {
         let transaction = self.sessions.transaction(session);
         self.storage.add(transaction, item.page(), entry)
@@ -153,6 +107,7 @@ impl<D: SectorDisk, K: ReadKeys> Engine<D, K> {
             entry.key Add) → MovesAs K.Key.Shape K.is_proper K.said K.KeyClass D.state session self.old self.new result
             (write_events session (Insert entry) result) }
         ensures device { IsRead D.state self.old self.new }
+        ensures told { TellsAs D.state self.old self.new result }
     {
         a_class_is_lawful::<K>();
         small_pairs::<K>(self.storage.most());
@@ -173,6 +128,7 @@ impl<D: SectorDisk, K: ReadKeys> Engine<D, K> {
             (is_held (keys_of K.Key.Shape) self.old) self.old.volume self.new.volume item.now.page result }
         ensures only { self.new ≡ record self.old { volume = self.new.volume } }
         ensures device { IsRead D.state self.old self.new }
+        ensures told { ToldAs D.state (step_fails store_fails) self.old.volume.shelf self.new.volume.shelf result }
     {
         let sessions = &self.sessions;
         self.storage
@@ -192,6 +148,7 @@ impl<D: SectorDisk, K: ReadKeys> Engine<D, K> {
         ensures fits { (self.new.volume.shelf.used ≤ self.new.volume.shelf.pages)
             × (self.new.volume.shelf.pages ≤ MAX_PAGES) }
         ensures device { IsRead D.state self.old self.new }
+        ensures told { ToldAs D.state (split_fails store_fails) self.old.volume.shelf self.new.volume.shelf result }
     {
         let split = self.storage.split(item.page(), parent, &mut self.keys);
         self.storage.in_order();
@@ -207,6 +164,7 @@ impl<D: SectorDisk, K: ReadKeys> Engine<D, K> {
         ensures fits { (self.new.volume.shelf.used ≤ self.new.volume.shelf.pages)
             × (self.new.volume.shelf.pages ≤ MAX_PAGES) }
         ensures device { IsRead D.state self.old self.new }
+        ensures told { ToldAs D.state (split_fails store_fails) self.old.volume.shelf self.new.volume.shelf result }
     {
         let split = self.storage.split_root(&mut self.keys);
         self.storage.in_order();
@@ -228,6 +186,7 @@ impl<D: SectorDisk, K: ReadKeys> Engine<D, K> {
             → MovesAs K.Key.Shape K.is_proper K.said K.KeyClass D.state session self.old self.new result
             (write_events session (Insert entry) result) }
         ensures device { IsRead D.state self.old self.new }
+        ensures told { TellsAs D.state self.old self.new result }
     {
         a_class_is_lawful::<K>();
         self.sessions.stands();
@@ -253,6 +212,7 @@ impl<D: SectorDisk, K: ReadKeys> Engine<D, K> {
             → MovesAs K.Key.Shape K.is_proper K.said K.KeyClass D.state session self.old self.new result
             (write_events session (Insert entry) result) }
         ensures device { IsRead D.state self.old self.new }
+        ensures told { TellsAs D.state self.old self.new result }
     {
         a_class_is_lawful::<K>();
         self.sessions.stands();
@@ -279,6 +239,7 @@ impl<D: SectorDisk, K: ReadKeys> Engine<D, K> {
             → MovesAs K.Key.Shape K.is_proper K.said K.KeyClass D.state session self.old self.new result
             (write_events session (Insert entry) result) }
         ensures device { IsRead D.state self.old self.new }
+        ensures told { TellsAs D.state self.old self.new result }
     {
         if item.page() == 1 {
             self.split_top(session, parent, item)
@@ -302,6 +263,7 @@ impl<D: SectorDisk, K: ReadKeys> Engine<D, K> {
             → MovesAs K.Key.Shape K.is_proper K.said K.KeyClass D.state session self.old self.new result
             (write_events session (Insert entry) result) }
         ensures device { IsRead D.state self.old self.new }
+        ensures told { TellsAs D.state self.old self.new result }
     {
         a_class_is_lawful::<K>();
         small_removals::<K>();
@@ -332,6 +294,7 @@ impl<D: SectorDisk, K: ReadKeys> Engine<D, K> {
         ensures moves { MovesAs K.Key.Shape K.is_proper K.said K.KeyClass D.state session self.old self.new result
             (write_events session (Insert entry) result) }
         ensures device { IsRead D.state self.old self.new }
+        ensures told { TellsAs D.state self.old self.new result }
     {
         a_class_is_lawful::<K>();
         a_volume_shows_keys::<D, K>();
@@ -378,6 +341,7 @@ impl<D: SectorDisk, K: ReadKeys> Engine<D, K> {
         ensures moves { MovesAs K.Key.Shape K.is_proper K.said K.KeyClass D.state session self.old self.new result
             (write_events session (Insert entry) result) }
         ensures device { IsRead D.state self.old self.new }
+        ensures told { TellsAs D.state self.old self.new result }
     {
         if self.is_due() {
             return Outcome::Help(Need::Checkpoint);

@@ -7,7 +7,7 @@ ghost use Rattle.gx_machine.specs.Machine.{is_session};
 ghost use Rattle.gx_events.specs.Events.{FindsAbsent, Works};
 ghost use Rattle.gx_phases.specs.declared.phase.Phase.TheVariants.{Open};
 ghost use Rattle.gx_phases.specs.Moves.{WritesEntry, answered_state, is_open};
-ghost use Rattle.gx_engine.specs.Calls.{IsRead};
+ghost use Rattle.gx_engine.specs.Calls.{IsRead, TellsAs, TellsWhere};
 ghost use Rattle.gx_engine.specs.declared.work.Work as declared;
 ghost use Rattle.gx_engine.specs.declared.work.Work.TheVariants.{Looks, Rests};
 ghost use Rattle.gx_engine.specs.Looks.{IsFirstUnless, LooksFor, turned_by, work_before};
@@ -74,6 +74,7 @@ impl<D: SectorDisk, K: ReadKeys + Probing> Engine<D, K> {
             (calling session call (work_before begun look) self.old) self.new outcome
             (write_events session call outcome)) }
         ensures device { IsRead D.state self.old self.new }
+        ensures told { TellsWhere D.state self.old self.new result }
     {
         a_class_is_lawful::<K>();
         a_volume_shows_the_logs_tree::<D, K>();
@@ -121,6 +122,7 @@ impl<D: SectorDisk, K: ReadKeys + Probing> Engine<D, K> {
             → MovesAs K.Key.Shape K.is_proper K.said K.KeyClass D.state session self.old self.new outcome
             (write_events session call outcome)) }
         ensures device { IsRead D.state self.old self.new }
+        ensures told { TellsWhere D.state self.old self.new result }
     {
         a_class_is_lawful::<K>();
         self.sessions.stands();
@@ -149,6 +151,7 @@ impl<D: SectorDisk, K: ReadKeys + Probing> Engine<D, K> {
             → MovesAs K.Key.Shape K.is_proper K.said K.KeyClass D.state session
             (calling session (Insert entry) (Looks look.now) self.old) self.new Outcome.More (Works ∷ []) }
         ensures device { IsRead D.state self.old self.new }
+        ensures told { TellsAs D.state self.old self.new result }
     {
         a_class_is_lawful::<K>();
         self.sessions.stands();
@@ -170,6 +173,7 @@ impl<D: SectorDisk, K: ReadKeys + Probing> Engine<D, K> {
             (calling session (Delete entry) (Looks look.now) self.old) self.new
             (Outcome.Replied (Reply.Refused Refusal.Absent)) (FindsAbsent session entry ∷ []) }
         ensures device { IsRead D.state self.old self.new }
+        ensures told { TellsAs D.state self.old self.new result }
     {
         a_class_is_lawful::<K>();
         self.sessions.stands();
@@ -194,6 +198,7 @@ impl<D: SectorDisk, K: ReadKeys + Probing> Engine<D, K> {
         ensures moves { MovesSoAs K.Key.Shape K.is_proper K.said K.KeyClass D.state session self.old self.new result
             (AreWriting session (Insert entry) result) }
         ensures device { IsRead D.state self.old self.new }
+        ensures told { TellsAs D.state self.old self.new result }
     {
         a_class_is_lawful::<K>();
         match self.write_look(session, &entry) {
@@ -214,6 +219,7 @@ impl<D: SectorDisk, K: ReadKeys + Probing> Engine<D, K> {
         ensures moves { MovesSoAs K.Key.Shape K.is_proper K.said K.KeyClass D.state session self.old self.new result
             (AreWriting session (Delete entry) result) }
         ensures device { IsRead D.state self.old self.new }
+        ensures told { TellsAs D.state self.old self.new result }
     {
         a_class_is_lawful::<K>();
         match self.write_look(session, &entry) {

@@ -7,12 +7,14 @@ ghost use Rattle.gx_tree.specs.declared.seek.Sought.TheVariants.{Here};
 ghost use Rattle.gx_phases.specs.declared.phase.Phase.TheVariants.{Open};
 ghost use Rattle.gx_phases.specs.Moves.{transaction_of};
 ghost use Rattle.gx_storage.specs.Bringing.{bringing};
-ghost use Rattle.gx_engine.specs.Calls.{IsRead};
+ghost use Rattle.gx_node.specs.Owner.{step_fails};
+ghost use Rattle.gx_store.specs.Faults.{store_fails};
+ghost use Rattle.gx_engine.specs.Calls.{IsRead, TellsAs};
 ghost use Rattle.gx_engine.specs.declared.work.Work.TheVariants.{Seeks};
 ghost use Rattle.gx_engine.specs.Seeks.{SeeksAs, set_outcome, set_state, standing_refusal, write_call, written_reply};
 ghost use Rattle.gx_engine.specs.States.{is_due};
 ghost use Rattle.gx_engine.specs.Writes.{WritesAs, write_events};
-ghost use Rattle.gx_storage.specs.Setting.{StaysAs, UnloggedAs};
+ghost use Rattle.gx_storage.specs.Setting.{StaysAs, ToldAs, UnloggedAs};
 ghost use Rattle.gx_engine.specs.Setting.{IsSoughtAs, IsUnsoughtAs, MovesAs, SeekingAs, phase_in};
 
 use crate::Engine;
@@ -68,6 +70,7 @@ impl<D: SectorDisk, K: ReadKeys> Engine<D, K> {
         ensures noted { self.new ≡ record self.old
             { sessions = set_state (keys_of K.Key.Shape) session entry leaf marked sought self.old.sessions } }
         ensures device { IsRead D.state self.old self.new }
+        ensures told { TellsAs D.state self.old self.new result }
     {
         match sought {
             Sought::Here(_, before) => {
@@ -98,6 +101,7 @@ impl<D: SectorDisk, K: ReadKeys + Probing> Engine<D, K> {
             result }
         ensures only { self.new ≡ record self.old { volume = self.new.volume } }
         ensures device { IsRead D.state self.old self.new }
+        ensures told { ToldAs D.state (step_fails store_fails) self.old.volume.shelf self.new.volume.shelf result }
     {
         let transaction = self.sessions.transaction(session);
         self.storage.set_mark(transaction, leaf, entry, marked)
@@ -117,6 +121,7 @@ impl<D: SectorDisk, K: ReadKeys + Probing> Engine<D, K> {
             leaf) }
         ensures only { self.new ≡ record self.old { volume = self.new.volume } }
         ensures device { IsRead D.state self.old self.new }
+        ensures told { ToldAs D.state (step_fails store_fails) self.old.volume.shelf self.new.volume.shelf result }
     {
         let wanted = Wanted::<K>::entry(entry);
         self.storage.seek_step(&wanted, leaf)
@@ -141,6 +146,7 @@ impl<D: SectorDisk, K: ReadKeys + Probing> Engine<D, K> {
         ensures moves { MovesAs K.Key.Shape K.is_proper K.said K.KeyClass D.state session self.old self.new result
             (write_events session (write_call marked entry) result) }
         ensures device { IsRead D.state self.old self.new }
+        ensures told { TellsAs D.state self.old self.new result }
     {
         a_class_is_lawful::<K>();
         a_volume_shows_the_logs_tree::<D, K>();
@@ -175,6 +181,7 @@ impl<D: SectorDisk, K: ReadKeys + Probing> Engine<D, K> {
         ensures moves { MovesAs K.Key.Shape K.is_proper K.said K.KeyClass D.state session self.old self.new result
             (write_events session (write_call marked entry) result) }
         ensures device { IsRead D.state self.old self.new }
+        ensures told { TellsAs D.state self.old self.new result }
     {
         a_class_is_lawful::<K>();
         a_volume_shows_the_logs_tree::<D, K>();
@@ -211,6 +218,7 @@ impl<D: SectorDisk, K: ReadKeys + Probing> Engine<D, K> {
         ensures moves { MovesAs K.Key.Shape K.is_proper K.said K.KeyClass D.state session self.old self.new result
             (write_events session (write_call marked entry) result) }
         ensures device { IsRead D.state self.old self.new }
+        ensures told { TellsAs D.state self.old self.new result }
     {
         a_class_is_lawful::<K>();
         a_volume_shows_the_logs_tree::<D, K>();
@@ -245,6 +253,7 @@ impl<D: SectorDisk, K: ReadKeys + Probing> Engine<D, K> {
         ensures moves { MovesAs K.Key.Shape K.is_proper K.said K.KeyClass D.state session self.old self.new result
             (write_events session (Insert entry) result) }
         ensures device { IsRead D.state self.old self.new }
+        ensures told { TellsAs D.state self.old self.new result }
     {
         self.write_at(session, entry, leaf, false)
     }
@@ -264,6 +273,7 @@ impl<D: SectorDisk, K: ReadKeys + Probing> Engine<D, K> {
         ensures moves { MovesAs K.Key.Shape K.is_proper K.said K.KeyClass D.state session self.old self.new result
             (write_events session (Delete entry) result) }
         ensures device { IsRead D.state self.old self.new }
+        ensures told { TellsAs D.state self.old self.new result }
     {
         self.write_at(session, entry, leaf, true)
     }

@@ -1,10 +1,10 @@
 //! An engine over what stands on a device: the gates behind its log are closed, and it starts there.
-ghost use Rattle.std.specs.Prelude.{◌≡◌, ◌≤◌, ◌<◌, ◌+◌, ◌*◌, ℕ, false, true, length, IfOk, MatchResult};
+ghost use Rattle.std.specs.Prelude.{◌≡◌, ◌≤◌, ◌+◌, ◌*◌, ℕ, false, true, length, IfOk, MatchResult};
 ghost use Rattle.gx_disk.specs.declared.layout.TheConstants.{PAGES_AT, PAGE_SECTORS};
 ghost use Rattle.gx_node.specs.Reading.{format_of};
 ghost use Rattle.gx_opening.specs.Formatted.{IsAllowed};
 ghost use Rattle.gx_opening.specs.Standing.{MayStart, Stands};
-ghost use Rattle.gx_restart.specs.Beginning.{HasBegun, HasNotBegun, IsSameDevice, StartsFrom};
+ghost use Rattle.gx_restart.specs.Beginning.{CountsOpening, HasBegun, HasNotBegun, IsSameDevice, StartsFrom};
 ghost use Rattle.gx_restart.specs.Undoing.{OnlyUndoes};
 
 use super::losers::losers_of;
@@ -58,8 +58,7 @@ pub(crate) fn begin_engine<D: SectorDisk, K: ReadKeys>(
     requires frames { (16 ≤ frames) × (frames ≤ 4096) }
     ensures device { MatchResult result (λ engine. IsSameDevice (D.state disk) (D.state engine.volume.shelf.disk))
         (λ n. IsSameDevice (D.state disk) (D.state n.disk)) }
-    ensures faults { MatchResult result (λ engine. (D.state disk).faults ≤ (D.state engine.volume.shelf.disk).faults)
-        (λ n. n.why ≡ Refusal.Device → (D.state disk).faults < (D.state n.disk).faults) }
+    ensures faults { CountsOpening D.state (D.state disk).faults result }
     ensures count { IfOk result (λ engine. length engine.volume.shelf.frames.marks ≡ frames) }
     ensures undoes { IfOk result OnlyUndoes }
     ensures works { IfOk result (λ engine. engine.sessions.failed ≡ false) }

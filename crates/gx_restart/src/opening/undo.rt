@@ -1,6 +1,7 @@
 //! What an engine does before it is handed out: its checkpoint is ended, and what a crash cut off is undone.
 ghost use Rattle.std.specs.Prelude.{◌≡◌, ◌-◌, false, true, IfErr, IfOk};
 ghost use Rattle.gx_machine.specs.Machine.{is_session};
+ghost use Rattle.gx_engine.specs.Calls.{TellsWhy};
 ghost use Rattle.gx_engine.specs.Made.{Makes};
 ghost use Rattle.gx_engine.specs.Resting.{WorksOff};
 ghost use Rattle.gx_restart.specs.Undoing.{AreFreeBelow, GoesBy, IsFreeAt, OnlyUndoes, WhyStopped, undone_by};
@@ -19,6 +20,7 @@ fn end_checkpoint<D: SectorDisk, K: ReadKeys + Probing>(
 ) -> Result<(), Refusal>
     requires works { engine.old.sessions.failed ≡ false }
     ensures goes { GoesBy (Makes K.Key.Shape K.is_proper K.said K.KeyClass D.state) engine.old engine.new }
+    ensures told { TellsWhy D.state engine.old engine.new result }
     ensures ended { IfOk result (λ _. WorksOff engine.new) }
     ensures why { IfErr result
         (λ why. WhyStopped (Makes K.Key.Shape K.is_proper K.said K.KeyClass D.state) engine.old why engine.new) }
@@ -49,6 +51,7 @@ fn undo<D: SectorDisk, K: ReadKeys + Probing>(
     requires undoes { OnlyUndoes engine.old }
     requires works { WorksOff engine.old }
     ensures goes { GoesBy (Makes K.Key.Shape K.is_proper K.said K.KeyClass D.state) engine.old engine.new }
+    ensures told { TellsWhy D.state engine.old engine.new result }
     ensures undone { IfOk result (λ _. IsFreeAt (session - 1) engine.new) }
     ensures works { IfOk result (λ _. WorksOff engine.new) }
     ensures why { IfErr result
@@ -62,6 +65,7 @@ fn undo_all<D: SectorDisk, K: ReadKeys + Probing>(engine: &mut Engine<D, K>) -> 
     requires undoes { OnlyUndoes engine.old }
     requires works { WorksOff engine.old }
     ensures goes { GoesBy (Makes K.Key.Shape K.is_proper K.said K.KeyClass D.state) engine.old engine.new }
+    ensures told { TellsWhy D.state engine.old engine.new result }
     ensures free { IfOk result (λ _. AreFreeBelow 8 engine.new) }
     ensures works { IfOk result (λ _. WorksOff engine.new) }
     ensures why { IfErr result
@@ -84,6 +88,7 @@ pub(crate) fn finish<D: SectorDisk, K: ReadKeys + Probing>(
     requires undoes { OnlyUndoes engine.old }
     requires works { engine.old.sessions.failed ≡ false }
     ensures goes { GoesBy (Makes K.Key.Shape K.is_proper K.said K.KeyClass D.state) engine.old engine.new }
+    ensures told { TellsWhy D.state engine.old engine.new result }
     ensures free { IfOk result (λ _. AreFreeBelow 8 engine.new) }
     ensures works { IfOk result (λ _. WorksOff engine.new) }
     ensures why { IfErr result

@@ -4,9 +4,12 @@ ghost use Rattle.gx_glog.specs.declared.stage.Turn.TheVariants.{Closed};
 ghost use Rattle.gx_store.specs.Since.{IsStamped};
 ghost use Rattle.gx_node.specs.Trees.{Used};
 ghost use Rattle.gx_tree.specs.Writing.{Appends};
+ghost use Rattle.gx_node.specs.Owner.{step_fails};
+ghost use Rattle.gx_store.specs.Faults.{store_fails};
 ghost use Rattle.gx_storage.specs.Changes.{begun};
 ghost use Rattle.gx_storage.specs.Imaged.{is_imaged};
-ghost use Rattle.gx_storage.specs.Setting.{IsSteadyAs, IsWhyAs, LogsAs, OwnNumberAs, ShowsTheSame, UnloggedAs, tree_at};
+ghost use Rattle.gx_storage.specs.Setting.{IsSteadyAs, IsWhyAs, LogsAs, OwnNumberAs, ShowsTheSame, ToldAs};
+ghost use Rattle.gx_storage.specs.Setting.{UnloggedAs, tree_at};
 ghost use Rattle.gx_storage.specs.Small.{IsSpelled, add_room, add_said};
 
 use crate::Storage;
@@ -49,6 +52,7 @@ impl<D: SectorDisk, K: ReadKeys> Storage<D, K> {
         ensures entry { OnOk result (IsSpelled K.spelling entry.now.row entry.now.key) }
         ensures refused { IsSteadyAs D.state self.old.shelf
             → OnErr result (ShowsTheSame K.KeyClass D.state self.old.shelf self.new.shelf) }
+        ensures told { ToldAs D.state (step_fails store_fails) self.old.shelf self.new.shelf result }
         ensures why { IfErr result (IsWhyAs K.KeyClass D.state
             (begun self.old (add_room (is_imaged self.old.imaged page) K.KEY)) self.new.shelf) }
         ensures damaged { IsSteadyAs D.state self.old.shelf → result ≡ Err StepFault.Damaged

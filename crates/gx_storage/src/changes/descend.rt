@@ -3,11 +3,13 @@ ghost use Rattle.std.specs.Prelude.{◌≡◌, ◌≢◌, ◌<◌, ℕ, true, le
 ghost use Rattle.gx_glog.specs.declared.stage.Turn.TheVariants.{Closed};
 ghost use Rattle.gx_node.specs.Trees.{Used};
 ghost use Rattle.gx_tree.specs.Descending.{StepsDown, WayAt, is_widened};
+ghost use Rattle.gx_node.specs.Owner.{step_fails};
+ghost use Rattle.gx_store.specs.Faults.{store_fails};
 ghost use Rattle.gx_storage.specs.Changes.{begun, begun_at, has_room};
 ghost use Rattle.gx_storage.specs.Changing.{HasToWiden, unwidened};
 ghost use Rattle.gx_storage.specs.Imaged.{is_imaged};
 ghost use Rattle.gx_storage.specs.Setting.{IsSinceAs, IsSteadyAs, IsWhyAs, LogsDescentAs, OwnNumberAs, ShowsTheSame};
-ghost use Rattle.gx_storage.specs.Setting.{UnloggedAs, store_at, tree_at};
+ghost use Rattle.gx_storage.specs.Setting.{ToldAs, UnloggedAs, store_at, tree_at};
 ghost use Rattle.gx_storage.specs.Small.{widen_room};
 
 use crate::Storage;
@@ -48,6 +50,7 @@ fn read_way<D: SectorDisk, K: ReadKeys>(
 ) -> Result<Way<K::Key>, StepFault<StoreFault>>
     ensures since { (q : ℕ) → IsSinceAs K.KeyClass D.state (begun_at log.now size store.old) store.new q }
     ensures same { IsSteadyAs D.state store.old → ShowsTheSame K.KeyClass D.state store.old store.new }
+    ensures told { ToldAs D.state (step_fails store_fails) store.old store.new result }
     ensures why { IfErr result (IsWhyAs K.KeyClass D.state (begun_at log.now size store.old) store.new) }
     ensures way { IfOk result (WayAt K.cost K.joined most (store_at K.KeyClass D.state store.new) item.now coming.now) }
     ensures damaged { result ≡ Err StepFault.Damaged → Used (tree_at K.KeyClass D.state store.new) item.now.page
@@ -86,6 +89,7 @@ impl<D: SectorDisk, K: ReadKeys> Storage<D, K> {
         ensures own { IfOk result (λ did. is_widened did ≡ true → OwnNumberAs D.state self.new.shelf item.now.page) }
         ensures refused { IsSteadyAs D.state self.old.shelf
             → OnErr result (ShowsTheSame K.KeyClass D.state self.old.shelf self.new.shelf) }
+        ensures told { ToldAs D.state (step_fails store_fails) self.old.shelf self.new.shelf result }
         ensures why { IfErr result (IsWhyAs K.KeyClass D.state
             (begun self.old (widen_room (is_imaged self.old.imaged item.now.page) K.KEY)) self.new.shelf) }
         ensures damaged { IsSteadyAs D.state self.old.shelf → result ≡ Err StepFault.Damaged

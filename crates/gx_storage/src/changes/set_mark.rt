@@ -4,11 +4,13 @@ ghost use Rattle.gx_glog.specs.declared.stage.Turn.TheVariants.{Closed};
 ghost use Rattle.gx_node.specs.Trees.{Used};
 ghost use Rattle.gx_tree.specs.Seeking.{Seeks};
 ghost use Rattle.gx_tree.specs.Wants.{wants};
+ghost use Rattle.gx_node.specs.Owner.{step_fails};
+ghost use Rattle.gx_store.specs.Faults.{store_fails};
 ghost use Rattle.gx_storage.specs.Changes.{begun, begun_at, has_room};
 ghost use Rattle.gx_storage.specs.Imaged.{is_imaged};
 ghost use Rattle.gx_storage.specs.Numbers.{OwnWhereSet};
 ghost use Rattle.gx_storage.specs.Setting.{HasEntryAs, IsSinceAs, IsSteadyAs, IsWhyAs, LogsMarkAs, MarksEntryAs};
-ghost use Rattle.gx_storage.specs.Setting.{ShowsTheSame, UnloggedAs, tree_at};
+ghost use Rattle.gx_storage.specs.Setting.{ShowsTheSame, ToldAs, UnloggedAs, tree_at};
 ghost use Rattle.gx_storage.specs.Small.{mark_room};
 
 use crate::Storage;
@@ -34,6 +36,7 @@ fn read_leaf<D: SectorDisk, K: ReadKeys + Probing>(
 ) -> Result<Sought, StepFault<StoreFault>>
     ensures since { (q : ℕ) → IsSinceAs K.KeyClass D.state (begun_at log.now size store.old) store.new q }
     ensures same { IsSteadyAs D.state store.old → ShowsTheSame K.KeyClass D.state store.old store.new }
+    ensures told { ToldAs D.state (step_fails store_fails) store.old store.new result }
     ensures why { IfErr result (IsWhyAs K.KeyClass D.state (begun_at log.now size store.old) store.new) }
     ensures sought { IfOk result (Seeks (wants K.passes wanted.now.keys wanted.now.row)
         ((tree_at K.KeyClass D.state store.new).node page)) }
@@ -73,6 +76,7 @@ impl<D: SectorDisk, K: ReadKeys + Probing> Storage<D, K> {
         ensures own { IfOk result (λ did. OwnWhereSet (D.state self.new.shelf.disk).seen self.new.shelf page did) }
         ensures refused { IsSteadyAs D.state self.old.shelf
             → OnErr result (ShowsTheSame K.KeyClass D.state self.old.shelf self.new.shelf) }
+        ensures told { ToldAs D.state (step_fails store_fails) self.old.shelf self.new.shelf result }
         ensures why { IfErr result (IsWhyAs K.KeyClass D.state
             (begun self.old (mark_room (is_imaged self.old.imaged page) K.KEY)) self.new.shelf) }
         ensures damaged { IsSteadyAs D.state self.old.shelf → result ≡ Err StepFault.Damaged

@@ -9,10 +9,12 @@ ghost use Rattle.gx_node.specs.Keyed.{rules_of};
 ghost use Rattle.gx_tree.specs.Splitting.{DidSplitRoot};
 ghost use Rattle.gx_node.specs.Store.{node_at};
 ghost use Rattle.gx_record.specs.declared.sizes.TheConstants.{SPLIT_RECORD};
+ghost use Rattle.gx_node.specs.Owner.{split_fails};
+ghost use Rattle.gx_store.specs.Faults.{store_fails};
 ghost use Rattle.gx_storage.specs.Changes.{begun};
 ghost use Rattle.gx_node.specs.Lists.{Each};
 ghost use Rattle.gx_storage.specs.Setting.{IsSteadyAs, IsWhyOfSplitAs, LogsAs, OwnNumberAs, ShowsTheSame, UnloggedAs};
-ghost use Rattle.gx_storage.specs.Setting.{pages_given_at, store_at, tree_at};
+ghost use Rattle.gx_storage.specs.Setting.{ToldAs, pages_given_at, store_at, tree_at};
 
 use crate::Storage;
 use crate::changes::given_pages::give_three;
@@ -57,6 +59,7 @@ impl<D: SectorDisk, K: ReadKeys> Storage<D, K> {
             → OnOk result (self.old.most ≤ size (node_at (store_at K.KeyClass D.state self.old.shelf).nodes 1)) }
         ensures refused { IsSteadyAs D.state self.old.shelf
             → OnErr result (ShowsTheSame K.KeyClass D.state self.old.shelf self.new.shelf) }
+        ensures told { ToldAs D.state (split_fails store_fails) self.old.shelf self.new.shelf result }
         ensures why { IfErr result (IsWhyOfSplitAs K.KeyClass D.state (begun self.old SPLIT_RECORD) self.new.shelf) }
         ensures full { IsSteadyAs D.state self.old.shelf → result ≡ Err SplitFault.PagesFull
             → self.old.shelf.pages < self.old.shelf.used + 2 }

@@ -9,10 +9,12 @@ ghost use Rattle.gx_node.specs.Trees.{Used};
 ghost use Rattle.gx_tree.specs.Sweeping.{FitsLeaf, PlansSweep};
 ghost use Rattle.gx_tree.specs.Writing.{Swept};
 ghost use Rattle.gx_record.specs.declared.sizes.TheConstants.{MOST_SLOTS};
+ghost use Rattle.gx_node.specs.Owner.{step_fails};
+ghost use Rattle.gx_store.specs.Faults.{store_fails};
 ghost use Rattle.gx_storage.specs.Bringing.{has_removable};
 ghost use Rattle.gx_storage.specs.Changes.{begun_at};
 ghost use Rattle.gx_storage.specs.Setting.{IsSinceAs, IsSteadyAs, IsWhyAs, LogsSweepAs, OwnNumberAs, RefusesSweepAs};
-ghost use Rattle.gx_storage.specs.Setting.{ShowsTheSame, store_at, tree_at};
+ghost use Rattle.gx_storage.specs.Setting.{ShowsTheSame, ToldAs, store_at, tree_at};
 ghost use Rattle.gx_storage.specs.Small.{sweep_room};
 ghost use Rattle.gx_storage.specs.Sweeping.{Answers, slots_planned};
 
@@ -52,6 +54,7 @@ fn plan<D: SectorDisk, K: ReadKeys, F: Fn(Entry<K::Key>) -> bool>(
     ensures since { (q : ℕ) → IsSinceAs K.KeyClass D.state
         (begun_at log.now (sweep_room small (length (slots_planned result))) store.old) store.new q }
     ensures same { IsSteadyAs D.state store.old → ShowsTheSame K.KeyClass D.state store.old store.new }
+    ensures told { ToldAs D.state (step_fails store_fails) store.old store.new result }
     ensures why { IfErr result (IsWhyAs K.KeyClass D.state
         (begun_at log.now (sweep_room small (length (slots_planned result))) store.old) store.new) }
     ensures few { length (slots_planned result) ≤ MOST_SLOTS }
@@ -99,6 +102,7 @@ impl<D: SectorDisk, K: ReadKeys> Storage<D, K> {
         ensures own { IfOk result (λ any. any ≡ true → OwnNumberAs D.state self.new.shelf page) }
         ensures refused { IsSteadyAs D.state self.old.shelf
             → OnErr result (ShowsTheSame K.KeyClass D.state self.old.shelf self.new.shelf) }
+        ensures told { ToldAs D.state (step_fails store_fails) self.old.shelf self.new.shelf result }
         ensures damaged { IsSteadyAs D.state self.old.shelf → result ≡ Err StepFault.Damaged
             → Used (tree_at K.KeyClass D.state self.old.shelf) page
             → ((tree_at K.KeyClass D.state self.old.shelf).node page).level ≡ 0

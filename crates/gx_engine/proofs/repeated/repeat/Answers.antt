@@ -13,7 +13,7 @@ returns-in-Nothing-clause-made g c = record {
   count = c.loop-turn._turn;
   middle = c.loop-turn.engine;
   before = c.loop-turn.invariant;
-  last_made = record { comes = c.in-Nothing.ensures.comes; steps = c.in-Nothing.ensures.steps; calls = c.in-Nothing.ensures.calls; order = c.in-Nothing.ensures.order };
+  last_made = record { comes = c.in-Nothing.ensures.comes; steps = c.in-Nothing.ensures.steps; calls = c.in-Nothing.ensures.calls; told = c.in-Nothing.ensures.told; order = c.in-Nothing.ensures.order };
   few = omega arith;
 }
 
@@ -22,7 +22,7 @@ returns-in-Refused-clause-made g c = record {
   count = c.loop-turn._turn;
   middle = c.loop-turn.engine;
   before = c.loop-turn.invariant;
-  last_made = record { comes = c.in-Refused.ensures.comes; steps = c.in-Refused.ensures.steps; calls = c.in-Refused.ensures.calls; order = c.in-Refused.ensures.order };
+  last_made = record { comes = c.in-Refused.ensures.comes; steps = c.in-Refused.ensures.steps; calls = c.in-Refused.ensures.calls; told = c.in-Refused.ensures.told; order = c.in-Refused.ensures.order };
   few = omega arith;
 }
 
@@ -34,7 +34,7 @@ loop-turn-preserved g c =
       | inr rest ↦ elim rest [ inl m ↦ subst GoesOn (sym m) tt | inr h ↦ subst GoesOn (sym h.1) tt ]
     ] in
     going_on_more (Makes (record { partial_cmp = g.K.Key.PartialOrd.partial_cmp; eq = g.K.Key.PartialEq.eq; cmp = g.K.Key.Ord.cmp; overlap = g.K.Key.Shape.overlap; inside = g.K.Key.Shape.inside }) g.K.ReadKeys.is_proper g.K.ReadKeys.said g.K.KeyClass g.D.SectorDisk.state) c.args.event c.args.engine.now c.loop-turn._turn c.step.result c.loop-turn.engine c.step.new.self c.loop-turn.invariant
-    (record { comes = c.step.ensures.comes; steps = c.step.ensures.steps; calls = c.step.ensures.calls; order = c.step.ensures.order }) on
+    (record { comes = c.step.ensures.comes; steps = c.step.ensures.steps; calls = c.step.ensures.calls; told = c.step.ensures.told; order = c.step.ensures.order }) on
 
 pub returns-clause-ends : goal.returns-clause-ends
 returns-clause-ends g c = λ flushes.

@@ -59,6 +59,7 @@ loop-step-preserved g c =
     record {
       reads = reads_more c.args.pages.now c.loop-step.pages c.take_leaf.new.pages kept.reads next.reads;
       later = λ later fault why. kept.later later fault (next.later later fault why);
+      told = next.told ∙ kept.told;
       above = next.above ∙ kept.above;
       long = search rules;
       linked = λ steady linked. (

@@ -20,6 +20,7 @@ invariant-loop-step g l =
     record {
       reads : OnlyReads g.P.Pages.steady g.P.Pages.store g.P.Pages.since l.fn.pages l.pages;
       later : IsWhyLater g.P.Pages.why l.fn.pages l.pages;
+      told : g.P.Pages.faults l.pages ≡ g.P.Pages.faults l.fn.pages;
       above : l.gather.above ≡ l.fn.gather.above;
       long : length l.stages ≡ length l.fn.stages;
       linked : g.P.Pages.steady l.fn.pages → Linked t 2 (leaves t) → Linked t l.page (walk t (length (g.P.Pages.store l.fn.pages).nodes - l._step) l.page);

@@ -1,13 +1,14 @@
 use Rattle.std.proofs.lemmas.Grind.{common_steps}
-use Rattle.std.proofs.Common.{OnOk, IfErr, arith}
+use Rattle.std.proofs.Common.{OnOk, IfErr, arith, subst}
 use Rattle.std.proofs.lemmas.Result.{err_from_is_err_and}
 use Rattle.gx_node.specs.Legal.{Legal}
 use Rattle.gx_node.specs.Lists.{Each}
+use Rattle.gx_node.specs.Owner.{CountsFaults}
 use Rattle.gx_node.specs.Trees.{Tree}
 use Rattle.gx_node.specs.Keyed.{rules_of}
 use Rattle.gx_node.specs.Store.{tree_of}
 use Rattle.gx_legality.specs.Marks.{IsLegalButPairs}
-use Rattle.gx_legality.specs.Owner.{IsFound}
+use Rattle.gx_legality.specs.Owner.{IsFound, test_fails}
 use Rattle.gx_legality.specs.Placing.{BreaksOrLeavesOut, IsPlaced}
 use Rattle.gx_legality.proofs.Children.{reads_same}
 use Rattle.gx_legality.proofs.Joined.{found_breaks, legal_before, on_ok}
@@ -59,3 +60,7 @@ returns-clause-why g c = grind (arith, common_steps)
 
 pub returns-clause-later : goal.returns-clause-later
 returns-clause-later g c = grind (arith, common_steps)
+
+pub returns-clause-told : goal.returns-clause-told
+returns-clause-told g c =
+    subst (λ n. CountsFaults (test_fails g.P.Pages.fails) n (g.P.Pages.faults c.test_leaves.new.pages) c.test_leaves.result) c.in_ok-test_shape.ensures.told c.test_leaves.ensures.told

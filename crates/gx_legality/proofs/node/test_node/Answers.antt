@@ -1,4 +1,4 @@
-use Rattle.std.proofs.Common.{◌≡◌, ◌≤◌, arith, rules}
+use Rattle.std.proofs.Common.{◌≡◌, ◌≤◌, ◌∙◌, arith, rules}
 use Rattle.std.proofs.lemmas.Result.{err_from_is_err_and}
 use Rattle.gx_node.specs.Trees.{size}
 use Rattle.gx_node.specs.Store.{node_at, tree_of}
@@ -20,6 +20,7 @@ loop-slot-preserved g c =
       held = c.in_ok-test_child.ensures.held;
       reads = reads_more c.args.pages.now c.loop-slot.pages c.test_child.new.pages reads next;
       later = λ later fault why. c.loop-slot.invariant.later later fault (c.in_ok-test_child.ensures.later later fault why);
+      told = c.in_ok-test_child.ensures.told ∙ c.loop-slot.invariant.told;
       fits = λ steady. fits_more _ (g.P.Pages.store c.args.pages.now) (g.P.Pages.store c.loop-slot.pages) c.args.page c.loop-slot.slot
           (reads_same c.args.pages.now c.loop-slot.pages reads steady) (c.loop-slot.invariant.fits steady) (c.in_ok-test_child.ensures.fits (reads.still steady));
     }

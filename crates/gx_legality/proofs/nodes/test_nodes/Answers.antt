@@ -28,6 +28,7 @@ loop-before-preserved g c =
       reads = reads;
       held = held_next c.args.pages.now c.test_page.new.pages before reads kept.held next.held;
       later = λ later fault why. kept.later later fault (next.later later fault why);
+      told = next.told ∙ kept.told;
       marks = search rules;
       links = search rules;
       unlinked = λ steady. unlinked_more c.loop-before.links c.test_page.new.links before _ (next.linked (kept.reads.still steady)) (kept.unlinked steady);

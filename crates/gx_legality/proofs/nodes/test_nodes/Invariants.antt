@@ -11,6 +11,7 @@ abbrev pub invariant-loop-before : goal.invariant-loop-before
 invariant-loop-before g l = record {
   reads : OnlyReads g.P.Pages.steady g.P.Pages.store g.P.Pages.since l.fn.pages l.pages;
   later : IsWhyLater g.P.Pages.why l.fn.pages l.pages;
+  told : g.P.Pages.faults l.pages ≡ g.P.Pages.faults l.fn.pages;
   marks : length l.marks ≡ length l.fn.marks;
   links : length l.links ≡ length l.fn.links;
   held : (p : ℕ) → 0 < p → p ≤ l.before → WasHeld g.P.Pages.steady g.P.Pages.store g.P.Pages.since g.P.Pages.held l.fn.pages p;

@@ -1,4 +1,4 @@
-use Rattle.std.proofs.Common.{◌≤◌, ◌*◌, ◌+◌, Option, None, sym, length, refl, arith, subst}
+use Rattle.std.proofs.Common.{◌≤◌, ◌*◌, ◌+◌, Option, None, sym, length, refl, arith, subst, ◌∙◌}
 use Rattle.std.specs.Cmp.{IsTotalOrder}
 use Rattle.std.proofs.lemmas.Cmp.{then_total, on_total, nat_cmp_total}
 use Rattle.std.proofs.lemmas.Result.{err_from_is_err_and}
@@ -21,6 +21,7 @@ loop-pass-init g c =
     record {
       reads = reads_none c.args.pages.now;
       later = λ later fault why. why;
+      told = refl;
       gathers = λ steady linked was. was;
       tested = λ steady linked was. subst (λ (above : Option (Entry g.row.K-Key.Denot)). Tested order (gathered_above 0 above) all 0) (sym c.requires.first)
           (tested_none order total (gathered_above 0 None) all refl);
@@ -69,6 +70,7 @@ loop-pass-preserved g c =
     record {
       reads = reads_more c.args.pages.now c.loop-pass.pages c.take_leaves.new.pages kept.reads next.reads;
       later = λ later fault why. kept.later later fault (next.later later fault why);
+      told = next.told ∙ kept.told;
       gathers = λ steady linked was. (
           let again = c.in-Again.ensures all (kept.gathers steady linked was) in
           let begun = pass_goes order total old (g.P.Pages.store c.loop-pass.pages) c.finish.new.self (c.loop-pass._pass + 1)

@@ -1,4 +1,4 @@
-use Rattle.std.proofs.Common.{[]}
+use Rattle.std.proofs.Common.{[], ◌≡◌}
 use Rattle.gx_machine.specs.Keys.{entry_cmp}
 use Rattle.gx_node.specs.Legal.{Linked}
 use Rattle.gx_node.specs.Trees.{leaves}
@@ -17,6 +17,7 @@ invariant-loop-pass g l =
     record {
       reads : OnlyReads g.P.Pages.steady g.P.Pages.store g.P.Pages.since l.fn.pages l.pages;
       later : IsWhyLater g.P.Pages.why l.fn.pages l.pages;
+      told : g.P.Pages.faults l.pages ≡ g.P.Pages.faults l.fn.pages;
       gathers : g.P.Pages.steady l.fn.pages → Linked t 2 (leaves t) → Gathers order l.fn.gather all [] → Gathers order l.gather all [];
       tested : g.P.Pages.steady l.fn.pages → Linked t 2 (leaves t) → Gathers order l.fn.gather all [] → Tested order (gathered_above 0 l.gather.above) all l._pass;
     }

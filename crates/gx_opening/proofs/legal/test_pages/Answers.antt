@@ -1,6 +1,6 @@
 use Rattle.std.proofs.Common.{◌∙◌, refl, subst, arith}
 use Rattle.gx_machine.specs.Keys.{Members, entry_cmp, keys_of}
-use Rattle.gx_opening.specs.Formatted.{TellsFaults}
+use Rattle.gx_opening.specs.Formatted.{FaultsAre}
 use Rattle.gx_opening.specs.Noting.{AreOfOthers}
 use Rattle.gx_node.specs.Reading.{format_of, is_node}
 use Rattle.gx_pool.specs.Bringing.{OnlyRead}
@@ -23,5 +23,5 @@ returns-clause-tested g c = λ l same most_is honest others.
 
 pub returns-clause-faults : goal.returns-clause-faults
 returns-clause-faults g c =
-    subst (λ (s : Shelf g.row.D.Denot). TellsFaults (g.D.SectorDisk.state s.disk).faults (g.D.SectorDisk.state c.test_over.result.0).faults c.test_over.result.1) (c.new-reader.ensures ∙ c.new-store.ensures)
+    subst (λ (s : Shelf g.row.D.Denot). FaultsAre (g.D.SectorDisk.state s.disk).faults (g.D.SectorDisk.state c.test_over.result.0).faults c.test_over.result.1) (c.new-reader.ensures ∙ c.new-store.ensures)
     c.test_over.ensures.faults

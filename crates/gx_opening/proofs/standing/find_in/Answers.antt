@@ -39,7 +39,7 @@ pub returns-in-Ok-clause-starts : goal.returns-in-Ok-clause-starts
 returns-in-Ok-clause-starts g c = may_start c.tested.result.1 c.in-Ok.standing c.tested.ensures.ok c.in-Ok.ensures.bodies c.tested.ensures.fits
 
 pub returns-in-Ok-clause-faults : goal.returns-in-Ok-clause-faults
-returns-in-Ok-clause-faults g c = told_later _ _ _ _ c.in-Ok.ensures.faults.no_fewer c.tested.ensures.faults
+returns-in-Ok-clause-faults g c = told_later _ _ _ _ c.in-Ok.ensures.faults c.tested.ensures.faults
 
 pub returns-in-Ok-clause-order : goal.returns-in-Ok-clause-order
 returns-in-Ok-clause-order g c = λ honest.

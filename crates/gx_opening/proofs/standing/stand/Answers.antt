@@ -1,5 +1,6 @@
-use Rattle.std.proofs.Common.{◌≤◌, ◌∙◌, inl, inr, refl, arith}
+use Rattle.std.proofs.Common.{◌≤◌, ◌∙◌, inl, inr, refl, arith, Result, Err}
 use Rattle.std.proofs.lemmas.Result.{err_from_is_err_and}
+use Rattle.gx_geom.specs.declared.refusal.Refusal.{Refusal}
 use Rattle.gx_disk.specs.declared.layout.TheConstants.{MIN_SECTORS}
 use Rattle.gx_found_log.specs.declared.found.FoundLog.{FoundLog}
 use Rattle.gx_glog.specs.declared.parameters.Parameters.{Parameters}
@@ -7,7 +8,7 @@ use Rattle.gx_machine.specs.declared.entry.Entry.{Entry}
 use Rattle.gx_machine.specs.Keys.{Members}
 use Rattle.gx_node.specs.Reading.{format_of}
 use Rattle.gx_opening.specs.Standing.{limits_of}
-use Rattle.gx_opening.proofs.Faults.{are_told, found_told, told_later, told_same}
+use Rattle.gx_opening.proofs.Faults.{found_told, told_later}
 use Rattle.gx_opening.proofs.Ordering.{laid_in_order, synced_so, unlaid_in_order, unwritten_so}
 use Rattle.gx_opening.proofs.Stood.{formatted_so, laid_so, one_cause, stood_safe, told_cause, unlaid_so}
 use Rattle.gx_opening.proofs.standing.stand.Goals as goal
@@ -87,19 +88,23 @@ returns-in_err-log-clause-stood g c = λ honest.
 
 pub returns-clause-faults : goal.returns-clause-faults
 returns-clause-faults g c =
-    let same = c.in_ok-parameters.ensures.counted.faults in
-    told_later _ _ _ _ (omega (arith, same)) (found_told _ _ _ c.in_ok-log.ensures.faults)
+    c.in_ok-log.ensures.faults ∙ c.in_ok-parameters.ensures.counted.faults
 
 pub returns-in_err-log-clause-faults : goal.returns-in_err-log-clause-faults
 returns-in_err-log-clause-faults g c =
     let p = err_from_is_err_and c.from_residual-in_err-log.result c.from_residual-in_err-log.ensures.1 in
-    rw (p.1, p.2) (let same = c.in_ok-parameters.ensures.counted.faults in
-    told_later _ _ _ _ (omega (arith, same)) (told_same {U = FoundLog (Entry g.row.K-Key.Denot)} _ _ _ (found_told _ _ _ c.in_err-log.ensures.faults)))
+    let state = g.D.SectorDisk.state in
+    let before = (state c.args.disk.now).faults in
+    let middle = (state c.formatted_behind.new.disk).faults in
+    let after = (state c.lay_log.new.disk).faults in
+    let why : Result (FoundLog (Entry g.row.K-Key.Denot)) Refusal = Err c.in_err-log.field-0.0 in
+    rw (p.1, p.2) (told_later {T = FoundLog (Entry g.row.K-Key.Denot)} before middle after why c.in_ok-parameters.ensures.counted.faults
+    (found_told {T = FoundLog (Entry g.row.K-Key.Denot)} middle after why c.in_err-log.ensures.faults))
 
 pub returns-in_err-parameters-clause-faults : goal.returns-in_err-parameters-clause-faults
 returns-in_err-parameters-clause-faults g c =
     let p = err_from_is_err_and c.from_residual.result c.from_residual.ensures.1 in
-    rw (p.1, p.2) (told_same {U = Parameters} _ _ _ (are_told _ _ _ c.in_err-parameters.ensures.counted.faults))
+    rw (p.1, p.2) c.in_err-parameters.ensures.counted.faults
 
 pub returns-clause-order : goal.returns-clause-order
 returns-clause-order g c = λ honest.

@@ -1,6 +1,6 @@
 use Rattle.std.proofs.lemmas.Result.{err_from_is_err_and}
 use Rattle.gx_node.specs.Reading.{format_of}
-use Rattle.gx_restart.proofs.Ends.{began_with, device_later, fails_later, later}
+use Rattle.gx_restart.proofs.Ends.{began_with, device_later, later, told_later}
 use Rattle.gx_restart.proofs.opening.open_over.Goals as goal
 
 pub returns-clause-keeps : goal.returns-clause-keeps
@@ -19,7 +19,7 @@ pub returns-clause-began : goal.returns-clause-began
 returns-clause-began g c = began_with _ c.args.frames c.in_ok-engine.engine c.finished.result c.in_ok-engine.ensures.count c.finished.ensures.goes
 
 pub returns-clause-faults : goal.returns-clause-faults
-returns-clause-faults g c = fails_later g.D.SectorDisk.state _ _ c.in_ok-engine.ensures.faults c.finished.result c.finished.ensures.faults
+returns-clause-faults g c = told_later g.D.SectorDisk.state _ _ c.in_ok-engine.ensures.faults c.finished.result c.finished.ensures.faults
 
 pub returns-clause-device : goal.returns-clause-device
 returns-clause-device g c =

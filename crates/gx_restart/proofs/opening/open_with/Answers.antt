@@ -2,9 +2,10 @@ use Rattle.std.proofs.Common.{◌∙◌, Result, subst}
 use Rattle.gx_geom.specs.declared.refusal.Refusal.{Refusal}
 use Rattle.gx_machine.specs.Keys.{Members}
 use Rattle.gx_node.specs.Reading.{format_of}
+use Rattle.gx_opening.specs.Formatted.{FaultsAre}
 use Rattle.gx_opening.specs.Standing.{FindsInOrder, limits_of}
 use Rattle.gx_opening.specs.declared.standing.Standing.{Standing}
-use Rattle.gx_restart.proofs.Ends.{came_opened, came_refused, came_safe, enough_of, fails_later, stands_of}
+use Rattle.gx_restart.proofs.Ends.{came_opened, came_refused, came_safe, enough_of, stands_of, told_later}
 use Rattle.gx_restart.proofs.Ordered.{found_in_order, not_found}
 use Rattle.gx_restart.proofs.opening.open_with.Goals as goal
 
@@ -53,7 +54,13 @@ returns-in-Ok-clause-refused g c = λ honest enough.
     came_refused shape proper said class state _ a m s st c.open_over.result came)
 
 pub returns-in-Ok-clause-faults : goal.returns-in-Ok-clause-faults
-returns-in-Ok-clause-faults g c = fails_later g.D.SectorDisk.state _ _ c.find-disk.ensures.faults.no_fewer c.open_over.result c.open_over.ensures.faults
+returns-in-Ok-clause-faults g c =
+    let same = subst (λ (x : Result (Standing g.row.K-Key.Denot) Refusal). FaultsAre (g.D.SectorDisk.state c.args.disk).faults (g.D.SectorDisk.state c.find-disk.result.0).faults x) c.in-Ok.is c.find-disk.ensures.faults in
+    told_later g.D.SectorDisk.state _ _ same c.open_over.result c.open_over.ensures.faults
+
+pub returns-in-Err-clause-faults : goal.returns-in-Err-clause-faults
+returns-in-Err-clause-faults g c =
+    subst (λ (x : Result (Standing g.row.K-Key.Denot) Refusal). FaultsAre (g.D.SectorDisk.state c.args.disk).faults (g.D.SectorDisk.state c.find-disk.result.0).faults x) c.in-Err.is c.find-disk.ensures.faults
 
 pub returns-in-Ok-clause-order : goal.returns-in-Ok-clause-order
 returns-in-Ok-clause-order g c = λ honest.

@@ -1,14 +1,9 @@
-use Rattle.std.proofs.Common.{map, ap, ◌∙◌, to_z, of_z}
-use Rattle.std.specs.Int.{w32}
+use Rattle.std.proofs.Common.{ap, ◌∙◌}
 use Rattle.gx_class.specs.Boxes.{corners_of}
 use Rattle.gx_class.specs.BoxReadings.{corners_back}
 use Rattle.gx_class.specs.Probes.{corners, are_between}
-use Rattle.gx_class.proofs.Order.{corners_fit, passed_on}
 use Rattle.gx_class.proofs.box_probe.Box2ClassProbing.test.Goals as goal
 
 pub returns : goal.returns
 returns c key is e =
-    let bytes = c.args.bytes.now in
-    c.are_between.ensures ∙ ap (are_between c.args.probe.now.low c.args.probe.now.high)
-    (ap (λ l. map (to_z w32) (map (of_z w32) l)) c.corners_in.ensures ∙ passed_on (corners_of bytes) (corners_fit bytes (λ i. (c.type_inv.bytes i).fits))
-    ∙ ap corners (ap corners_of e ∙ corners_back key is))
+    c.passes.ensures ∙ ap (λ b. are_between c.args.probe.now.low c.args.probe.now.high (corners b)) (ap corners_of e ∙ corners_back key is)

@@ -22,6 +22,10 @@ use Rattle.gx_engine.proofs.Inserted.{add_is_short, added_comes, added_is, added
 use Rattle.gx_engine.proofs.Stopping.{lost_comes, stopped_comes, stopped_moves}
 use Rattle.gx_engine.proofs.UndoMoves.{why_pages}
 use Rattle.gx_engine.proofs.Calling.{then_read}
+use Rattle.gx_node.specs.declared.fault.StepFault.{StepFault}
+use Rattle.gx_node.specs.Owner.{step_fails}
+use Rattle.gx_store.specs.Faults.{store_fails}
+use Rattle.gx_engine.proofs.Failing.{pages_told, quiet_told}
 use Rattle.gx_engine.proofs.engine.Engine.add_here.Goals as goal
 
 pub returns-in-Ok-clause-comes : goal.returns-in-Ok-clause-comes
@@ -96,4 +100,12 @@ returns-in-Err-Damaged g c =
       moves = λ leaf l.
           never_added _ (c.a_class_is_lawful.ensures l) _ (format_of g.K.KeyClass) _ (state old.volume.shelf.disk) _ old kept c.args.session c.requires.session c.args.entry c.args.parent c.args.item c.requires.descends
           (λ steady. ((leaf steady).1, (leaf steady).2)) (λ steady. did.damaged steady damaged) c.break_off.new.self c.break_off.result _;
+      told =
+          quiet_told g.D.SectorDisk.state c.args.self.now c.add_pair.new.self c.break_off.new.self (step_fails store_fails c.in-Err-Damaged.field-0) c.break_off.result _ (ap (λ (x : StepFault StoreFault). step_fails store_fails x) damaged)
+          c.in-Err-Damaged.ensures.told (ap (λ (x : Parts g.row.K-Key.Denot g.row.D.Denot). x.volume) c.break_off.ensures.failed) c.break_off.ensures.outcome refl;
     }
+
+pub returns-in-Err-Pages-clause-told : goal.returns-in-Err-Pages-clause-told
+returns-in-Err-Pages-clause-told g c =
+    pages_told g.D.SectorDisk.state c.args.self.now c.add_pair.new.self c.refuse.new.self c.in-Err-Pages.field-0 c.in-Err-Pages.fault c.refuse.result c.in-Err-Pages.field-0-is c.in-Err-Pages.ensures.told
+    c.refuse.ensures.volume (c.refuse.ensures.told ∙ ap (λ (n : StoreFault). store_fails n) c.in-Err-Pages.fault-is)

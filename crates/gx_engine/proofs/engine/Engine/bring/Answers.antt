@@ -7,6 +7,7 @@ use Rattle.gx_engine.specs.States.{Parts}
 use Rattle.gx_engine.proofs.Ordered.{order_read}
 use Rattle.gx_engine.proofs.Brought.{brought_leads, by_refusal, refused_leads}
 use Rattle.gx_pool.proofs.Bringing.{only_read_joined}
+use Rattle.gx_engine.proofs.Failing.{ends_told}
 use Rattle.gx_engine.proofs.engine.Engine.bring.Goals as goal
 
 -- an engine that turns pages away has the same pages
@@ -51,3 +52,9 @@ returns-in-Err-clause-device g c =
     let did = c.bring.ensures.unlogged in
     rw (← c.self.view_is)
     (only_read_joined (state c.self.inside.storage.shelf.disk) (state c.bring.new.self.shelf.disk) (state c.turn_away.new.self.volume.shelf.disk) (did.since 0).goes_on.device c.turn_away.ensures.device)
+
+pub returns-in-Err-clause-told : goal.returns-in-Err-clause-told
+returns-in-Err-clause-told g c =
+    let e : Parts g.row.K-Key.Denot g.row.D.Denot = record { volume = c.self.inside.storage; sessions = c.self.inside.sessions; in_flight = c.self.inside.in_flight; checkpoint = c.self.inside.checkpoint } in
+    let mid : Parts g.row.K-Key.Denot g.row.D.Denot = record e { volume = c.bring.new.self } in
+    rw (← c.self.view_is) (ends_told g.D.SectorDisk.state e mid c.turn_away.new.self c.turn_away.result _ c.in-Err.ensures.told c.turn_away.ensures.volume c.turn_away.ensures.told)

@@ -35,6 +35,10 @@ use Rattle.gx_engine.proofs.ReadFirst.{comes_then, few_then, moves_then}
 use Rattle.gx_engine.proofs.Stopping.{lost_comes, stopped_comes, stopped_moves}
 use Rattle.gx_engine.proofs.UndoMoves.{why_pages}
 use Rattle.gx_engine.proofs.Calling.{then_read}
+use Rattle.gx_engine.proofs.Failing.{then_told, pages_told, quiet_told}
+use Rattle.gx_node.specs.declared.fault.StepFault.{StepFault}
+use Rattle.gx_node.specs.Owner.{step_fails}
+use Rattle.gx_store.specs.Faults.{store_fails}
 use Rattle.gx_engine.proofs.engine.Engine.descend_on.Goals as goal
 
 pub returns-in-Widened-clause-comes : goal.returns-in-Widened-clause-comes
@@ -348,6 +352,9 @@ returns-in-Err-Damaged g c =
       moves = λ l.
           never_stepped _ (c.a_class_is_lawful.ensures l) g.K.ReadKeys.said f (is_node f) (state old.volume.shelf.disk) _ old kept c.args.session c.requires.session c.args.entry c.args.parent c.args.item
           c.requires.descends (λ steady. did.damaged steady damaged) c.break_off.new.self c.break_off.result _;
+      told =
+          quiet_told g.D.SectorDisk.state c.args.self.now c.step_down.new.self c.break_off.new.self (step_fails store_fails c.in-Err-Damaged.field-0) c.break_off.result _ (ap (λ (x : StepFault StoreFault). step_fails store_fails x) damaged)
+          c.in-Err-Damaged.ensures.told (ap (λ (x : Parts g.row.K-Key.Denot g.row.D.Denot). x.volume) c.break_off.ensures.failed) c.break_off.ensures.outcome refl;
     }
 
 pub returns-in-Widened-clause-device : goal.returns-in-Widened-clause-device
@@ -367,3 +374,26 @@ returns-in-FullLeaf-clause-device g c = then_read g.D.SectorDisk.state c.args.se
 
 pub returns-in-FullInner-clause-device : goal.returns-in-FullInner-clause-device
 returns-in-FullInner-clause-device g c = then_read g.D.SectorDisk.state c.args.self.now c.step_down.new.self c.split_here.new.self c.step_down.ensures.device c.split_here.ensures.device
+
+pub returns-in-Widened-clause-told : goal.returns-in-Widened-clause-told
+returns-in-Widened-clause-told g c = then_told g.D.SectorDisk.state c.args.self.now c.step_down.new.self c.go_down.new.self c.go_down.result c.in-Ok.ensures.told c.go_down.ensures.told
+
+pub returns-in-Down-clause-told : goal.returns-in-Down-clause-told
+returns-in-Down-clause-told g c = then_told g.D.SectorDisk.state c.args.self.now c.step_down.new.self c.go_down-in-Down.new.self c.go_down-in-Down.result c.in-Ok.ensures.told c.go_down-in-Down.ensures.told
+
+pub returns-in-Again-clause-told : goal.returns-in-Again-clause-told
+returns-in-Again-clause-told g c = then_told g.D.SectorDisk.state c.args.self.now c.step_down.new.self c.begin_again.new.self c.begin_again.result c.in-Ok.ensures.told c.begin_again.ensures.told
+
+pub returns-in-Leaf-clause-told : goal.returns-in-Leaf-clause-told
+returns-in-Leaf-clause-told g c = then_told g.D.SectorDisk.state c.args.self.now c.step_down.new.self c.add_here.new.self c.add_here.result c.in-Ok.ensures.told c.add_here.ensures.told
+
+pub returns-in-FullLeaf-clause-told : goal.returns-in-FullLeaf-clause-told
+returns-in-FullLeaf-clause-told g c = then_told g.D.SectorDisk.state c.args.self.now c.step_down.new.self c.make_room.new.self c.make_room.result c.in-Ok.ensures.told c.make_room.ensures.told
+
+pub returns-in-FullInner-clause-told : goal.returns-in-FullInner-clause-told
+returns-in-FullInner-clause-told g c = then_told g.D.SectorDisk.state c.args.self.now c.step_down.new.self c.split_here.new.self c.split_here.result c.in-Ok.ensures.told c.split_here.ensures.told
+
+pub returns-in-Err-Pages-clause-told : goal.returns-in-Err-Pages-clause-told
+returns-in-Err-Pages-clause-told g c =
+    pages_told g.D.SectorDisk.state c.args.self.now c.step_down.new.self c.refuse.new.self c.in-Err-Pages.field-0 c.in-Err-Pages.fault c.refuse.result c.in-Err-Pages.field-0-is c.in-Err-Pages.ensures.told
+    c.refuse.ensures.volume (c.refuse.ensures.told ∙ ap (λ (n : StoreFault). store_fails n) c.in-Err-Pages.fault-is)

@@ -25,3 +25,6 @@ returns-clause-device g c =
     let did = c.set_mark.ensures in
     rw (← c.self.view_is)
     (marked_read _ _ _ _ _ _ _ _ g.K.KeyClass.spelling g.K.KeyClass.KEY c.transaction-transaction.result c.args.entry.now c.args.leaf c.args.marked c.set_mark.result did.logged did.unlogged)
+
+pub returns-clause-told : goal.returns-clause-told
+returns-clause-told g c = rw (← c.self.view_is) c.set_mark.ensures.told

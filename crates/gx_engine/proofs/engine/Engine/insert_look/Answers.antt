@@ -13,6 +13,7 @@ use Rattle.gx_engine.proofs.Calling.{then_read}
 use Rattle.gx_engine.proofs.Further.{reached_more}
 use Rattle.gx_engine.proofs.RoomMade.{look_made, stays_used}
 use Rattle.gx_engine.proofs.WriteLooks.{descends_comes, write_so}
+use Rattle.gx_engine.proofs.Failing.{then_told}
 use Rattle.gx_engine.proofs.engine.Engine.insert_look.Goals as goal
 
 pub write_look-requires-clause-looks : goal.write_look-requires-clause-looks
@@ -71,3 +72,6 @@ pub returns-in-Err-clause-moves : goal.returns-in-Err-clause-moves
 returns-in-Err-clause-moves g c l =
     let looks : LooksFor c.args.entry (Insert c.args.entry) c.requires.looks.0 (phase_at (c.args.session - 1) c.args.self.now.sessions.phases) = record { writes = refl; at = c.requires.looks.1; looking = c.requires.looks.2 } in
     write_so _ _ _ _ _ _ c.args.session (Insert c.args.entry) c.args.self.now c.write_look.new.self c.in-Err.outcome (c.in-Err.ensures.moves (Insert c.args.entry) c.requires.looks.0 looks l)
+
+pub returns-in-Ok-clause-told : goal.returns-in-Ok-clause-told
+returns-in-Ok-clause-told g c = then_told g.D.SectorDisk.state c.args.self.now c.write_look.new.self c.begin_descent.new.self c.begin_descent.result c.in-Ok.ensures.told c.begin_descent.ensures.told

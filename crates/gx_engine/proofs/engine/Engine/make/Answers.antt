@@ -1,6 +1,7 @@
 use Rattle.gx_machine.specs.Keys.{keys}
 use Rattle.gx_engine.proofs.Steps.{ask_steps, checkpoint_steps, log_steps, page_steps, sweep_steps}
 use Rattle.gx_engine.proofs.Calling.{ask_read, checkpoint_calls, log_calls, page_calls}
+use Rattle.gx_engine.proofs.Failing.{ask_told, checkpoint_told, log_steps_told, written_told}
 use Rattle.gx_engine.proofs.engine.Engine.make.Goals as goal
 
 pub returns-in-Ask-clause-steps : goal.returns-in-Ask-clause-steps
@@ -64,3 +65,18 @@ returns-in-CheckpointStep-clause-calls g c =
 
 pub returns-in-Sweep-clause-calls : goal.returns-in-Sweep-clause-calls
 returns-in-Sweep-clause-calls g c = rw (c.in-Sweep.is) c.sweep.ensures.device
+
+pub returns-in-Ask-clause-told : goal.returns-in-Ask-clause-told
+returns-in-Ask-clause-told g c =
+    ask_told g.D.SectorDisk.state c.ask.new.self c.args.self.now _ c.in-Ask.session c.in-Ask.call c.ask.result c.ask.ensures.comes
+
+pub returns-in-LogStep-clause-told : goal.returns-in-LogStep-clause-told
+returns-in-LogStep-clause-told g c = log_steps_told g.D.SectorDisk.state c.log_step.new.self c.args.self.now _ _ c.log_step.result c.log_step.ensures.steps
+
+pub returns-in-WritePage-clause-told : goal.returns-in-WritePage-clause-told
+returns-in-WritePage-clause-told g c =
+    written_told g.D.SectorDisk.state c.write_page.new.self c.args.self.now c.in-WritePage.page _ c.write_page.result c.write_page.ensures.writes
+
+pub returns-in-CheckpointStep-clause-told : goal.returns-in-CheckpointStep-clause-told
+returns-in-CheckpointStep-clause-told g c =
+    checkpoint_told g.D.SectorDisk.state c.checkpoint_step.new.self c.args.self.now _ c.checkpoint_step.result c.checkpoint_step.ensures.steps

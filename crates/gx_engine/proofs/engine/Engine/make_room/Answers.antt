@@ -1,4 +1,4 @@
-use Rattle.std.proofs.Common.{◌≡◌, ◌⊎◌, inl, inr, ◌≤◌, ◌-◌, ◌∙◌, ap, sym, subst, rules}
+use Rattle.std.proofs.Common.{◌≡◌, ◌⊎◌, inl, inr, ◌≤◌, ◌-◌, ◌∙◌, ap, sym, subst, rules, refl}
 use Rattle.gx_machine.specs.declared.call.Call.TheVariants.{Insert}
 use Rattle.gx_machine.specs.Keys.{Members, keys}
 use Rattle.gx_node.specs.Reading.{format_of, is_node}
@@ -27,6 +27,10 @@ use Rattle.gx_engine.proofs.Stopping.{lost_comes, stopped_comes, stopped_moves}
 use Rattle.gx_engine.proofs.SweepRoom.{sweep_asks}
 use Rattle.gx_engine.proofs.UndoMoves.{why_pages}
 use Rattle.gx_engine.proofs.Calling.{then_read}
+use Rattle.gx_engine.proofs.Failing.{then_told, pages_told, quiet_told}
+use Rattle.gx_node.specs.declared.fault.StepFault.{StepFault}
+use Rattle.gx_node.specs.Owner.{step_fails}
+use Rattle.gx_store.specs.Faults.{store_fails}
 use Rattle.gx_engine.proofs.engine.Engine.make_room.Goals as goal
 
 pub returns-in-Ok-true-clause-comes : goal.returns-in-Ok-true-clause-comes
@@ -159,3 +163,17 @@ returns-in-Err-Damaged-clause-moves g c entry at leaf l =
 
 pub returns-in-Ok-false-clause-device : goal.returns-in-Ok-false-clause-device
 returns-in-Ok-false-clause-device g c = then_read g.D.SectorDisk.state c.args.self.now c.sweep_leaf.new.self c.split_here.new.self c.sweep_leaf.ensures.device c.split_here.ensures.device
+
+pub returns-in-Ok-false-clause-told : goal.returns-in-Ok-false-clause-told
+returns-in-Ok-false-clause-told g c = then_told g.D.SectorDisk.state c.args.self.now c.sweep_leaf.new.self c.split_here.new.self c.split_here.result c.in-Ok-false.ensures.told c.split_here.ensures.told
+
+pub returns-in-Err-Pages-clause-told : goal.returns-in-Err-Pages-clause-told
+returns-in-Err-Pages-clause-told g c =
+    pages_told g.D.SectorDisk.state c.args.self.now c.sweep_leaf.new.self c.refuse.new.self c.in-Err-Pages.field-0 c.in-Err-Pages.fault c.refuse.result c.in-Err-Pages.field-0-is c.in-Err-Pages.ensures.told
+    c.refuse.ensures.volume (c.refuse.ensures.told ∙ ap (λ (n : StoreFault). store_fails n) c.in-Err-Pages.fault-is)
+
+pub returns-in-Err-Damaged-clause-told : goal.returns-in-Err-Damaged-clause-told
+returns-in-Err-Damaged-clause-told g c =
+    let damaged : c.in-Err-Damaged.field-0 ≡ Damaged = search rules in
+    quiet_told g.D.SectorDisk.state c.args.self.now c.sweep_leaf.new.self c.break_off.new.self (step_fails store_fails c.in-Err-Damaged.field-0) c.break_off.result _ (ap (λ (x : StepFault StoreFault). step_fails store_fails x) damaged)
+    c.in-Err-Damaged.ensures.told (ap (λ (x : Parts g.row.K-Key.Denot g.row.D.Denot). x.volume) c.break_off.ensures.failed) c.break_off.ensures.outcome refl

@@ -6,6 +6,7 @@ use Rattle.gx_disk.specs.declared.layout.TheConstants.{MAX_PAGES}
 use Rattle.gx_engine.specs.States.{Parts}
 use Rattle.gx_engine.proofs.Steps.{delete_steps, insert_steps, seal_steps, search_steps}
 use Rattle.gx_engine.proofs.Calling.{seal_read}
+use Rattle.gx_engine.proofs.Failing.{seal_told}
 use Rattle.gx_engine.proofs.engine.Engine.move_call.Goals as goal
 
 pub returns-in-Insert-clause-steps : goal.returns-in-Insert-clause-steps
@@ -55,3 +56,6 @@ returns-in-Search-clause-device g c = c.search.ensures.device
 
 pub returns-in-Commit-clause-device : goal.returns-in-Commit-clause-device
 returns-in-Commit-clause-device g c = seal_read g.D.SectorDisk.state c.args.self.now c.seal.new.self c.args.session c.seal.result c.seal.ensures.comes
+
+pub returns-in-Commit-clause-told : goal.returns-in-Commit-clause-told
+returns-in-Commit-clause-told g c = seal_told g.D.SectorDisk.state c.seal.new.self c.args.self.now c.args.session c.seal.result c.seal.ensures.comes

@@ -8,6 +8,7 @@ use Rattle.gx_engine.specs.States.{Parts}
 use Rattle.gx_engine.specs.Stepping.{has_call}
 use Rattle.gx_engine.proofs.Steps.{acknowledge_steps, ended_steps, no_call_steps, undo_steps}
 use Rattle.gx_engine.proofs.Calling.{acknowledge_read, undo_read}
+use Rattle.gx_engine.proofs.Failing.{acknowledge_told}
 use Rattle.gx_engine.proofs.engine.Engine.move_on.Goals as goal
 
 pub returns-then-not-has_call-clause-steps : goal.returns-then-not-has_call-clause-steps
@@ -54,3 +55,9 @@ returns-in-Waiting-clause-device g c =
     let waits = subst (λ (x : Parts g.row.K-Key.Denot g.row.D.Denot). phase_at (c.args.session - 1) x.sessions.phases ≡ phase.Waiting c.in-Waiting.field-0) c.self.view_is
     (sym c.phase-now.ensures ∙ c.in-Waiting.is) in
     acknowledge_read g.D.SectorDisk.state c.args.self.now c.acknowledge.new.self c.args.session c.in-Waiting.field-0 c.acknowledge.result (c.acknowledge.ensures.comes c.in-Waiting.field-0 waits)
+
+pub returns-in-Waiting-clause-told : goal.returns-in-Waiting-clause-told
+returns-in-Waiting-clause-told g c =
+    let waits = subst (λ (x : Parts g.row.K-Key.Denot g.row.D.Denot). phase_at (c.args.session - 1) x.sessions.phases ≡ phase.Waiting c.in-Waiting.field-0) c.self.view_is
+    (sym c.phase-now.ensures ∙ c.in-Waiting.is) in
+    acknowledge_told g.D.SectorDisk.state c.acknowledge.new.self c.args.self.now c.args.session c.in-Waiting.field-0 c.acknowledge.result (c.acknowledge.ensures.comes c.in-Waiting.field-0 waits)

@@ -20,6 +20,9 @@ use Rattle.gx_engine.proofs.LookMoves.{replaced}
 use Rattle.gx_engine.proofs.Ordered.{order_read}
 use Rattle.gx_engine.proofs.Reading.{closed_comes, damaged_at_hand, memory_at_hand, of_err, on_err, pages_at_hand, refused_comes}
 use Rattle.gx_pool.proofs.Bringing.{only_read_joined}
+use Rattle.gx_node.specs.Owner.{CountsFaults, look_fails}
+use Rattle.gx_store.specs.Faults.{store_fails}
+use Rattle.gx_engine.proofs.Failing.{ends_told, quiet_told}
 use Rattle.gx_engine.proofs.engine.Engine.read_look.Goals as goal
 
 pub invariant_of-self : goal.invariant_of-self
@@ -161,3 +164,30 @@ returns-in-Err-Step-Damaged-clause-device g c =
     let did = c.look_step.ensures.unlogged in
     rw (← c.self.view_is)
     (only_read_joined (state e.volume.shelf.disk) (state c.look_step.new.self.shelf.disk) (state c.break_off.new.self.volume.shelf.disk) (did.since 0).goes_on.device c.break_off.ensures.device)
+
+pub returns-in-Ok-clause-told : goal.returns-in-Ok-clause-told
+returns-in-Ok-clause-told g c = rw (← c.self.view_is) c.in-Ok.ensures.told
+
+pub returns-in-Err-Memory-clause-told : goal.returns-in-Err-Memory-clause-told
+returns-in-Err-Memory-clause-told g c =
+    let e : Parts g.row.K-Key.Denot g.row.D.Denot = record { volume = c.self.inside.storage; sessions = c.self.inside.sessions; in_flight = c.self.inside.in_flight; checkpoint = c.self.inside.checkpoint } in
+    let mid : Parts g.row.K-Key.Denot g.row.D.Denot = record e { volume = c.look_step.new.self } in
+    let failed : c.look_step.result ≡ Err Memory = search rules in
+    let told = subst (λ (x : Result (Unit {0}) (LookFault StoreFault)). CountsFaults (look_fails store_fails) (g.D.SectorDisk.state e.volume.shelf.disk).faults (g.D.SectorDisk.state c.look_step.new.self.shelf.disk).faults x) failed c.look_step.ensures.told in
+    rw (← c.self.view_is) (quiet_told g.D.SectorDisk.state e mid c.close.new.self 0 c.close.result _ refl told (ap (λ (x : Parts g.row.K-Key.Denot g.row.D.Denot). x.volume) c.close.ensures.closed) c.close.ensures.outcome refl)
+
+pub returns-in-Err-Step-Pages-clause-told : goal.returns-in-Err-Step-Pages-clause-told
+returns-in-Err-Step-Pages-clause-told g c =
+    let e : Parts g.row.K-Key.Denot g.row.D.Denot = record { volume = c.self.inside.storage; sessions = c.self.inside.sessions; in_flight = c.self.inside.in_flight; checkpoint = c.self.inside.checkpoint } in
+    let mid : Parts g.row.K-Key.Denot g.row.D.Denot = record e { volume = c.look_step.new.self; sessions = c.replace_work.new.self } in
+    let failed : c.look_step.result ≡ Err (Step (Pages c.in-Err-Step-Pages.fault)) = search rules in
+    let told = subst (λ (x : Result (Unit {0}) (LookFault StoreFault)). CountsFaults (look_fails store_fails) (g.D.SectorDisk.state e.volume.shelf.disk).faults (g.D.SectorDisk.state c.look_step.new.self.shelf.disk).faults x) failed c.look_step.ensures.told in
+    rw (← c.self.view_is) (ends_told g.D.SectorDisk.state e mid c.refuse.new.self c.refuse.result (store_fails c.in-Err-Step-Pages.fault) told c.refuse.ensures.volume c.refuse.ensures.told)
+
+pub returns-in-Err-Step-Damaged-clause-told : goal.returns-in-Err-Step-Damaged-clause-told
+returns-in-Err-Step-Damaged-clause-told g c =
+    let e : Parts g.row.K-Key.Denot g.row.D.Denot = record { volume = c.self.inside.storage; sessions = c.self.inside.sessions; in_flight = c.self.inside.in_flight; checkpoint = c.self.inside.checkpoint } in
+    let mid : Parts g.row.K-Key.Denot g.row.D.Denot = record e { volume = c.look_step.new.self; sessions = c.replace_work-in-Err-Step-Damaged.new.self } in
+    let failed : c.look_step.result ≡ Err (Step Damaged) = search rules in
+    let told = subst (λ (x : Result (Unit {0}) (LookFault StoreFault)). CountsFaults (look_fails store_fails) (g.D.SectorDisk.state e.volume.shelf.disk).faults (g.D.SectorDisk.state c.look_step.new.self.shelf.disk).faults x) failed c.look_step.ensures.told in
+    rw (← c.self.view_is) (quiet_told g.D.SectorDisk.state e mid c.break_off.new.self 0 c.break_off.result _ refl told (ap (λ (x : Parts g.row.K-Key.Denot g.row.D.Denot). x.volume) c.break_off.ensures.failed) c.break_off.ensures.outcome refl)

@@ -1,4 +1,4 @@
-use Rattle.std.proofs.Common.{◌≡◌, ◌∙◌, ap, subst, rules}
+use Rattle.std.proofs.Common.{◌≡◌, ◌∙◌, ap, subst, rules, refl}
 use Rattle.std.specs.Cmp.{Equal-is}
 use Rattle.gx_machine.specs.Keys.{Members, keys}
 use Rattle.gx_phases.specs.States.{IsKept}
@@ -13,6 +13,11 @@ use Rattle.gx_engine.specs.Refusals.{IsRefused}
 use Rattle.gx_node.specs.Reading.{format_of, is_node}
 use Rattle.gx_engine.specs.States.{Parts}
 use Rattle.gx_engine.proofs.UndoMoves.{never_comes, never_moves, noted_moves, refused_comes, refused_moves, sought_comes, sought_moves, why_pages}
+use Rattle.gx_engine.proofs.Failing.{then_told, pages_told, quiet_told}
+use Rattle.gx_node.specs.declared.fault.StepFault.{StepFault}
+use Rattle.gx_store.specs.declared.fault.StoreFault.{StoreFault}
+use Rattle.gx_node.specs.Owner.{step_fails}
+use Rattle.gx_store.specs.Faults.{store_fails}
 use Rattle.gx_engine.proofs.engine.Engine.restore.Goals as goal
 
 pub returns-in-Ok-clause-comes : goal.returns-in-Ok-clause-comes
@@ -78,3 +83,17 @@ returns-in-Err-Pages-clause-comes g c =
     λ restored place. refused_comes _ _ _ _ _ _ _ _ g.D.SectorDisk.state _ c.args.session restored c.args.note c.args.leaf c.args.self.now c.set_noted.new.self.volume did.unlogged
     c.in-Err-Pages.fault (why_pages _ c.in-Err-Pages.field-0 c.in-Err-Pages.fault c.in-Err-Pages.field-0-is did.why) c.refuse.new.self c.refuse.result
     (subst (λ (x : Parts g.row.K-Key.Denot g.row.D.Denot). IsRefused c.in-Err-Pages.fault x c.refuse.new.self c.refuse.result) c.set_noted.ensures.only c.refuse.ensures.refused)
+
+pub returns-in-Ok-clause-told : goal.returns-in-Ok-clause-told
+returns-in-Ok-clause-told g c = then_told g.D.SectorDisk.state c.args.self.now c.set_noted.new.self c.note_sought.new.self c.note_sought.result c.in-Ok.ensures.told c.note_sought.ensures.told
+
+pub returns-in-Err-Pages-clause-told : goal.returns-in-Err-Pages-clause-told
+returns-in-Err-Pages-clause-told g c =
+    pages_told g.D.SectorDisk.state c.args.self.now c.set_noted.new.self c.refuse.new.self c.in-Err-Pages.field-0 c.in-Err-Pages.fault c.refuse.result c.in-Err-Pages.field-0-is c.in-Err-Pages.ensures.told
+    c.refuse.ensures.volume c.refuse.ensures.told
+
+pub returns-in-Err-Damaged-clause-told : goal.returns-in-Err-Damaged-clause-told
+returns-in-Err-Damaged-clause-told g c =
+    let damaged : c.in-Err-Damaged.field-0 ≡ Damaged = search rules in
+    quiet_told g.D.SectorDisk.state c.args.self.now c.set_noted.new.self c.break_off.new.self (step_fails store_fails c.in-Err-Damaged.field-0) c.break_off.result _ (ap (λ (x : StepFault StoreFault). step_fails store_fails x) damaged)
+    c.in-Err-Damaged.ensures.told (ap (λ (x : Parts g.row.K-Key.Denot g.row.D.Denot). x.volume) c.break_off.ensures.failed) c.break_off.ensures.outcome refl

@@ -9,3 +9,6 @@ pub returns-clause-refused : goal.returns-clause-refused
 returns-clause-refused g c =
     let did = c.seek_step.ensures in
     rw (← c.self.view_is) (unfound _ g.K.KeyClass.is_key _ _ _ c.args.leaf _ _ _ c.seek_step.result did.why did.damaged)
+
+pub returns-clause-told : goal.returns-clause-told
+returns-clause-told g c = rw (← c.self.view_is) c.seek_step.ensures.told

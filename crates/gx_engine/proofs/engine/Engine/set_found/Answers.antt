@@ -20,6 +20,12 @@ use Rattle.gx_engine.specs.Writes.{write_events}
 use Rattle.gx_engine.proofs.WriteSeeks.{damaged_comes, mark_is_short, noted_so, refused_comes, set_comes}
 use Rattle.gx_engine.proofs.SeekMoves.{never_set, refused_moves, set_moves}
 use Rattle.gx_engine.proofs.UndoMoves.{why_pages}
+use Rattle.gx_engine.proofs.Failing.{then_told, pages_told, quiet_told}
+use Rattle.gx_node.specs.declared.fault.StepFault.{StepFault}
+use Rattle.gx_store.specs.declared.fault.StoreFault.{StoreFault}
+use Rattle.gx_node.specs.Owner.{step_fails}
+use Rattle.gx_store.specs.Faults.{store_fails}
+use Rattle.gx_engine.specs.Calls.{outcome_fails}
 use Rattle.gx_engine.proofs.engine.Engine.set_found.Goals as goal
 
 pub note_set-requires-clause-seeks : goal.note_set-requires-clause-seeks
@@ -115,3 +121,19 @@ returns-in-Err-Damaged-clause-moves g c =
     λ l. never_set _ (c.a_class_is_lawful.ensures l) _ _ _ (state old.volume.shelf.disk) old kept c.requires.works c.args.session c.requires.session c.args.entry c.args.leaf c.args.marked
     c.requires.seeks
     (c.a_volume_shows_the_logs_tree.ensures l old.volume) (λ steady. did.damaged steady damaged) _ c.break_off.new.self c.break_off.result _
+
+pub returns-in-Ok-clause-told : goal.returns-in-Ok-clause-told
+returns-in-Ok-clause-told g c = then_told g.D.SectorDisk.state c.args.self.now c.give_mark.new.self c.note_set.new.self c.note_set.result c.in-Ok.ensures.told c.note_set.ensures.told
+
+pub returns-in-Err-Pages-clause-told : goal.returns-in-Err-Pages-clause-told
+returns-in-Err-Pages-clause-told g c =
+    let says : outcome_fails c.refuse.result ≡ store_fails c.in-Err-Pages.fault = search rules in
+    let same : c.refuse.new.self.volume ≡ c.give_mark.new.self.volume = search rules in
+    pages_told g.D.SectorDisk.state c.args.self.now c.give_mark.new.self c.refuse.new.self c.in-Err-Pages.field-0 c.in-Err-Pages.fault c.refuse.result c.in-Err-Pages.field-0-is c.in-Err-Pages.ensures.told
+    same says
+
+pub returns-in-Err-Damaged-clause-told : goal.returns-in-Err-Damaged-clause-told
+returns-in-Err-Damaged-clause-told g c =
+    let damaged : c.in-Err-Damaged.field-0 ≡ Damaged = search rules in
+    quiet_told g.D.SectorDisk.state c.args.self.now c.give_mark.new.self c.break_off.new.self (step_fails store_fails c.in-Err-Damaged.field-0) c.break_off.result _ (ap (λ (x : StepFault StoreFault). step_fails store_fails x) damaged)
+    c.in-Err-Damaged.ensures.told (ap (λ (x : Parts g.row.K-Key.Denot g.row.D.Denot). x.volume) c.break_off.ensures.failed) c.break_off.ensures.outcome refl

@@ -14,3 +14,6 @@ pub returns-clause-device : goal.returns-clause-device
 returns-clause-device g c =
     let did = c.split-split.ensures in
     rw (← c.self.view_is) (changed_read _ _ _ _ _ _ _ _ SPLIT_RECORD _ has_split c.split-split.result did.logged did.unlogged)
+
+pub returns-clause-told : goal.returns-clause-told
+returns-clause-told g c = rw (← c.self.view_is) c.split-split.ensures.told

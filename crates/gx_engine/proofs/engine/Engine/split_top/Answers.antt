@@ -19,6 +19,10 @@ use Rattle.gx_engine.proofs.MakingRoom.{few_top, full_comes, full_is, full_moves
 use Rattle.gx_engine.proofs.Stopping.{lost_comes, stopped_comes, stopped_moves}
 use Rattle.gx_engine.proofs.UndoMoves.{why_split_pages}
 use Rattle.gx_engine.proofs.Calling.{then_read}
+use Rattle.gx_engine.proofs.Failing.{then_told, split_pages_told, quiet_told}
+use Rattle.gx_node.specs.declared.fault.SplitFault.{SplitFault}
+use Rattle.gx_node.specs.Owner.{split_fails}
+use Rattle.gx_store.specs.Faults.{store_fails}
 use Rattle.gx_engine.proofs.engine.Engine.split_top.Goals as goal
 
 pub returns-in-Ok-clause-comes : goal.returns-in-Ok-clause-comes
@@ -132,3 +136,24 @@ returns-in-Err-Step-Damaged-clause-moves g c entry at full l =
 
 pub returns-in-Ok-clause-device : goal.returns-in-Ok-clause-device
 returns-in-Ok-clause-device g c = then_read g.D.SectorDisk.state c.args.self.now c.split_root.new.self c.begin_again.new.self c.split_root.ensures.device c.begin_again.ensures.device
+
+pub returns-in-Ok-clause-told : goal.returns-in-Ok-clause-told
+returns-in-Ok-clause-told g c = then_told g.D.SectorDisk.state c.args.self.now c.split_root.new.self c.begin_again.new.self c.begin_again.result c.in-Ok.ensures.told c.begin_again.ensures.told
+
+pub returns-in-Err-Step-Pages-clause-told : goal.returns-in-Err-Step-Pages-clause-told
+returns-in-Err-Step-Pages-clause-told g c =
+    split_pages_told g.D.SectorDisk.state c.args.self.now c.split_root.new.self c.refuse.new.self c.in-Err-Step-Pages.field-0 c.in-Err-Step-Pages.field-0-0 c.in-Err-Step-Pages.fault c.refuse.result
+    c.in-Err-Step-Pages.field-0-is c.in-Err-Step-Pages.field-0-0-is c.in-Err-Step-Pages.ensures.told c.refuse.ensures.volume
+    (c.refuse.ensures.told ∙ ap (λ (n : StoreFault). store_fails n) c.in-Err-Step-Pages.fault-is)
+
+pub returns-in-Err-PagesFull-clause-told : goal.returns-in-Err-PagesFull-clause-told
+returns-in-Err-PagesFull-clause-told g c =
+    let full : c.in-Err-PagesFull.field-0 ≡ PagesFull = search rules in
+    quiet_told g.D.SectorDisk.state c.args.self.now c.split_root.new.self c.close.new.self (split_fails store_fails c.in-Err-PagesFull.field-0) c.close.result _ (ap (λ (x : SplitFault StoreFault). split_fails store_fails x) full)
+    c.in-Err-PagesFull.ensures.told (ap (λ (x : Parts g.row.K-Key.Denot g.row.D.Denot). x.volume) c.close.ensures.closed) c.close.ensures.outcome refl
+
+pub returns-in-Err-Step-Damaged-clause-told : goal.returns-in-Err-Step-Damaged-clause-told
+returns-in-Err-Step-Damaged-clause-told g c =
+    let damaged : c.in-Err-Step-Damaged.field-0 ≡ Step Damaged = search rules in
+    quiet_told g.D.SectorDisk.state c.args.self.now c.split_root.new.self c.break_off.new.self (split_fails store_fails c.in-Err-Step-Damaged.field-0) c.break_off.result _ (ap (λ (x : SplitFault StoreFault). split_fails store_fails x) damaged)
+    c.in-Err-Step-Damaged.ensures.told (ap (λ (x : Parts g.row.K-Key.Denot g.row.D.Denot). x.volume) c.break_off.ensures.failed) c.break_off.ensures.outcome refl

@@ -21,3 +21,6 @@ pub returns-clause-device : goal.returns-clause-device
 returns-clause-device g c =
     let did = c.descend.ensures in
     rw (← c.self.view_is) (stepped_read _ _ _ _ _ _ _ _ g.K.KeyClass.spelling g.K.KeyClass.KEY c.args.item.now.page _ c.descend.result did.logged did.unlogged)
+
+pub returns-clause-told : goal.returns-clause-told
+returns-clause-told g c = rw (← c.self.view_is) c.descend.ensures.told

@@ -4,6 +4,7 @@ use Rattle.gx_engine.specs.Sweeping.{is_page}
 use Rattle.gx_engine.proofs.Brought.{leads_joined}
 use Rattle.gx_engine.proofs.Sweeping.{sweep_then}
 use Rattle.gx_engine.proofs.Calling.{then_read}
+use Rattle.gx_engine.proofs.Failing.{then_told}
 use Rattle.gx_engine.proofs.engine.Engine.sweep.Goals as goal
 
 pub returns-in-Ok-clause-sweeps : goal.returns-in-Ok-clause-sweeps
@@ -19,3 +20,6 @@ returns-in-Ok-clause-leads g c =
 
 pub returns-in-Ok-clause-device : goal.returns-in-Ok-clause-device
 returns-in-Ok-clause-device g c = then_read g.D.SectorDisk.state c.args.self.now c.bring.new.self c.sweep_held.new.self c.bring.ensures.device c.sweep_held.ensures.device
+
+pub returns-in-Ok-clause-told : goal.returns-in-Ok-clause-told
+returns-in-Ok-clause-told g c = then_told g.D.SectorDisk.state c.args.self.now c.bring.new.self c.sweep_held.new.self c.sweep_held.result c.in-Ok.ensures.told c.sweep_held.ensures.told

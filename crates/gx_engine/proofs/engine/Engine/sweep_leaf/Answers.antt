@@ -27,3 +27,6 @@ pub returns-clause-device : goal.returns-clause-device
 returns-clause-device g c =
     let did = c.sweep.ensures in
     rw (← c.self.view_is) (swept_read _ _ _ _ _ _ _ _ _ _ c.sweep.result did.logged did.unlogged)
+
+pub returns-clause-told : goal.returns-clause-told
+returns-clause-told g c = rw (← c.self.view_is) c.sweep.ensures.told

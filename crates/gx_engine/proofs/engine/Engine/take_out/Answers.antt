@@ -1,8 +1,8 @@
-use Rattle.std.proofs.Common.{◌≡◌, ◌≤◌, ◌<◌, ◌∙◌, ap, inr, refl, true, length, Err, rules}
+use Rattle.std.proofs.Common.{◌≡◌, ◌≤◌, ◌<◌, ◌∙◌, ap, inr, refl, true, length, Err, rules, Result, Bool, subst, arith}
 use Rattle.gx_machine.specs.Keys.{keys}
 use Rattle.gx_node.specs.Reading.{format_of, is_node}
 use Rattle.gx_node.specs.declared.items.TheConstants.{MAX_ENTRIES}
-use Rattle.gx_store.specs.Faults.{CanBeRead}
+use Rattle.gx_store.specs.Faults.{CanBeRead, store_fails}
 use Rattle.gx_store.specs.State.{IsSteady}
 use Rattle.gx_node.specs.declared.fault.StepFault.TheVariants.{Damaged, Pages}
 use Rattle.gx_phases.specs.Moves.{failed_state}
@@ -19,6 +19,9 @@ use Rattle.gx_engine.proofs.Serving.{flies_on, is_calm, not_due}
 use Rattle.gx_engine.proofs.Ordered.{order_read}
 use Rattle.gx_engine.proofs.Sweeping.{more_than_fit, never_full, never_none, none_taken, sweep_leads, sweep_so, swept_so, turned_comes, unswept_so}
 use Rattle.gx_pool.proofs.Bringing.{only_read_joined}
+use Rattle.gx_node.specs.Owner.{CountsFaults, step_fails}
+use Rattle.gx_node.specs.declared.fault.StepFault.{StepFault}
+use Rattle.gx_engine.proofs.Failing.{ends_told}
 use Rattle.gx_engine.proofs.engine.Engine.take_out.Goals as goal
 
 pub invariant_of-self-in-Err-Pages : goal.invariant_of-self-in-Err-Pages
@@ -113,6 +116,7 @@ returns-in-Err-Damaged g c =
       sweeps = (inr (refl, full), as_brought old c.sweep.new.self (failed_state old.sessions) did.log did.most did.imaged);
       leads = λ l. never_full _ (c.a_class_is_lawful.ensures l) _ _ _ c.args.page d _ old c.stands.ensures _ _ c.requires.from high c.most.ensures.few full;
       device = (did.since 0).goes_on.device;
+      told = subst (λ (x : Result Bool (StepFault StoreFault)). CountsFaults (step_fails store_fails) d.faults (g.D.SectorDisk.state c.sweep.new.self.shelf.disk).faults x) failed c.sweep.ensures.told;
     })
 
 pub returns-in-Err-Pages-clause-sweeps : goal.returns-in-Err-Pages-clause-sweeps
@@ -138,3 +142,21 @@ returns-in-Err-Pages-clause-device g c =
     let did = refused.unlogged in
     rw (← c.self.view_is)
     (only_read_joined (state c.self.inside.storage.shelf.disk) (state c.sweep.new.self.shelf.disk) (state c.turn_away.new.self.volume.shelf.disk) (did.since 0).goes_on.device c.turn_away.ensures.device)
+
+pub returns-in-Ok-true-clause-told : goal.returns-in-Ok-true-clause-told
+returns-in-Ok-true-clause-told g c =
+    let same = c.in-Ok-true.ensures.told in
+    rw (← c.self.view_is) (omega (arith, same))
+
+pub returns-in-Ok-false-clause-told : goal.returns-in-Ok-false-clause-told
+returns-in-Ok-false-clause-told g c =
+    let same = c.in-Ok-false.ensures.told in
+    rw (← c.self.view_is) (omega (arith, same))
+
+pub returns-in-Err-Pages-clause-told : goal.returns-in-Err-Pages-clause-told
+returns-in-Err-Pages-clause-told g c =
+    let e : Parts g.row.K-Key.Denot g.row.D.Denot = record { volume = c.self.inside.storage; sessions = c.self.inside.sessions; in_flight = c.self.inside.in_flight; checkpoint = c.self.inside.checkpoint } in
+    let mid : Parts g.row.K-Key.Denot g.row.D.Denot = record e { volume = c.sweep.new.self } in
+    let failed : c.sweep.result ≡ Err (Pages c.in-Err-Pages.fault) = search rules in
+    let told = subst (λ (x : Result Bool (StepFault StoreFault)). CountsFaults (step_fails store_fails) (g.D.SectorDisk.state e.volume.shelf.disk).faults (g.D.SectorDisk.state c.sweep.new.self.shelf.disk).faults x) failed c.sweep.ensures.told in
+    rw (← c.self.view_is) (ends_told g.D.SectorDisk.state e mid c.turn_away.new.self c.turn_away.result (store_fails c.in-Err-Pages.fault) told c.turn_away.ensures.volume c.turn_away.ensures.told)

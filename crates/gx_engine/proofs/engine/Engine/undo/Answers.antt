@@ -8,6 +8,7 @@ use Rattle.gx_engine.specs.States.{Parts}
 use Rattle.gx_engine.specs.declared.work.Work.{Work}
 use Rattle.gx_engine.specs.Undoing.{leaf_of, undo_work}
 use Rattle.gx_engine.proofs.UndoMoves.{is_next, some_comes}
+use Rattle.gx_engine.proofs.Failing.{end_told}
 use Rattle.gx_engine.proofs.engine.Engine.undo.Goals as goal
 
 pub restore-requires-clause-next : goal.restore-requires-clause-next
@@ -33,3 +34,6 @@ returns-in-Some-clause-comes g c =
     (c.phase.ensures ∙ ap (λ (x : Parts g.row.K-Key.Denot g.row.D.Denot). phase_at (c.args.session - 1) x.sessions.phases) c.self.view_is) in
     some_comes _ _ _ _ _ _ _ _ _ _ c.args.session old c.restore.new.self c.restore.result (sym c.is_due.ensures ∙ c.if-is_due.false) c.in-Some.restored place
     c.notes.result.now notes n c.index-notes-restored.is c.leaf_of-leaf.result leaf c.restore.ensures.comes
+
+pub returns-in-None-clause-told : goal.returns-in-None-clause-told
+returns-in-None-clause-told g c = end_told g.D.SectorDisk.state c.end_undo.new.self c.args.self.now c.args.session c.end_undo.result c.end_undo.ensures.comes

@@ -15,6 +15,12 @@ use Rattle.gx_engine.proofs.RoomMade.{stays_used}
 use Rattle.gx_engine.proofs.WriteSeeks.{comes_on, damaged_comes, no_room, refused_comes, why_begun}
 use Rattle.gx_engine.proofs.SeekMoves.{moves_on, never_moves, refused_moves}
 use Rattle.gx_engine.proofs.UndoMoves.{why_pages}
+use Rattle.gx_engine.proofs.Failing.{then_told, pages_told, quiet_told}
+use Rattle.gx_node.specs.declared.fault.StepFault.{StepFault}
+use Rattle.gx_store.specs.declared.fault.StoreFault.{StoreFault}
+use Rattle.gx_node.specs.Owner.{step_fails}
+use Rattle.gx_store.specs.Faults.{store_fails}
+use Rattle.gx_engine.specs.Calls.{outcome_fails}
 use Rattle.gx_engine.proofs.engine.Engine.write_at.Goals as goal
 
 pub write_sought-requires-clause-seeks : goal.write_sought-requires-clause-seeks
@@ -111,3 +117,19 @@ returns-in-Err-Damaged-clause-moves g c =
 pub returns-in-Ok-clause-device : goal.returns-in-Ok-clause-device
 returns-in-Ok-clause-device g c =
     then_read g.D.SectorDisk.state c.args.self.now c.seek_pair.new.self c.write_sought.new.self c.seek_pair.ensures.device c.write_sought.ensures.device
+
+pub returns-in-Ok-clause-told : goal.returns-in-Ok-clause-told
+returns-in-Ok-clause-told g c = then_told g.D.SectorDisk.state c.args.self.now c.seek_pair.new.self c.write_sought.new.self c.write_sought.result c.in-Ok.ensures.told c.write_sought.ensures.told
+
+pub returns-in-Err-Pages-clause-told : goal.returns-in-Err-Pages-clause-told
+returns-in-Err-Pages-clause-told g c =
+    let says : outcome_fails c.refuse.result ≡ store_fails c.in-Err-Pages.fault = search rules in
+    let same : c.refuse.new.self.volume ≡ c.seek_pair.new.self.volume = search rules in
+    pages_told g.D.SectorDisk.state c.args.self.now c.seek_pair.new.self c.refuse.new.self c.in-Err-Pages.field-0 c.in-Err-Pages.fault c.refuse.result c.in-Err-Pages.field-0-is c.in-Err-Pages.ensures.told
+    same says
+
+pub returns-in-Err-Damaged-clause-told : goal.returns-in-Err-Damaged-clause-told
+returns-in-Err-Damaged-clause-told g c =
+    let damaged : c.in-Err-Damaged.field-0 ≡ Damaged = search rules in
+    quiet_told g.D.SectorDisk.state c.args.self.now c.seek_pair.new.self c.break_off.new.self (step_fails store_fails c.in-Err-Damaged.field-0) c.break_off.result _ (ap (λ (x : StepFault StoreFault). step_fails store_fails x) damaged)
+    c.in-Err-Damaged.ensures.told (ap (λ (x : Parts g.row.K-Key.Denot g.row.D.Denot). x.volume) c.break_off.ensures.failed) c.break_off.ensures.outcome refl

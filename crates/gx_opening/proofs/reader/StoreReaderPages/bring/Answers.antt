@@ -15,4 +15,5 @@ returns g c =
       asked = brought.asked;
       why = brought.why;
       later = brought.later;
+      told = brought.told;
     })

@@ -17,3 +17,9 @@ pub returns-in-None-clause-ends : goal.returns-in-None-clause-ends
 returns-in-None-clause-ends g c = λ l bodies i holds.
     (let clash = c.in-None.ensures.ends l bodies i (rw (← c.self.view_is) at holds) refl in
     let no : ⊥ = cc in absurd no)
+
+pub returns-in-Some-clause-told : goal.returns-in-Some-clause-told
+returns-in-Some-clause-told g c = rw (← c.self.view_is) c.in-Some.ensures.told
+
+pub returns-in-None-clause-told : goal.returns-in-None-clause-told
+returns-in-None-clause-told g c = rw (← c.self.view_is) c.in-None.ensures.told

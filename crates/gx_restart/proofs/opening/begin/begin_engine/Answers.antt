@@ -1,9 +1,10 @@
-use Rattle.std.proofs.Common.{◌≤◌, length, arith}
+use Rattle.std.proofs.Common.{◌≡◌, ◌≤◌, ap, length, arith}
 use Rattle.std.proofs.lemmas.Grind.{common_steps}
 use Rattle.gx_machine.specs.Keys.{Members}
 use Rattle.gx_node.specs.Reading.{format_of}
 use Rattle.gx_recovery.specs.Damage.{records_of}
 use Rattle.gx_recovery.proofs.DamageItems.{bodies_log}
+use Rattle.gx_store.specs.Faults.{refusal_fails}
 use Rattle.gx_opening.specs.Standing.{known_for, limits_of}
 use Rattle.gx_restart.proofs.Closing.{begun_so, not_begun, starts_quietly}
 use Rattle.gx_restart.proofs.opening.begin.begin_engine.Goals as goal
@@ -45,7 +46,10 @@ returns-in-Ok-close_later-clause-begun g c = λ a honest st.
     c.args.frames c.in-Ok.start c.in-Ok.ensures c.in-Ok-close_later.ensures.closes cut c.start.result c.start.ensures.started c.start.ensures.refused (c.start.ensures.holds (limits_of s.parameters)))
 
 pub returns-in-Err-clause-faults : goal.returns-in-Err-clause-faults
-returns-in-Err-clause-faults g c = λ is. (let more = c.in-Err.ensures.faults in omega (arith, more))
+returns-in-Err-clause-faults g c =
+    let one : refusal_fails c.in-Err.why ≡ 1 = ap refusal_fails c.in-Err.ensures.refusal in
+    let more = c.in-Err.ensures.faults in
+    omega (arith, one, more)
 
 pub returns-in-Ok-close_later-clause-faults : goal.returns-in-Ok-close_later-clause-faults
 returns-in-Ok-close_later-clause-faults g c =

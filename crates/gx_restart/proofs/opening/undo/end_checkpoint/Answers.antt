@@ -1,4 +1,4 @@
-use Rattle.gx_restart.proofs.Going.{ended_goes, ended_why, ended_works}
+use Rattle.gx_restart.proofs.Going.{ended_goes, ended_told, ended_why, ended_works}
 use Rattle.gx_restart.proofs.opening.undo.end_checkpoint.Goals as goal
 
 pub returns-clause-goes : goal.returns-clause-goes
@@ -12,3 +12,6 @@ returns-clause-why g c = ended_why (record { partial_cmp = g.K.Key.PartialOrd.pa
 
 pub unreachable-requires : goal.unreachable-requires
 unreachable-requires g c = let clash = c.in-None.ensures.ends tt in let no : ⊥ = cc in no
+
+pub returns-clause-told : goal.returns-clause-told
+returns-clause-told g c = ended_told (record { partial_cmp = g.K.Key.PartialOrd.partial_cmp; eq = g.K.Key.PartialEq.eq; cmp = g.K.Key.Ord.cmp; overlap = g.K.Key.Shape.overlap; inside = g.K.Key.Shape.inside }) g.K.ReadKeys.is_proper g.K.ReadKeys.said g.K.KeyClass g.D.SectorDisk.state c.args.engine.now c.repeat.new.engine c.in-Some.ends c.in-Some.ensures.made

@@ -1,4 +1,4 @@
-use Rattle.gx_restart.proofs.Going.{undo_goes, undo_so, undone_free, undone_why, undone_works}
+use Rattle.gx_restart.proofs.Going.{undo_goes, undo_so, undone_free, undone_told, undone_why, undone_works}
 use Rattle.gx_restart.proofs.opening.undo.undo.Goals as goal
 
 pub returns-clause-goes : goal.returns-clause-goes
@@ -18,3 +18,6 @@ pub returns-clause-why : goal.returns-clause-why
 returns-clause-why g c =
     rw c.undone.ensures (undone_why (record { partial_cmp = g.K.Key.PartialOrd.partial_cmp; eq = g.K.Key.PartialEq.eq; cmp = g.K.Key.Ord.cmp; overlap = g.K.Key.Shape.overlap; inside = g.K.Key.Shape.inside }) g.K.ReadKeys.is_proper g.K.ReadKeys.said g.K.KeyClass g.D.SectorDisk.state c.args.session c.args.engine.now c.drive.new.engine _
     (undo_so (record { partial_cmp = g.K.Key.PartialOrd.partial_cmp; eq = g.K.Key.PartialEq.eq; cmp = g.K.Key.Ord.cmp; overlap = g.K.Key.Shape.overlap; inside = g.K.Key.Shape.inside }) g.K.ReadKeys.is_proper g.K.ReadKeys.said g.K.KeyClass g.D.SectorDisk.state c.args.session c.args.engine.now c.drive.new.engine c.drive.result c.requires.session c.requires.undoes c.requires.works c.drive.ensures.made))
+
+pub returns-clause-told : goal.returns-clause-told
+returns-clause-told g c = rw c.undone.ensures (undone_told g.D.SectorDisk.state c.args.engine.now c.drive.new.engine c.drive.result c.drive.ensures.told)

@@ -54,4 +54,5 @@ returns g c =
       asked = λ was before is. moves_joined was s new (Brings pages ∷ []) before is (bringing_moves (is_node f i.pages) d e s c.bring.new.disk t pages c.bring.result brought);
       why = all.why;
       later = on_ok (told_of c.bring.result) _ (λ later fault is. why_later (is_node f) d e (g.D.SectorDisk.state later.disk) s new later fault all.goes_on is);
+      told = all.told;
     })

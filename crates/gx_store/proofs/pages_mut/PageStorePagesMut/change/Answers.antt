@@ -1,4 +1,4 @@
-use Rattle.std.proofs.Common.{[], sym, ap, subst, ◌∙◌}
+use Rattle.std.proofs.Common.{[], refl, sym, ap, subst, ◌∙◌}
 use Rattle.gx_node.specs.Reading.{format_of, is_node}
 use Rattle.gx_page.specs.Contents.{Contents}
 use Rattle.gx_pool.specs.Edits.{changed}
@@ -55,4 +55,5 @@ returns g c =
       steady = on.steady;
       since = λ was q ne is. since_joined (is_node f) (g.D.SectorDisk.state was.disk) d d was s new q is on (change_as_it_was d i.pool.frames page q i.batch w sound ne);
       asked = λ was before is. moves_joined was s new [] before is (changing_moves s page w sound held.kept);
+      told = refl;
     })

@@ -46,4 +46,5 @@ returns g c =
       steady = on.steady;
       since = λ was q ne is. since_joined (is_node f) (g.D.SectorDisk.state was.disk) d d was s new q is on (take_as_it_was (is_node f) d s t _ makes q ne);
       asked = λ was before is. moves_joined was s new [] before is (taking_moves s t _ makes);
+      told = refl;
     })
