@@ -9,6 +9,7 @@ use Rattle.gx_engine.specs.States.{Parts}
 use Rattle.gx_geom.specs.declared.refusal.Refusal.TheVariants.{BadParameter, Device as NoDevice, TooSmall}
 use Rattle.gx_machine.specs.Keys.{Members}
 use Rattle.gx_node.specs.Reading.{format_of}
+use Rattle.gx_opening.specs.Shown.{LeavesDamaged}
 use Rattle.gx_restart.specs.Beginning.{IsSameDevice}
 use Rattle.gx_restart.specs.Keeping.{KeepsItsSet, OpensSafely}
 use Rattle.gx_restart.specs.Opened.{IsOpened, IsRefused}
@@ -35,3 +36,5 @@ pub record Opens {C B D : Type 0} (shape : Members B) (is_key : B → Bool) (sai
       → IfOk result (λ engine. IsOpened shape is_key said (format_of class) number (state disk) (state engine.volume.shelf.disk) engine)
   pub refused : (state disk).honest ≡ true → 16 ≤ frames → frames ≤ 4096 → MIN_SECTORS ≤ (state disk).sectors
       → IfErr result (λ n. IsRefused shape is_key said (format_of class) state number disk n.disk n.why)
+  pub damaged : (state disk).honest ≡ true
+      → IfErr result (λ n. LeavesDamaged shape is_key said (format_of class) number (state n.disk) n.why)

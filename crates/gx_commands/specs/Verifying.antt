@@ -1,5 +1,5 @@
 -- How a device is verified: what comes of it, what is printed, and what the user is told.
-use Rattle.std.specs.Prelude.{ℕ, ◌≡◌, ◌⊎◌, ◌<◌, ◌≤◌, Bool, true, Option, Some, List, Result, Ok, Err, IfErr, IfOk, IfSome}
+use Rattle.std.specs.Prelude.{ℕ, ◌≡◌, ◌⊎◌, ◌<◌, ◌≤◌, Bool, true, Option, Some, List, Result, Ok, Err, IfErr, IfOk}
 use Rattle.std.specs.Io.KnownBytes.{Appends}
 use Rattle.gx_disk.specs.declared.layout.TheConstants.{MIN_SECTORS}
 use Rattle.gx_class.specs.declared.class.KeyClass.{Ghosts}
@@ -14,7 +14,7 @@ use Rattle.gx_machine.specs.Keys.{Members}
 use Rattle.gx_node.specs.Reading.{format_of}
 use Rattle.gx_opening.specs.declared.damage.Damage.{Damage}
 use Rattle.gx_opening.specs.Formatted.{Counted}
-use Rattle.gx_opening.specs.Shown.{Shows}
+use Rattle.gx_opening.specs.Shown.{Finds, HoldsDamaged, IsLack, Shows}
 use Rattle.gx_restart.specs.Copied.{memory_state}
 use Rattle.gx_restart.specs.declared.verification.Report.{Report}
 use Rattle.gx_restart.specs.Verified.{IsDamagedCopy, IsUnverified, IsVerified}
@@ -43,32 +43,32 @@ TellsReport report old new status =
     ⊎ ((status ≡ 1) × (IsCut old.replies.bytes new.replies.bytes (verified_line report)
     × (TakesNoMore new.replies × TellsFault Write new.replies.kind old.person new.person)))
 
--- The user is told what was found damaged, if something was; this is true of it.
-pub record TellsTrue (is_so : Damage → Type 0) (old new : Stream) : Type 0 where
-  pub found : Option Damage
-  pub is_true : IfSome found is_so
+-- The user is told what was found damaged, of which this is true.
+pub record TellsTrue (is_so : Result (Option Damage) Refusal → Type 0) (old new : Stream) : Type 0 where
+  pub found : Result (Option Damage) Refusal
+  pub is_true : is_so found
   pub heard : TellsFound found old new
 
 -- Damage is told: the line of its refusal, and that to the user.
-pub record TellsCopy (is_so : Damage → Type 0) (old new : Outputs) (status : ℕ) : Type 0 where
+pub record TellsCopy (is_so : Result (Option Damage) Refusal → Type 0) (old new : Outputs) (status : ℕ) : Type 0 where
   pub status_is : status ≡ 1
   pub told : Prints (refusal_line Damaged) old.replies new.replies
   pub heard : TellsTrue is_so old.person new.person
 
 -- so is what a device isn't verified for
-abbrev pub TellsUnverified : (Damage → Type 0) → Refusal → Outputs → Outputs → ℕ → Type 0
+abbrev pub TellsUnverified : (Result (Option Damage) Refusal → Type 0) → Refusal → Outputs → Outputs → ℕ → Type 0
 TellsUnverified is_so why old new status =
     ((why ≡ Damaged) × TellsCopy is_so old new status) ⊎ ((why ≡ Damaged → ⊥) × Refuses why old new status)
 
-abbrev pub TellsVerified : (Damage → Type 0) → Result Report Refusal → Outputs → Outputs → ℕ → Type 0
+abbrev pub TellsVerified : (Result (Option Damage) Refusal → Type 0) → Result Report Refusal → Outputs → Outputs → ℕ → Type 0
 TellsVerified is_so (Ok report) old new status = TellsReport report old new status
 TellsVerified is_so (Err why) old new status = TellsUnverified is_so why old new status
 
 module _ {C B : Type 0} (shape : Members B) (is_key : B → Bool) (said : List ℕ → B) (class : Ghosts C B) (number : ℕ) where
-  -- this was found damaged in a copy, if it has the sectors of the smallest index
-  abbrev pub IsFoundIn : Option MemDisk → Damage → Type 0
-  IsFoundIn copy damage = (c : MemDisk) × ((copy ≡ Some c)
-      × (MIN_SECTORS ≤ (memory_state c).sectors → Shows shape is_key said (format_of class) MemDisk number (memory_state c) damage))
+  -- what comes of examining a copy that is damaged: damage there, unless a call of it failed or memory was refused
+  abbrev pub CopyFinds : Option MemDisk → Result (Option Damage) Refusal → Type 0
+  CopyFinds copy found = (c : MemDisk) → copy ≡ Some c → HoldsDamaged shape is_key said (format_of class) number (memory_state c)
+      → Finds ⊥ (Shows shape is_key said (format_of class) MemDisk number (memory_state c)) IsLack found
 
   -- This is damaged in a device in memory that reads as the first sectors of a device, but for pages that its log gives.
   pub record IsShownOf (d : Device) (damage : Damage) : Type 0 where
@@ -81,5 +81,5 @@ pub record VerifiesOver {C B D : Type 0} (shape : Members B) (is_key : B → Boo
     (state : D → Device) (number frames : ℕ) (old new : D) (from to : Outputs) (status : ℕ) : Type 0 where
   pub result : Result Report Refusal
   pub verifies : Verifies shape is_key said class state number frames old new result
-  pub told : TellsVerified (λ damage. (state old).honest ≡ true → IsShownOf shape is_key said class number (state old) damage)
+  pub told : TellsVerified (λ found. (state old).honest ≡ true → Finds ⊥ (IsShownOf shape is_key said class number (state old)) IsLack found)
       result from to status

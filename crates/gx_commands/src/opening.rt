@@ -29,19 +29,19 @@ pub(crate) fn opened<D: SectorDisk, K: ReadKeys + KeyClass<Key = Box2> + Probing
     open(alloc, disk, frames)
 }
 
-/// Tells the user of damage, where it was found.
-pub(crate) fn tell_found<E: Write>(faults: &mut Noted<E>, found: Option<Damage>)
+/// Tells the user of damage, where it was found; else that there is some.
+pub(crate) fn tell_found<E: Write>(faults: &mut Noted<E>, found: Result<Option<Damage>, Refusal>)
     ensures { TellsFound found (stream_of E.contents faults.old) (stream_of E.contents faults.new) }
 {
     match found {
-        Some(damage) => tell_person(faults, sentence_of(damage).as_str()),
-        None => tell_refused(faults, Refusal::Damaged),
+        Ok(Some(damage)) => tell_person(faults, sentence_of(damage).as_str()),
+        Ok(None) | Err(_) => tell_refused(faults, Refusal::Damaged),
     }
 }
 
 /// Writes the line of an opening that was refused, `refused N text`, tells the user what it means, and returns the
 /// device and the status, 1. Where the device is damaged it is examined, and the user is told where: in its log or
-/// on which page, and which rule is broken there.
+/// on which page, and which rule is broken there; unless a call fails, or memory is refused.
 pub(crate) fn refuse_opening<D: SectorDisk + Drop, K: ReadKeys, W: Write, E: Write>(
     alloc: Global,
     refused: NotOpened<D>,

@@ -2,10 +2,10 @@
 ghost use Rattle.std.specs.Prelude.{◌≡◌, true, IfErr, IfSome};
 ghost use Rattle.gx_commands.specs.Streams.{outputs_of};
 ghost use Rattle.gx_commands.specs.Lines.{verified_line};
-ghost use Rattle.gx_commands.specs.Verifying.{IsFoundIn, TellsReport, TellsUnverified, Verifies, VerifiesOver};
+ghost use Rattle.gx_commands.specs.Verifying.{CopyFinds, TellsReport, TellsUnverified, Verifies, VerifiesOver};
 ghost use Rattle.gx_node.specs.Reading.{format_of};
 ghost use Rattle.gx_restart.specs.Copied.{memory_state};
-ghost use Rattle.gx_restart.specs.Verified.{IsDamagedCopy, why_of};
+ghost use Rattle.gx_restart.specs.Verified.{HandsOut, IsDamagedCopy, why_of};
 
 use crate::opening::tell_found;
 use crate::person::tell_fault;
@@ -60,13 +60,13 @@ fn tell_report<W: Write, E: Write>(
     }
 }
 
-// What is damaged in a copy, if there is one and something is found.
-fn damage_in<K: ReadKeys>(alloc: Global, copy: Option<MemDisk>) -> Option<Damage>
-    ensures { IfSome result (IsFoundIn K.Key.Shape K.is_proper K.said K.KeyClass K.CLASS copy) }
+// What is damaged in a copy, if there is one.
+fn damage_in<K: ReadKeys>(alloc: Global, copy: Option<MemDisk>) -> Result<Option<Damage>, Refusal>
+    ensures { CopyFinds K.Key.Shape K.is_proper K.said K.KeyClass K.CLASS copy result }
 {
     match copy {
         Some(copy) => examine::<MemDisk, K>(alloc, copy).1,
-        None => None,
+        None => Ok(None),
     }
 }
 
@@ -77,7 +77,7 @@ fn refuse_verified<K: ReadKeys, W: Write, E: Write>(
     writer: &mut Noted<W>,
     faults: &mut Noted<E>,
 ) -> u8
-    ensures { TellsUnverified (IsFoundIn K.Key.Shape K.is_proper K.said K.KeyClass K.CLASS refused.copy) refused.why
+    ensures { TellsUnverified (CopyFinds K.Key.Shape K.is_proper K.said K.KeyClass K.CLASS refused.copy) refused.why
         (outputs_of W.contents E.contents writer.old faults.old)
         (outputs_of W.contents E.contents writer.new faults.new) result }
 {
@@ -103,6 +103,8 @@ fn verified<D: SectorDisk, K: ReadKeys + KeyClass<Key = Box2> + Probing>(
     ensures damaged { (D.state disk.old).honest ≡ true → IfErr result (λ n. n.why ≡ Refusal.Damaged → IfSome n.copy
         (λ copy. IsDamagedCopy ⟦<Box2 as Shape>⟧ K.is_proper K.said (format_of K.KeyClass)
         (D.state disk.old) (memory_state copy))) }
+    ensures copy { (D.state disk.old).honest ≡ true
+        → IfErr result (HandsOut ⟦<Box2 as Shape>⟧ K.is_proper K.said (format_of K.KeyClass) K.CLASS) }
 {
     verify_or_copy::<D, K>(alloc, disk, frames)
 }

@@ -45,8 +45,8 @@ fn is_told(alloc: Global, found: &[Finding], sentence: &str) -> Result<bool, Run
 fn is_said<K: ReadKeys>(alloc: Global, disk: MemDisk, found: &[Finding]) -> Result<bool, RunFault> {
     let (_disk, damage) = examine::<MemDisk, K>(alloc, disk);
     match damage {
-        Some(damage) => is_told(alloc, found, format!(in alloc; "{damage}")?.as_str()),
-        None => Ok(false),
+        Ok(Some(damage)) => is_told(alloc, found, format!(in alloc; "{damage}")?.as_str()),
+        Ok(None) | Err(_) => Ok(false),
     }
 }
 

@@ -11,6 +11,8 @@ mod dumps;
 #[cfg(test)]
 mod full;
 #[cfg(test)]
+mod imaged;
+#[cfg(test)]
 mod legality;
 #[cfg(test)]
 mod life;

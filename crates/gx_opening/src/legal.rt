@@ -60,7 +60,7 @@ fn store_refusal(fault: StoreFault) -> Refusal
 }
 
 // What a refusal of a test is.
-fn test_refusal(fault: LegalityFault<StoreFault>) -> Refusal
+pub(crate) fn test_refusal(fault: LegalityFault<StoreFault>) -> Refusal
     ensures told { result ≡ refusal_of fault }
     ensures damaged { result ≡ Refusal.Damaged → IsDamage fault }
     ensures device { result ≡ Refusal.Device → fault ≡ LegalityFault.Pages StoreFault.Device }
@@ -141,6 +141,7 @@ pub(crate) fn test_pages<D: SectorDisk, K: ReadKeys>(
     requires inside { (pages ≤ MAX_PAGES) × (PAGES_AT + PAGE_SECTORS * pages ≤ (D.state disk).sectors) }
     ensures fits { IfOk result.1 (λ _. analysis.now.told.used ≤ pages) }
     ensures cause { IfErr result.1 IsCause }
+    ensures memory { IfErr result.1 (λ why. why ≡ Refusal.Memory → analysis.now.told.used ≤ pages) }
     ensures others { OnOk result.1 (AreOfOthers (entry_cmp (keys_of K.Key.Shape)) analysis.now.told.touched) }
     ensures read { OnlyRead (D.state disk) (D.state result.0) }
     ensures faults { TellsFaults (D.state disk).faults (D.state result.0).faults result.1 }

@@ -10,6 +10,7 @@ ghost use Rattle.gx_opening.specs.Noting.{AreOfOthers};
 ghost use Rattle.gx_opening.specs.Sound.{IsCause, Tells};
 ghost use Rattle.gx_opening.specs.Standing.{MayStart, limits_of, told_with};
 ghost use Rattle.gx_opening.specs.Setting.{AreSoundAs, StaysSafeAs, FindsInOrderAs, IsStoodAs, IsTestedAs};
+ghost use Rattle.gx_opening.specs.Setting.{LeavesDamagedAs};
 
 use crate::formatted::formatted_behind;
 use crate::legal::test_pages;
@@ -49,6 +50,8 @@ fn stand<D: SectorDisk, K: ReadKeys>(
         → FindsInOrderAs K.Key.Shape K.is_proper K.said K.KeyClass D.state disk.old disk.new result }
     ensures stood { (D.state disk.old).honest ≡ true
         → IsStoodAs K.Key.Shape K.is_proper K.said K.KeyClass D.state disk.old disk.new result }
+    ensures damaged { (D.state disk.old).honest ≡ true
+        → LeavesDamagedAs K.Key.Shape K.is_proper K.said K.KeyClass D.state disk.new result }
 {
     what_stands_is_legal::<K>();
     let parameters = formatted_behind::<D, K>(disk)?;
@@ -81,6 +84,8 @@ fn tested<D: SectorDisk, K: ReadKeys>(
     ensures fits { IfOk result.1 (λ s. s.log.analysis.told.used ≤ s.parameters.pages) }
     ensures others { IfOk result.1 (λ s. AreOfOthers (entry_cmp (keys_of K.Key.Shape)) s.log.analysis.told.touched) }
     ensures cause { IfErr result.1 IsCause }
+    ensures memory { IfErr result.1 (λ why. why ≡ Refusal.Memory
+        → standing.log.analysis.told.used ≤ standing.parameters.pages) }
     ensures tested { (D.state disk).honest ≡ true
         → AreOfOthers (entry_cmp (keys_of K.Key.Shape)) standing.log.analysis.told.touched
         → Tells (AreSoundAs K.Key.Shape K.is_proper K.said K.KeyClass (limits_of standing.parameters)
@@ -110,6 +115,8 @@ fn find_in<D: SectorDisk, K: ReadKeys>(
         → FindsInOrderAs K.Key.Shape K.is_proper K.said K.KeyClass D.state disk result.0 result.1 }
     ensures tested { (D.state disk).honest ≡ true
         → IsTestedAs K.Key.Shape K.is_proper K.said K.KeyClass D.state disk result.0 result.1 }
+    ensures damaged { (D.state disk).honest ≡ true
+        → LeavesDamagedAs K.Key.Shape K.is_proper K.said K.KeyClass D.state result.0 result.1 }
 {
     what_stands_is_legal::<K>();
     let mut disk = disk;
@@ -126,10 +133,11 @@ fn find_in<D: SectorDisk, K: ReadKeys>(
 /// fewer sectors than that index takes (`TooSmall`), with a damaged log, or pages that can't be read, aren't a legal
 /// tree, or haven't what open transactions touched in its place (`Damaged`); and where a call fails (`Device`), or
 /// memory is refused (`Memory`). All memory that the log takes is taken before the first call, and a damaged log is
-/// never refused as `Memory` behind it. At each moment a crash may leave what it could at the start, or an image with
-/// the log that was found and after it the same pages. A sync comes before the first write, and of the sectors only
-/// those of pages that the log gives are written. What is found has the numbers that an engine may start with, and its
-/// open transactions have touched no entry twice, whatever the device is.
+/// never refused as `Memory` behind it, nor are more pages in use than there are. What is refused as damaged is left so
+/// that [`crate::examine`] finds damage there. At each moment a crash may leave what it could at the start, or an image
+/// with the log that was found and after it the same pages. A sync comes before the first write, and of the sectors
+/// only those of pages that the log gives are written. What is found has the numbers that an engine may start with, and
+/// its open transactions have touched no entry twice, whatever the device is.
 pub fn find<D: SectorDisk, K: ReadKeys>(
     alloc: Global,
     disk: D,
@@ -147,6 +155,8 @@ pub fn find<D: SectorDisk, K: ReadKeys>(
         → FindsInOrderAs K.Key.Shape K.is_proper K.said K.KeyClass D.state disk result.0 result.1 }
     ensures tested { (D.state disk).honest ≡ true → MIN_SECTORS ≤ (D.state disk).sectors
         → IsTestedAs K.Key.Shape K.is_proper K.said K.KeyClass D.state disk result.0 result.1 }
+    ensures damaged { (D.state disk).honest ≡ true
+        → LeavesDamagedAs K.Key.Shape K.is_proper K.said K.KeyClass D.state result.0 result.1 }
 {
     if disk.sectors() < MIN_SECTORS {
         return (disk, Err(Refusal::TooSmall));

@@ -5,6 +5,7 @@ ghost use Rattle.gx_engine.specs.Made.{Makes};
 ghost use Rattle.gx_node.specs.Reading.{format_of};
 ghost use Rattle.gx_glog.specs.declared.parameters.Parameters.{Parameters};
 ghost use Rattle.gx_opening.specs.Formatted.{IsAllowed};
+ghost use Rattle.gx_opening.specs.Shown.{LeavesDamaged};
 ghost use Rattle.gx_opening.specs.Standing.{MayStart, Stands};
 ghost use Rattle.gx_restart.specs.Beginning.{HasBegun, HasNotBegun, HoldsFound, IsSameDevice};
 ghost use Rattle.gx_restart.specs.Keeping.{KeepsItsSet, OpensSafely};
@@ -122,6 +123,9 @@ fn open_with<D: SectorDisk, K: ReadKeys + Probing>(
     ensures refused { (D.state disk).honest ≡ true → MIN_SECTORS ≤ (D.state disk).sectors
         → IfErr result (λ n. IsRefused K.Key.Shape K.is_proper K.said (format_of K.KeyClass) D.state K.CLASS
         disk n.disk n.why) }
+    ensures damaged { (D.state disk).honest ≡ true
+        → IfErr result (λ n. LeavesDamaged K.Key.Shape K.is_proper K.said (format_of K.KeyClass) K.CLASS
+        (D.state n.disk) n.why) }
 {
     a_class_is_lawful::<K>();
     let (disk, found) = find::<D, K>(alloc, disk);
@@ -149,7 +153,8 @@ fn open_with<D: SectorDisk, K: ReadKeys + Probing>(
 /// image with the log that was found and after it the same pages; where these are good for the log, that stands for the
 /// set that the log keeps, under its number. The engine then holds an index with that one set. A sync comes before the
 /// first write. Where it is refused with `NotFormatted`, `BadParameter` or `TooSmall` nothing is written, and where it
-/// is refused with `Damaged` only pages that the log gives, and no other sector.
+/// is refused with `Damaged` only pages that the log gives, and no other sector: the device is left damaged, so that
+/// `gx_opening::examine` finds what is.
 pub fn open<D: SectorDisk, K: ReadKeys + Probing>(
     alloc: Global,
     disk: D,
@@ -179,6 +184,9 @@ pub fn open<D: SectorDisk, K: ReadKeys + Probing>(
     ensures refused { (D.state disk).honest ≡ true → 16 ≤ frames → frames ≤ 4096 → MIN_SECTORS ≤ (D.state disk).sectors
         → IfErr result (λ n. IsRefused K.Key.Shape K.is_proper K.said (format_of K.KeyClass) D.state K.CLASS
         disk n.disk n.why) }
+    ensures damaged { (D.state disk).honest ≡ true
+        → IfErr result (λ n. LeavesDamaged K.Key.Shape K.is_proper K.said (format_of K.KeyClass) K.CLASS
+        (D.state n.disk) n.why) }
 {
     what_is_found_stands::<D, K>();
     if frames < LEAST_FRAMES || MOST_FRAMES < frames {

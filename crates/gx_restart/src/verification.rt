@@ -4,10 +4,12 @@ ghost use Rattle.std.specs.Prelude.{◌≡◌, ◌≢◌, ◌≤◌, ◌<◌, tr
 ghost use Rattle.gx_disk.specs.Looks.{Looks};
 ghost use Rattle.gx_node.specs.Reading.{format_of};
 ghost use Rattle.gx_opening.specs.Formatted.{Counted};
+ghost use Rattle.gx_opening.specs.Shown.{LeavesDamaged};
 ghost use Rattle.gx_restart.specs.Copied.{IsNoMore, memory_state, refusal_of_copy};
 ghost use Rattle.gx_restart.specs.Opened.{IsOpened};
 ghost use Rattle.gx_restart.specs.Undoing.{IsIdle};
-ghost use Rattle.gx_restart.specs.Verified.{IsDamagedCopy, IsUnverified, IsUnverifiedCopy, IsVerified, why_of};
+ghost use Rattle.gx_restart.specs.Verified.{HandsOut, IsDamagedCopy, IsUnverified, IsUnverifiedCopy, IsVerified};
+ghost use Rattle.gx_restart.specs.Verified.{why_of};
 
 mod copy;
 mod entries;
@@ -101,6 +103,9 @@ fn verify_copy<D: SectorDisk + Drop, K: ReadKeys + Probing>(
         (D.state copy) n.why) }
     ensures damaged { (D.state copy).honest ≡ true → IfErr result (λ n. n.why ≡ Refusal.Damaged
         → IsDamagedCopy K.Key.Shape K.is_proper K.said (format_of K.KeyClass) (D.state copy) (D.state n.disk)) }
+    ensures left { (D.state copy).honest ≡ true
+        → IfErr result (λ n. LeavesDamaged K.Key.Shape K.is_proper K.said (format_of K.KeyClass) K.CLASS
+        (D.state n.disk) n.why) }
     ensures device { IfErr result (λ n. n.why ≢ Refusal.Device) }
 {
     match open::<D, K>(alloc, copy, frames) {
@@ -113,7 +118,7 @@ fn verify_copy<D: SectorDisk + Drop, K: ReadKeys + Probing>(
 }
 
 /// Verifies a device as `verify` does. Where an opening of its copy was refused the copy is handed out, so that
-/// `gx_opening::examine` says of a damaged one what is damaged: it reads as the device, but for pages that the log
+/// `gx_opening::examine` finds what is damaged of a damaged one: it reads as the device, but for pages that the log
 /// gives.
 pub fn verify_or_copy<D: SectorDisk, K: ReadKeys + Probing>(
     alloc: Global,
@@ -136,6 +141,8 @@ pub fn verify_or_copy<D: SectorDisk, K: ReadKeys + Probing>(
     ensures damaged { (D.state disk.old).honest ≡ true → IfErr result (λ n. n.why ≡ Refusal.Damaged → IfSome n.copy
         (λ copy. IsDamagedCopy K.Key.Shape K.is_proper K.said (format_of K.KeyClass)
         (D.state disk.old) (memory_state copy))) }
+    ensures copy { (D.state disk.old).honest ≡ true
+        → IfErr result (HandsOut K.Key.Shape K.is_proper K.said (format_of K.KeyClass) K.CLASS) }
     ensures few { (D.state disk.old).honest ≡ true → IfErr result (λ n. n.why ≡ Refusal.Damaged → IfSome n.copy
         (λ copy. IsNoMore (D.state disk.old).seen (memory_state copy).sectors)) }
 {
