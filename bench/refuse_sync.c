@@ -1,6 +1,7 @@
 // Loaded in front of the C library, notes in the file named by CALLS which calls are made of the file named by FILE and
-// of standard output, a line each in their order: write, extend, sync, reply, and committed for a reply that says so.
-// The sync whose number, from 1 on, is in REFUSE fails and isn't made, which is noted as refused. With SWALLOW set no
+// of standard output, a line each in their order: write, extend, sync, reply, and committed for a reply that says so; and
+// early for a sync by a descriptor that is open for reading alone. The sync whose number, from 1 on, is in REFUSE fails
+// and isn't made, which is noted as refused; with EARLY set early syncs alone are counted. With SWALLOW set no
 // sync is made and each is answered as a success, which isn't noted: so behaves a program that has lost its syncs.
 #define _GNU_SOURCE
 #include <errno.h>
@@ -74,17 +75,18 @@ static int settle(int descriptor, long call)
 {
     static long count;
     const char *refused = getenv("REFUSE");
+    int early = (fcntl(descriptor, F_GETFL) & O_ACCMODE) == O_RDONLY;
     if (!noted(descriptor, NULL))
         return (int)syscall(call, descriptor);
     if (getenv("SWALLOW"))
         return 0;
-    if (refused && ++count == atol(refused)) {
+    if (refused && (early || !getenv("EARLY")) && __atomic_add_fetch(&count, 1, __ATOMIC_SEQ_CST) == atol(refused)) {
         note("refused\n");
         errno = EIO;
         return -1;
     }
     int failed = (int)syscall(call, descriptor);
-    note(failed ? "fault\n" : "sync\n");
+    note(failed ? "fault\n" : early ? "early\n" : "sync\n");
     return failed;
 }
 

@@ -7,3 +7,4 @@ pub mod Record
 pub mod Results
 pub mod Spans
 pub mod Tearing
+pub mod Unrecorded

@@ -24,6 +24,11 @@ unfoldable pub size_kept : PastCall → ℕ
 size_kept Sync = 0
 size_kept (Write first n kept) = 512 * kept
 
+-- the overwritten bytes that are kept of one call, of the bytes before it
+unfoldable pub kept_of : PastCall → List ℕ → List ℕ
+kept_of Sync bytes = []
+kept_of (Write first n kept) bytes = take (512 * kept) (drop (512 * first) bytes)
+
 -- where the overwritten bytes of one call have a sector, if they do
 unfoldable pub place_kept : PastCall → ℕ → Option ℕ
 place_kept Sync s = None

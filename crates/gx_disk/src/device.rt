@@ -12,7 +12,7 @@ pub const SECTOR_SIZE: usize = 512;
 /// Why a call of a device failed.
 #[derive(Clone, Copy, Debug, PartialEq, Eq)]
 pub enum DiskFault {
-    /// There was no memory for the record of a call.
+    /// There was no memory for the record of a call, or for a handle for early syncs.
     Memory,
     /// The call was made to fail, in a test.
     Fuse,

@@ -4,12 +4,17 @@
 ghost use Rattle.std.specs.Prelude.{◌≡◌, ◌*◌, ◌^◌, ◌<◌};
 ghost use Rattle.gx_disk.specs.Streams.{IsNoStream};
 
+mod ahead;
 mod calls;
 mod opening;
 
 use crate::device::DiskFault;
 use crate::tally::Tally;
+use ahead::Marks;
+pub use ahead::SyncAhead;
+use std::alloc::Global;
 use std::fs::File;
+use std::sync::Arc;
 
 /// A file of whole sectors. Where it is open for writing no other opener of this kind has it, and where it is open for
 /// reading alone no other has it for writing. Its descriptor is no standard stream's, also where those are closed: so
@@ -21,6 +26,8 @@ pub struct FileDisk {
     writable: bool,
     /// Whether the file grew since the last sync that succeeded.
     grown: bool,
+    /// What it and its handle for early syncs know of each other, if it has one.
+    ahead: Option<Arc<Marks, Global>>,
     /// Why the last call that failed did so.
     fault: Option<DiskFault>,
     faults: Tally,

@@ -7,11 +7,13 @@ mod fuse;
 pub mod laws;
 mod layout;
 mod memory;
+mod ram;
 mod tally;
 mod tear;
 
 pub use device::{DiskFault, SECTOR_SIZE, SectorDisk};
-pub use file::FileDisk;
+pub use file::{FileDisk, SyncAhead};
 pub use fuse::{Fuse, FuseDisk};
 pub use layout::{LOG_AT, LOG_SECTORS, MAX_PAGES, MIN_PAGES, MIN_SECTORS, PAGE_SECTORS, PAGES_AT};
 pub use memory::{MemDisk, Torn};
+pub use ram::RamDisk;

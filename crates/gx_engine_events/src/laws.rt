@@ -16,7 +16,7 @@ ghost use Rattle.gx_engine_events.specs.Seen.{Sees, class_in};
 
 use crate::EngineEvents;
 use gx_class::Probing;
-use gx_disk::{MemDisk, SectorDisk};
+use gx_disk::{MemDisk, RamDisk, SectorDisk};
 use gx_durable::ReadKeys;
 use gx_engine::laws::a_class_is_lawful;
 use gx_events::Events;
@@ -52,7 +52,8 @@ pub fn a_hold_leaves_sets_of_the_machine<D: SectorDisk, K: ReadKeys>()
 
 /// Over a device in memory nothing has to be assumed: that such devices keep what they acknowledge is proved.
 pub fn in_memory_all_is_granted<K: ReadKeys + Probing>()
-    ensures { ⟦<EngineEvents<MemDisk, K> as Events<K::Key>>⟧.granted }
+    ensures recorded { ⟦<EngineEvents<MemDisk, K> as Events<K::Key>>⟧.granted }
+    ensures plain { ⟦<EngineEvents<RamDisk, K> as Events<K::Key>>⟧.granted }
 {}
 
 /// So a book over one keeps what it promises, with no premise.

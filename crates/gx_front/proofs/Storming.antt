@@ -1,5 +1,5 @@
 -- A storm that the words ask for is small, and what comes of it is how the program ends.
-use Rattle.std.proofs.Common.{arith, ◌≡◌, ◌*◌, ◌<◌, ◌≤◌, ◌^◌, ◌⊎◌, ℕ, List, Option, None, Some, Result, Ok, Err, ap, inl, inr, subst}
+use Rattle.std.proofs.Common.{arith, ◌≡◌, ◌*◌, ◌<◌, ◌≤◌, ◌^◌, ◌⊎◌, ℕ, List, Option, None, Some, Result, [], ◌∷◌, Ok, Err, ap, inl, inr, refl, subst}
 use Rattle.std.specs.Prelude.{MatchResult}
 use Rattle.std.proofs.Math.Nat.{mul-le-mul_left}
 use Rattle.clap.specs.Words.{Row, Text, subcommand_of}
@@ -10,6 +10,11 @@ use Rattle.gx_commands.specs.Refusing.{Refuses}
 use Rattle.gx_machine.specs.Keys.{Keys, Members, keys_of}
 use Rattle.gx_class.specs.declared.class.KeyClass.{Ghosts}
 use Rattle.gx_disk.specs.Device.{Device}
+use Rattle.gx_format.specs.Calls.{Call, Write, Sync, HasFailed}
+use Rattle.gx_format.specs.Formatting.{AreInRange, Formats, formatting, sectors_of}
+use Rattle.gx_glog.specs.declared.parameters.Parameters.{Parameters}
+use Rattle.gx_page.specs.Contents.{Contents}
+use Rattle.gx_engine_events.specs.New.{IsFrames, WhyNone}
 use Rattle.gx_disk.specs.declared.file.FileDisk.{FileDisk}
 use Rattle.gx_commands.specs.Streams.{Outputs}
 use Rattle.gx_words.specs.Asking.{IsAsked}
@@ -63,8 +68,24 @@ module _ {X F : Type 0} (text : X → List Text) (storm : Storm) (from between :
         }))
     stormed (Err fault) to status none ends = absurd none
 
--- For lack of memory, or of a device in it, there is no index: it is told.
-pub refused_index : (k : Keys Rectangle) (events : MemoryEvents) (storm : Storm) (why : Refusal) (old new : Outputs) (status : ℕ)
-    → (why ≡ refusal.Memory) ⊎ (why ≡ refusal.Device) → Refuses why old new status → EndsStormed k events storm old new status
-refused_index k events storm why old new status (inl is) told = inl (subst (λ w. Refuses w old new status) is told)
-refused_index k events storm why old new status (inr is) told = inr (inl (subst (λ w. Refuses w old new status) is told))
+-- A run of calls of a device that never fails doesn't fail.
+pub never_fails : {D : Type 0} (state : D → Device) → ((d : D) → (state d).faults ≡ 0) → (calls : List Call) (old new : D) → HasFailed state calls old new → ⊥
+never_fails state none [] old new failed = failed
+never_fails state none (Write first n bytes ∷ calls) old new (inl made) = let counts = made.1.0.faults in omega (arith, counts, none old, none new)
+never_fails state none (Sync ∷ calls) old new (inl made) = let counts = made.0.faults in omega (arith, counts, none old, none new)
+never_fails state none (call ∷ calls) old new (inr rest) = never_fails state none calls rest.0 new rest.1.1
+
+-- So an index of parameters that are in range, on a device that is large enough, is refused for lack of memory alone.
+module _ {D : Type 0} (state : D → Device) (none : (d : D) → (state d).faults ≡ 0) (parameters : Parameters) (root : Contents) (count : ℕ) (old new : D)
+    (range : AreInRange parameters.pages parameters.most) (frames : IsFrames count) (large : sectors_of parameters.pages ≤ (state old).sectors) where
+  lacks : (why : Refusal) → Formats state parameters root old new (Err why) → why ≡ refusal.Memory
+  lacks refusal.Memory is = refl
+  lacks refusal.BadParameter is = absurd (is.0 range)
+  lacks refusal.TooSmall is = let small = is.1.0 in absurd (omega (arith, small, large))
+  lacks refusal.Device is = absurd (never_fails state none (formatting parameters root) old new is.1.1)
+  lacks other is = absurd is
+
+  pub lacks_memory : (why : Refusal) → WhyNone state parameters root count old new why → why ≡ refusal.Memory
+  lacks_memory why (inl frameless) = absurd (frameless.1.0 frames)
+  lacks_memory why (inr (inl memory)) = memory
+  lacks_memory why (inr (inr refused)) = lacks why refused

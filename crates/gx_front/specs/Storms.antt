@@ -6,7 +6,7 @@ use Rattle.gx_geom.specs.declared.refusal.Refusal.TheVariants as refusal
 use Rattle.gx_machine.specs.Keys.{Keys}
 use Rattle.gx_machine.specs.Machine.{fresh_machine}
 use Rattle.gx_events.specs.declared.engine.Events.{Ghosts}
-use Rattle.gx_disk.specs.declared.memory.MemDisk.{MemDisk}
+use Rattle.gx_disk.specs.declared.ram.RamDisk.{RamDisk}
 use Rattle.gx_engine.specs.States.{Parts}
 use Rattle.gx_engine_events.specs.New.{IsNew}
 use Rattle.gx_commands.specs.Scripts.{TellsFault}
@@ -53,25 +53,25 @@ TellsVerdict storm (verdict.Refused why) old new status = Refuses why old new st
 
 -- what an engine of boxes over a device in memory is seen as, and what its events make of it
 abbrev pub MemoryEvents : Type 1
-MemoryEvents = Ghosts (Parts Rectangle MemDisk) Rectangle
+MemoryEvents = Ghosts (Parts Rectangle RamDisk) Rectangle
 
 -- A new index in memory, of 4,096 pages with at most 8 entries in a node, and with 64 frames. Nothing is committed.
-pub record IsFresh (events : MemoryEvents) (e : Parts Rectangle MemDisk) : Type 0 where
+pub record IsFresh (events : MemoryEvents) (e : Parts Rectangle RamDisk) : Type 0 where
   pub new : IsNew 4096 8 64 e
   pub seen : events.sees e fresh_machine
 
 -- A storm over such an index was judged, which is reported. Nothing has to be granted of a device in memory.
 pub record WasJudged (k : Keys Rectangle) (events : MemoryEvents) (storm : Storm) (old new : Outputs)
     (status : ℕ) : Type 0 where
-  pub index : Parts Rectangle MemDisk
+  pub index : Parts Rectangle RamDisk
   pub fresh : IsFresh events index
   pub granted : events.granted
   pub said : Verdict
-  pub after : Parts Rectangle MemDisk
+  pub after : Parts Rectangle RamDisk
   pub ends : EndsStorm k events (events.sees index) storm said after
   pub told : TellsVerdict storm said old new status
 
--- how a storm may end: memory lacks for it, or the device fails for lack of it, which is reported; or it is judged
+-- how a storm may end: memory lacks for it, which is reported; or it is judged
 abbrev pub EndsStormed : Keys Rectangle → MemoryEvents → Storm → Outputs → Outputs → ℕ → Type 0
 EndsStormed k events storm old new status =
-    Refuses refusal.Memory old new status ⊎ (Refuses refusal.Device old new status ⊎ WasJudged k events storm old new status)
+    Refuses refusal.Memory old new status ⊎ WasJudged k events storm old new status

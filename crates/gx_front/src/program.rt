@@ -11,7 +11,7 @@ use gx_class::{Box2Class, KeyClass};
 use gx_commands::{
     Noted, Opener, dump_file, format_file, print, refuse_memory, run_file, run_script, verify_file,
 };
-use gx_disk::{FileDisk, MemDisk, SectorDisk};
+use gx_disk::{FileDisk, RamDisk, SectorDisk};
 use gx_engine_events::EngineEvents;
 use gx_events::Events;
 use gx_geom::{Box2, Shape};
@@ -70,7 +70,7 @@ pub fn gist<
         let to = world_of R.remaining W.contents E.contents opener.new reader.new writer.new faults.new in
         MatchResult words.entry
         (λ given. EndsOnWords ⟦<Box2 as Shape>⟧ ⟦<Box2Class as KeyClass>⟧ ⟦<FileDisk as SectorDisk>⟧.state
-        ⟦<EngineEvents<MemDisk, Box2Class> as Events<Box2>>⟧ (map S.text given.now) from to result)
+        ⟦<EngineEvents<RamDisk, Box2Class> as Events<Box2>>⟧ (map S.text given.now) from to result)
         (λ fault. EndsUnread fault from to result) }
 {
     match before_threads(opener, alloc, words, reader, writer, faults) {
@@ -93,7 +93,7 @@ pub fn before_threads<'w, F: Files<File = File>, S: AsStr, R: Read, W: Write, E:
         let to = world_of R.remaining W.contents E.contents opener.new reader.new writer.new faults.new in
         IfOk result (λ status. MatchResult words.entry
         (λ given. EndsOnWords ⟦<Box2 as Shape>⟧ ⟦<Box2Class as KeyClass>⟧ ⟦<FileDisk as SectorDisk>⟧.state
-        ⟦<EngineEvents<MemDisk, Box2Class> as Events<Box2>>⟧ (map S.text given.now) from to status)
+        ⟦<EngineEvents<RamDisk, Box2Class> as Events<Box2>>⟧ (map S.text given.now) from to status)
         (λ fault. EndsUnread fault from to status)) }
     ensures storm { let from = world_of R.remaining W.contents E.contents opener.old reader.old writer.old faults.old in
         let to = world_of R.remaining W.contents E.contents opener.new reader.new writer.new faults.new in
@@ -124,7 +124,7 @@ fn carry_out<'w, F: Files<File = File>, R: Read, W: Write, E: Write>(
         let to = world_of R.remaining W.contents E.contents opener.new reader.new writer.new faults.new in
         MatchResult result
         (λ status. EndsAsked ⟦<Box2 as Shape>⟧ ⟦<Box2Class as KeyClass>⟧ ⟦<FileDisk as SectorDisk>⟧.state
-        ⟦<EngineEvents<MemDisk, Box2Class> as Events<Box2>>⟧ asked.entry from to status)
+        ⟦<EngineEvents<RamDisk, Box2Class> as Events<Box2>>⟧ asked.entry from to status)
         (λ storm. WantsStorm asked.entry storm from to) }
 {
     match asked {

@@ -1,5 +1,5 @@
 //! A storm over an index in memory, told.
-ghost use Rattle.std.specs.Prelude.{◌≡◌, ◌*◌, ◌<◌, ◌≤◌, ◌^◌, ◌⊎◌, IfErr, IfOk};
+ghost use Rattle.std.specs.Prelude.{◌≡◌, ◌*◌, ◌<◌, ◌≤◌, ◌^◌, IfErr, IfOk};
 ghost use Rattle.gx_commands.specs.Streams.{outputs_of};
 ghost use Rattle.gx_machine.specs.Keys.{keys_of};
 ghost use Rattle.gx_machine.specs.declared.limits.TheConstants.{SESSIONS};
@@ -8,7 +8,7 @@ ghost use Rattle.gx_front.specs.Storms.{EndsStormed, IsFresh, TellsSound, TellsV
 use arrayvec::ArrayString;
 use gx_class::Box2Class;
 use gx_commands::{Noted, print, refuse, tell_fault, tell_person};
-use gx_disk::MemDisk;
+use gx_disk::RamDisk;
 use gx_engine_events::laws::in_memory_all_is_granted;
 use gx_engine_events::{EngineEvents, new_index};
 use gx_events::Events;
@@ -101,15 +101,15 @@ fn tell_verdict<W: Write, E: Write>(
     }
 }
 
-// A new index in memory, with nothing committed.
-fn fresh(alloc: Global) -> Result<EngineEvents<MemDisk, Box2Class>, Refusal>
-    ensures new { IfOk result (IsFresh ⟦<EngineEvents<MemDisk, Box2Class> as Events<Box2>>⟧) }
-    ensures refused { IfErr result (λ why. (why ≡ Refusal.Memory) ⊎ (why ≡ Refusal.Device)) }
+// A new index in memory, with nothing committed. Its device never fails, so only lack of memory can refuse it.
+fn fresh(alloc: Global) -> Result<EngineEvents<RamDisk, Box2Class>, Refusal>
+    ensures new { IfOk result (IsFresh ⟦<EngineEvents<RamDisk, Box2Class> as Events<Box2>>⟧) }
+    ensures refused { IfErr result (λ why. why ≡ Refusal.Memory) }
 {
-    let Ok(disk) = MemDisk::new(alloc, sectors_for(PAGES) as usize) else {
+    let Ok(disk) = RamDisk::new(alloc, sectors_for(PAGES) as usize) else {
         return Err(Refusal::Memory);
     };
-    match new_index::<MemDisk, Box2Class>(alloc, disk, PAGES, MOST, FRAMES) {
+    match new_index::<RamDisk, Box2Class>(alloc, disk, PAGES, MOST, FRAMES) {
         Ok(engine) => Ok(engine),
         Err(refused) => Err(refused.why),
     }
@@ -129,17 +129,17 @@ pub(crate) fn tell_storm<T: Threads + Wait + Sync, W: Write, E: Write>(
 ) -> u8
     requires sessions { storm.now.sessions ≤ SESSIONS }
     requires calls { storm.now.sessions * storm.now.calls < 2 ^ 32 }
-    ensures { EndsStormed (keys_of ⟦<Box2 as Shape>⟧) ⟦<EngineEvents<MemDisk, Box2Class> as Events<Box2>>⟧ storm.now
+    ensures { EndsStormed (keys_of ⟦<Box2 as Shape>⟧) ⟦<EngineEvents<RamDisk, Box2Class> as Events<Box2>>⟧ storm.now
         (outputs_of W.contents E.contents writer.old faults.old)
         (outputs_of W.contents E.contents writer.new faults.new) result }
 {
     in_memory_all_is_granted::<Box2Class>();
-    an_idle_engine_may_be_shared::<Box2, EngineEvents<MemDisk, Box2Class>>();
+    an_idle_engine_may_be_shared::<Box2, EngineEvents<RamDisk, Box2Class>>();
     let index = match fresh(alloc) {
         Ok(index) => index,
         Err(why) => return refuse(writer, faults, why),
     };
-    match storm_over(rt, alloc, index, storm) {
+    match storm_over(rt, alloc, index, None, storm) {
         Ok((verdict, _engine)) => tell_verdict(storm, verdict, writer, faults),
         Err(_) => refuse(writer, faults, Refusal::Memory),
     }

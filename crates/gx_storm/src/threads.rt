@@ -9,6 +9,7 @@ ghost use Rattle.gx_storm.specs.Verdicts.{EndsStorm};
 use crate::draws::Draws;
 use crate::refusals::{lesser, told_reply};
 use crate::{Handed, Verdict, judge};
+use gx_disk::SyncAhead;
 use gx_events::Events;
 use gx_geom::{Box2, Shape};
 use gx_shared::{Book, NoBetween, Run, Session, Shared, flusher};
@@ -32,14 +33,14 @@ pub struct Storm {
 /// A session at work, with what it was handed.
 #[derive(Drop)]
 struct Worker<R: Ledger> {
-    session: Session<R>,
+    session: Session<Box2, R>,
     handed: Handed<Box2>,
     draws: Draws,
 }
 
 impl<R: Ledger> Worker<R> {
     /// A session that was handed nothing, with room for so many replies.
-    fn new(alloc: Global, session: Session<R>, storm: &Storm) -> Result<Self, AllocError> {
+    fn new(alloc: Global, session: Session<Box2, R>, storm: &Storm) -> Result<Self, AllocError> {
         let seed = u64::from(storm.seed) + u64::from(session.number());
         Ok(Worker {
             session,
@@ -93,7 +94,7 @@ impl<R: Ledger> Worker<R> {
 /// The first sessions of all, made ready to work.
 fn workers<R: Run<Box2>>(
     alloc: Global,
-    sessions: &mut Vec<Session<R>>,
+    sessions: &mut Vec<Session<Box2, R>>,
     storm: &Storm,
 ) -> Result<Vec<Worker<R>>, AllocError>
     requires { storm.now.sessions ≤ vec_len sessions.old }
@@ -109,7 +110,7 @@ fn workers<R: Run<Box2>>(
 /// All workers' sessions, back among the others; what they were handed.
 fn all_back<R: Run<Box2>>(
     alloc: Global,
-    sessions: &mut Vec<Session<R>>,
+    sessions: &mut Vec<Session<Box2, R>>,
     workers: Vec<Result<Worker<R>, AllocError>>,
 ) -> Result<Vec<Handed<Box2>>, AllocError>
     ensures { IfOk result (λ all. vec_len all ≡ vec_len workers) }
@@ -142,7 +143,8 @@ fn all_work<E: Events<Box2> + Send, R: Run<Box2> + Send + Sync, W: Threads + Wai
 }
 
 /// Sessions in threads over an engine, which draw their calls, beside a flusher in a thread of its own, which runs as
-/// many rounds as there are calls. Gives the book that was closed, and what each session was handed, from number 1 on.
+/// many rounds as there are calls. Over a file `ahead` may be a handle of it for early syncs. Gives the book that was
+/// closed, and what each session was handed, from number 1 on.
 pub fn run_storm<
     E: Events<Box2> + Drop + Send,
     R: Run<Box2> + Send + Sync,
@@ -152,6 +154,7 @@ pub fn run_storm<
     alloc: Global,
     blank: Blank,
     engine: E,
+    ahead: Option<SyncAhead>,
     storm: &Storm,
 ) -> Result<(Book<Box2, E, R>, Vec<Handed<Box2>>), AllocError>
     requires name { blank.name ≡ R.name }
@@ -163,6 +166,7 @@ pub fn run_storm<
     let Ok((shared, mut sessions)) = Shared::<Box2, E, R>::new(alloc, blank, engine) else {
         return Err(AllocError);
     };
+    let shared = shared.with_sync_ahead(ahead);
     let workers = workers(alloc, &mut sessions, storm)?;
     let rounds = u64::from(storm.sessions) * u64::from(storm.calls);
     let (done, ()) = join(
@@ -180,6 +184,7 @@ fn judged<E: Events<Box2> + Drop + Send, R: Run<Box2> + Send + Sync, W: Threads 
     alloc: Global,
     blank: Blank,
     engine: E,
+    ahead: Option<SyncAhead>,
     storm: &Storm,
 ) -> Result<(Verdict, E), AllocError>
     requires name { blank.name ≡ R.name }
@@ -189,20 +194,22 @@ fn judged<E: Events<Box2> + Drop + Send, R: Run<Box2> + Send + Sync, W: Threads 
     ensures { IfOk result (λ over.
         EndsStorm (keys_of ⟦<Box2 as Shape>⟧) E.Events R.starts storm.now over.0 over.1) }
 {
-    let (book, all) = run_storm::<E, R, W>(rt, alloc, blank, engine, storm)?;
+    let (book, all) = run_storm::<E, R, W>(rt, alloc, blank, engine, ahead, storm)?;
     book.stands();
     let verdict = judge(alloc, &book, storm.calls, all.as_slice());
     Ok((verdict, book.into_engine()))
 }
 
 /// A storm over an engine in which no call is open: what is said of it, and the engine as the storm left it. The plain
-/// index that replays it begins with nothing committed, so with an engine that has commits it differs.
+/// index that replays it begins with nothing committed, so with an engine that has commits it differs. Over a file
+/// `ahead` may be a handle of it for early syncs.
 ///
 /// Refused where memory lacks for the sessions, the record or a reply.
 pub fn storm_over<E: Events<Box2> + Drop + Send, W: Threads + Wait + Sync>(
     rt: &W,
     alloc: Global,
     engine: E,
+    ahead: Option<SyncAhead>,
     storm: &Storm,
 ) -> Result<(Verdict, E), AllocError>
     requires starts { E.granted → MayBeShared E.sees (E.sees engine) engine }
@@ -210,5 +217,5 @@ pub fn storm_over<E: Events<Box2> + Drop + Send, W: Threads + Wait + Sync>(
     ensures { IfOk result (λ over.
         EndsStorm (keys_of ⟦<Box2 as Shape>⟧) E.Events (E.sees engine) storm.now over.0 over.1) }
 {
-    judged::<E, Brand, W>(rt, alloc, Blank::new(8), engine, storm)
+    judged::<E, Brand, W>(rt, alloc, Blank::new(8), engine, ahead, storm)
 }

@@ -6,6 +6,7 @@ ghost use Rattle.gx_shared.specs.Books.{MayBeShared};
 use crate::share::workers;
 use crate::trouble::Trouble;
 use crate::work::{Kind, Worker};
+use gx_disk::SyncAhead;
 use gx_events::Events;
 use gx_geom::Box2;
 use gx_machine::Call;
@@ -34,7 +35,7 @@ const PAUSE: u64 = 1;
 /// What a thread did.
 #[derive(Drop)]
 struct Done<R: Ledger> {
-    session: Session<R>,
+    session: Session<Box2, R>,
     /// How many transactions it committed.
     commits: u64,
     /// The nanoseconds that each of its reads took.
@@ -138,7 +139,7 @@ struct Sums {
 /// What all threads did; their sessions go back among the others.
 fn summed<R: Run<Box2>>(
     alloc: Global,
-    sessions: &mut Vec<Session<R>>,
+    sessions: &mut Vec<Session<Box2, R>>,
     all: Vec<Result<Done<R>, Trouble>>,
 ) -> Result<Sums, Trouble> {
     let mut sums = Sums {
@@ -192,14 +193,23 @@ fn run<
     E: Events<Box2> + Drop + Send,
     R: Run<Box2> + Send + Sync,
     W: Threads + Wait + Clock + Sync + Print,
->(rt: &W, alloc: Global, blank: Blank, engine: E, threads: u8, plan: Plan) -> Result<E, Trouble>
+>(
+    rt: &W,
+    blank: Blank,
+    engine: E,
+    ahead: Option<SyncAhead>,
+    threads: u8,
+    plan: Plan,
+) -> Result<E, Trouble>
     requires name { blank.name ≡ R.name }
     requires parts { (blank.parts ≡ R.parts) × (R.parts ≡ SESSIONS) }
     requires starts { E.granted → MayBeShared E.sees R.starts engine }
 {
+    let alloc = plan.alloc;
     let Ok((shared, mut sessions)) = Shared::<Box2, E, R>::new(alloc, blank, engine) else {
         return Err(Trouble::Memory);
     };
+    let shared = shared.with_sync_ahead(ahead);
     let workers = workers(alloc, &mut sessions, threads)?;
     let left = AtomicU64::new(match plan.what {
         Beside::Paced => 1,
@@ -222,6 +232,7 @@ pub(crate) fn work_beside<E: Events<Box2> + Drop + Send, W: Threads + Wait + Clo
     rt: &W,
     alloc: Global,
     engine: E,
+    ahead: Option<SyncAhead>,
     threads: u8,
     each: u16,
     what: Beside,
@@ -229,5 +240,5 @@ pub(crate) fn work_beside<E: Events<Box2> + Drop + Send, W: Threads + Wait + Clo
     requires { E.granted → MayBeShared E.sees (E.sees engine) engine }
 {
     let plan = Plan { alloc, what, each };
-    run::<E, Brand, W>(rt, alloc, Blank::new(8), engine, threads, plan)
+    run::<E, Brand, W>(rt, Blank::new(8), engine, ahead, threads, plan)
 }

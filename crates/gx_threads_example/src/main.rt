@@ -15,8 +15,8 @@
 //! behind `reads` it commits without pause, while each of the others reads so often in one transaction. What they did
 //! is printed, with the time that it took.
 //!
-//! The program prints what the record says of each session, how many calls were finished in all, how many commits there
-//! are, and how many entries the index has once it is opened again: the same in whatever order the threads came.
+//! The program prints what the record says of each session, how many calls were finished in all, how many commits were
+//! acknowledged, and how many entries the index has once it is opened again: the same in whatever order threads came.
 #![tactic(auto)]
 
 mod beside;
@@ -27,7 +27,7 @@ mod trouble;
 mod work;
 
 use beside::{Beside, work_beside};
-use gx_disk::{FileDisk, MemDisk, SectorDisk};
+use gx_disk::{DiskFault, FileDisk, RamDisk, SectorDisk, SyncAhead};
 use gx_format::sectors_for;
 use index::{count, make, open_index, settle};
 use share::share;
@@ -99,19 +99,32 @@ impl Job {
     }
 }
 
+/// A device of so many sectors in a file, and a handle to sync the file early.
+fn in_file<W: Files<File = File>>(
+    rt: &W,
+    alloc: Global,
+    file: &str,
+    sectors: u64,
+) -> Result<(FileDisk, SyncAhead), DiskFault> {
+    let mut disk = FileDisk::create(rt, file, sectors)?;
+    let ahead = disk.sync_ahead(rt, alloc, file)?;
+    Ok((disk, ahead))
+}
+
 /// Makes an index on a device, opens it, has the threads work on it, settles it, and opens it again.
 fn serve<D: SectorDisk + Drop + Send, W: Threads + Wait + Clock + Sync + Print>(
     rt: &W,
     alloc: Global,
     disk: D,
+    ahead: Option<SyncAhead>,
     wanted: &Wanted<'_>,
 ) -> Result<(), Trouble> {
     let disk = make(alloc, disk, PAGES, MOST)?;
     let engine = open_index(alloc, disk)?;
     let (threads, each) = (wanted.threads, wanted.transactions);
     let engine = match wanted.job {
-        Job::Alike(kind) => share(rt, alloc, engine, threads, each, kind)?,
-        Job::Beside(what) => work_beside(rt, alloc, engine, threads, each, what)?,
+        Job::Alike(kind) => share(rt, alloc, engine, ahead, threads, each, kind)?,
+        Job::Beside(what) => work_beside(rt, alloc, engine, ahead, threads, each, what)?,
     };
     let disk = settle(engine)?;
     let entries = count(alloc, disk)?;
@@ -129,12 +142,12 @@ fn run_storm<W: Threads + Wait + Sync + Print + Files<File = File>>(
     let sectors = sectors_for(PAGES);
     match file {
         Some(file) => {
-            let disk = FileDisk::create(rt, file, sectors)?;
-            storm(rt, alloc, disk, PAGES, &wanted)
+            let (disk, ahead) = in_file(rt, alloc, file, sectors)?;
+            storm(rt, alloc, disk, Some(ahead), PAGES, &wanted)
         }
         None => {
-            let disk = MemDisk::new(alloc, sectors as usize)?;
-            storm(rt, alloc, disk, PAGES, &wanted)
+            let disk = RamDisk::new(alloc, sectors as usize)?;
+            storm(rt, alloc, disk, None, PAGES, &wanted)
         }
     }
 }
@@ -151,8 +164,14 @@ fn run_line<W: Threads + Wait + Clock + Sync + Print + Files<File = File>>(
     let wanted = read_line(line)?;
     let sectors = sectors_for(PAGES);
     match wanted.file {
-        Some(file) => serve(rt, alloc, FileDisk::create(rt, file, sectors)?, &wanted),
-        None => serve(rt, alloc, MemDisk::new(alloc, sectors as usize)?, &wanted),
+        Some(file) => {
+            let (disk, ahead) = in_file(rt, alloc, file, sectors)?;
+            serve(rt, alloc, disk, Some(ahead), &wanted)
+        }
+        None => {
+            let disk = RamDisk::new(alloc, sectors as usize)?;
+            serve(rt, alloc, disk, None, &wanted)
+        }
     }
 }
 

@@ -5,8 +5,9 @@ ghost use Rattle.gx_shared.specs.Books.{MayBeShared};
 
 use crate::trouble::Trouble;
 use crate::work::{Kind, Worker};
+use gx_disk::SyncAhead;
 use gx_events::Events;
-use gx_geom::Box2;
+use gx_geom::{Box2, Refusal};
 use gx_machine::{Item, Reply};
 use gx_shared::{Book, Run, Session, Shared};
 use std::alloc::{AllocError, Global};
@@ -18,7 +19,7 @@ use std::thread::{Threads, map_vec};
 /// So many workers, by the first sessions.
 pub(crate) fn workers<R: Run<Box2>>(
     alloc: Global,
-    sessions: &mut Vec<Session<R>>,
+    sessions: &mut Vec<Session<Box2, R>>,
     threads: u8,
 ) -> Result<Vec<Worker<R>>, Trouble> {
     let mut workers = Vec::new(alloc);
@@ -31,25 +32,31 @@ pub(crate) fn workers<R: Run<Box2>>(
     Ok(workers)
 }
 
-/// What a worker's session was handed: its number, and the replies.
+/// What a worker's session was handed: its number, the replies, and the first fault.
 #[derive(Drop)]
 struct Handed {
     session: u8,
     replies: Vec<Reply<Box2>>,
+    fault: Option<Refusal>,
 }
 
 /// All workers' sessions back among the others; what they were handed.
 fn all_back<R: Run<Box2>>(
     alloc: Global,
-    sessions: &mut Vec<Session<R>>,
+    sessions: &mut Vec<Session<Box2, R>>,
     workers: Vec<Result<Worker<R>, AllocError>>,
 ) -> Result<Vec<Handed>, Trouble> {
     let mut handed = Vec::new(alloc);
     for worker in workers {
-        let Worker { session, replies } = worker?;
+        let Worker {
+            session,
+            replies,
+            fault,
+        } = worker?;
         handed.push(Handed {
             session: session.number(),
             replies,
+            fault,
         })?;
         sessions.push(session)?;
     }
@@ -67,13 +74,20 @@ fn print_record<E: Events<Box2>, R: Run<Box2>, W: Print>(
         let calls = handed.replies.len();
         let agrees = book.agrees(session, handed.replies.as_slice());
         println!(rt; "session {session}: {calls} calls finished, the record agrees: {agrees}")?;
+        if let Some(why) = handed.fault {
+            println!(rt; "session {session} was refused: {}", why.text())?;
+        }
     }
     let calls = book
         .calls()
         .iter()
         .filter(|item| matches!(item, Item::Replied(..)))
         .count();
-    let commits = book.engine().commits();
+    let commits = book
+        .calls()
+        .iter()
+        .filter(|item| matches!(item, Item::Replied(_, Reply::Committed(_))))
+        .count();
     println!(rt; "{calls} calls finished in all, {commits} commits")?;
     Ok(())
 }
@@ -85,6 +99,7 @@ fn run<E: Events<Box2> + Drop + Send, R: Run<Box2> + Send + Sync, W: Threads + W
     alloc: Global,
     blank: Blank,
     engine: E,
+    ahead: Option<SyncAhead>,
     threads: u8,
     transactions: u16,
     kind: Kind,
@@ -96,6 +111,7 @@ fn run<E: Events<Box2> + Drop + Send, R: Run<Box2> + Send + Sync, W: Threads + W
     let Ok((shared, mut sessions)) = Shared::<Box2, E, R>::new(alloc, blank, engine) else {
         return Err(Trouble::Memory);
     };
+    let shared = shared.with_sync_ahead(ahead);
     let workers = workers(alloc, &mut sessions, threads)?;
     let done = map_vec(
         rt,
@@ -113,6 +129,7 @@ pub(crate) fn share<E: Events<Box2> + Drop + Send, W: Threads + Wait + Sync + Pr
     rt: &W,
     alloc: Global,
     engine: E,
+    ahead: Option<SyncAhead>,
     threads: u8,
     transactions: u16,
     kind: Kind,
@@ -124,6 +141,7 @@ pub(crate) fn share<E: Events<Box2> + Drop + Send, W: Threads + Wait + Sync + Pr
         alloc,
         Blank::new(8),
         engine,
+        ahead,
         threads,
         transactions,
         kind,

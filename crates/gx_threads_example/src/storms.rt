@@ -4,7 +4,7 @@ ghost use Rattle.gx_machine.specs.declared.limits.TheConstants.{SESSIONS};
 
 use crate::index::{count, make, open_index, settle};
 use crate::trouble::Trouble;
-use gx_disk::SectorDisk;
+use gx_disk::{SectorDisk, SyncAhead};
 use gx_storm::{Storm, Verdict, storm_over};
 use std::alloc::Global;
 use std::sync::Wait;
@@ -49,13 +49,14 @@ pub(crate) fn storm<D: SectorDisk + Drop + Send, W: Threads + Wait + Sync + Prin
     rt: &W,
     alloc: Global,
     disk: D,
+    ahead: Option<SyncAhead>,
     pages: u32,
     wanted: &Storm,
 ) -> Result<(), Trouble>
     requires { wanted.now.sessions ≤ SESSIONS }
 {
     let engine = open_index(alloc, make(alloc, disk, pages, MOST)?)?;
-    let (verdict, engine) = storm_over(rt, alloc, engine, wanted)?;
+    let (verdict, engine) = storm_over(rt, alloc, engine, ahead, wanted)?;
     match verdict {
         Verdict::Sound => println!(rt; "the plain index replays the storm")?,
         Verdict::Mismatch(place) => println!(rt; "the storm differs at {place}")?,

@@ -1,6 +1,6 @@
 //! What one thread does.
 use gx_events::Events;
-use gx_geom::Box2;
+use gx_geom::{Box2, Refusal};
 use gx_machine::{Call, Entry, Query, Reply};
 use gx_shared::{NoBetween, Run, Session, Shared};
 use std::alloc::{AllocError, Global};
@@ -35,8 +35,18 @@ impl Kind {
 /// record, and none here.
 #[derive(Drop)]
 pub(crate) struct Worker<R: Ledger> {
-    pub(crate) session: Session<R>,
+    pub(crate) session: Session<Box2, R>,
     pub(crate) replies: Vec<Reply<Box2>>,
+    /// The first fault by which a call was refused.
+    pub(crate) fault: Option<Refusal>,
+}
+
+/// The fault by which a call was refused, if it was.
+fn fault_of(reply: &Reply<Box2>) -> Option<Refusal> {
+    match reply {
+        Reply::Refused(why) if matches!(*why, Refusal::Device | Refusal::Failed) => Some(*why),
+        _ => None,
+    }
 }
 
 /// The box between two corners, which are in order.
@@ -54,10 +64,11 @@ fn scattered(turn: u16) -> i32 {
 
 impl<R: Ledger> Worker<R> {
     /// A session that was handed none.
-    pub(crate) fn new(alloc: Global, session: Session<R>) -> Self {
+    pub(crate) fn new(alloc: Global, session: Session<Box2, R>) -> Self {
         Worker {
             session,
             replies: Vec::new(alloc),
+            fault: None,
         }
     }
 
@@ -73,6 +84,7 @@ impl<R: Ledger> Worker<R> {
     {
         let finished = self.session.share();
         let reply = self.session.call(rt, shared, call, &NoBetween);
+        self.fault = self.fault.or(fault_of(&reply));
         if self.session.share() > finished {
             self.replies.push(reply)?;
         }

@@ -7,6 +7,7 @@ use crate::asserts::{got, holds};
 use crate::known::{FIRST_CALLS, begins_as_known};
 use crate::records::overlaps;
 use crate::watched::Watched;
+use gx_disk::SyncAhead;
 use gx_events::Events;
 use gx_geom::{Box2, Refusal};
 use gx_shared::{Book, Run};
@@ -102,12 +103,12 @@ pub(crate) fn stormed<
     E: Events<Box2> + Drop + Send,
     R: Run<Box2> + Send + Sync,
     W: Threads + Wait + Abort + Sync,
->(rt: &W, alloc: Global, blank: Blank, engine: E)
+>(rt: &W, alloc: Global, blank: Blank, engine: E, ahead: Option<SyncAhead>)
     requires name { blank.name ≡ R.name }
     requires parts { (blank.parts ≡ R.parts) × (R.parts ≡ SESSIONS) }
     requires starts { E.granted → MayBeShared E.sees R.starts engine }
 {
-    let run = run_storm::<Watched<E>, R, W>(rt, alloc, blank, Watched::new(engine), &STORM);
+    let run = run_storm::<Watched<E>, R, W>(rt, alloc, blank, Watched::new(engine), ahead, &STORM);
     let (book, mut all) = got(rt, run, "no memory for a storm");
     judged(rt, alloc, &book, all.as_mut_slice());
     holds(rt, overlaps(book.calls()) > 0, "no two calls overlap");
@@ -129,7 +130,7 @@ pub(crate) fn alone<
     requires parts { (blank.parts ≡ R.parts) × (R.parts ≡ SESSIONS) }
     requires starts { E.granted → MayBeShared E.sees R.starts engine }
 {
-    let run = run_storm::<E, R, W>(rt, alloc, blank, engine, &ALONE);
+    let run = run_storm::<E, R, W>(rt, alloc, blank, engine, None, &ALONE);
     let (book, _all) = got(rt, run, "no memory for a storm");
     begins_as_known(rt, book.calls());
 }

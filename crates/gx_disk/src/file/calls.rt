@@ -4,9 +4,11 @@ ghost use Rattle.gx_disk.specs.Device.{Counts};
 ghost use Rattle.gx_disk.specs.Files.{KeepsFault};
 ghost use Rattle.gx_disk.specs.Sectors.{IsSpan};
 
+use super::ahead::Marks;
 use super::opening::{SECTOR, file_fault};
 use crate::FileDisk;
 use crate::device::{DiskFault, SectorDisk};
+use crate::layout::PAGES_AT;
 use crate::tally::{Tally, counted};
 use std::fs::File;
 use std::os::unix::fs::FileExt;
@@ -28,13 +30,24 @@ fn noted(
     counted(faults, outcome)
 }
 
-// Settles what a file holds; of one that grew its size too.
-fn settle(file: &File, grown: bool) -> Result<(), DiskFault> {
+// Settles what a file holds; of one that grew its size too. It makes no call of the system where an early sync has
+// settled all writes already, and none where one failed, which refuses this sync too.
+fn settle(file: &File, grown: bool, ahead: Option<&Marks>) -> Result<(), DiskFault> {
+    if let Some(fault) = ahead.and_then(Marks::fault) {
+        return Err(fault);
+    }
+    if !grown && ahead.is_some_and(Marks::all_settled) {
+        return Ok(());
+    }
     file_fault(if grown {
         file.sync_all()
     } else {
         file.sync_data()
-    })
+    })?;
+    if let Some(marks) = ahead {
+        marks.settle_all();
+    }
+    Ok(())
 }
 
 impl SectorDisk for FileDisk {
@@ -85,6 +98,9 @@ impl SectorDisk for FileDisk {
         } else {
             Err(DiskFault::ReadOnly)
         };
+        if let Some(marks) = &self.ahead {
+            marks.wrote(first < PAGES_AT);
+        }
         noted(&mut self.fault, &mut self.faults, outcome)
     }
 
@@ -96,7 +112,7 @@ impl SectorDisk for FileDisk {
     {
         self.calls = self.calls.next();
         let outcome = if self.writable {
-            settle(&self.file, self.grown)
+            settle(&self.file, self.grown, self.ahead.as_deref())
         } else {
             Err(DiskFault::ReadOnly)
         };

@@ -3,13 +3,17 @@ ghost use Rattle.std.specs.Prelude.{◌≡◌, ◌*◌, ◌^◌, ◌<◌, ◌≤
 ghost use Rattle.gx_disk.specs.Files.{IsFaultOf, IsOpened};
 ghost use Rattle.gx_disk.specs.Streams.{IsNoStream};
 
+use super::ahead::{Marks, SyncAhead};
 use crate::FileDisk;
 use crate::device::{DiskFault, SECTOR_SIZE};
 use crate::tally::Tally;
+use std::alloc::Global;
 use std::fs::{File, Files, OpenOptions, TryLockError};
 use std::io::{self, ErrorKind};
 use std::os::fd::AsRawFd;
+use std::os::unix::fs::MetadataExt;
 use std::path::AsPath;
+use std::sync::Arc;
 
 /// How many bytes a sector has.
 pub(super) const SECTOR: u64 = SECTOR_SIZE as u64;
@@ -80,6 +84,15 @@ fn size_of_file(file: &File) -> Result<u64, DiskFault> {
     }
 }
 
+// Whether two openings are of one file.
+fn is_same_file(one: &File, other: &File) -> Result<bool, DiskFault> {
+    match (one.metadata(), other.metadata()) {
+        (Ok(one), Ok(other)) => Ok(one.dev() == other.dev() && one.ino() == other.ino()),
+        (Err(error), _) => Err(fault_of(&error)),
+        (_, Err(error)) => Err(fault_of(&error)),
+    }
+}
+
 fn open_file<R: Files<File = File>, P: AsPath>(
     rt: &R,
     path: P,
@@ -123,6 +136,7 @@ impl FileDisk {
             sectors: size.max(wanted) / SECTOR,
             writable: true,
             grown: size < wanted,
+            ahead: None,
             fault: None,
             faults: Tally::zero(),
             calls: Tally::zero(),
@@ -149,6 +163,39 @@ impl FileDisk {
         FileDisk::open_there(rt, path, false)
     }
 
+    /// A handle for early syncs of the device's file, which is opened once more by its path, for reading alone and
+    /// without a lock. From now on the device makes no sync that the handle has made for it, and none once one of the
+    /// handle's failed.
+    ///
+    /// Refused where the file can't be opened, where another one lies at the path, and where memory lacks.
+    pub fn sync_ahead<R: Files<File = File>, P: AsPath>(
+        &mut self,
+        rt: &R,
+        alloc: Global,
+        path: P,
+    ) -> Result<SyncAhead, DiskFault>
+        ensures access { self.new.writable ≡ self.old.writable }
+        ensures sectors { self.new.sectors ≡ self.old.sectors }
+        ensures counts { (self.new.faults ≡ self.old.faults) × (self.new.calls ≡ self.old.calls) }
+        ensures fault { self.new.fault ≡ self.old.fault }
+    {
+        let file = match OpenOptions::new().read(true).open(rt, path) {
+            Ok(file) => beside_streams(file)?,
+            Err(error) => return Err(fault_of(&error)),
+        };
+        if !is_same_file(&file, &self.file)? {
+            return Err(DiskFault::File(ErrorKind::NotFound));
+        }
+        let Ok(marks) = Arc::new(alloc, Marks::new()) else {
+            return Err(DiskFault::Memory);
+        };
+        let Some(theirs) = Arc::try_clone(&marks).ok() else {
+            return Err(DiskFault::Memory);
+        };
+        self.ahead = Some(marks);
+        Ok(SyncAhead::new(file, theirs))
+    }
+
     fn open_there<R: Files<File = File>, P: AsPath>(
         rt: &R,
         path: P,
@@ -163,6 +210,7 @@ impl FileDisk {
             sectors: size / SECTOR,
             writable,
             grown: false,
+            ahead: None,
             fault: None,
             faults: Tally::zero(),
             calls: Tally::zero(),
