@@ -51,8 +51,8 @@ def of_crate(name):
 
 
 def everywhere():
-    found = words_of([path for path in (TOP / "bench").iterdir() if path.is_file()])
-    found |= words_of([path for path in (TOP / "tools").iterdir() if path.is_file()] + [TOP / "gist"])
+    found = words_of([path for name in ("bench", "trials", "prices", "tools") for path in (TOP / name).iterdir() if path.is_file()])
+    found |= words_of([TOP / "gist"])
     found |= words_of(files(TOP / "python", {".py"}) + files(TOP / "c", {".c", ".h"}))
     for name in CRATES:
         found |= of_crate(name)
@@ -74,7 +74,7 @@ def is_path(text):
 def has_path(text):
     """Whether there is such a file; a part in capitals stands for any name."""
     text = "/".join("*" if re.fullmatch(r"[A-Z]+", part) else part for part in text.strip("/").split("/"))
-    folders = ("", "docs/", "bench/", "tools/", ".ci/", "crates/", "crates/*/", "crates/*/src/", "crates/*/specs/", "crates/*/proofs/")
+    folders = ("", "docs/", "bench/", "trials/", "prices/", "tools/", ".ci/", "crates/", "crates/*/", "crates/*/src/", "crates/*/specs/", "crates/*/proofs/")
     return any(next(TOP.glob(folder + text + end), None) for folder in folders for end in ("", ".rt", ".antt"))
 
 

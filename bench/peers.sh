@@ -1,14 +1,16 @@
 #!/usr/bin/env bash
 # Compares gist, asked by its client for C, with other indexes of boxes: SQLite's R*Tree, PostgreSQL's GiST, libspatialindex's R-tree in a
-# file, and Boost's in memory. All do the same seeded workload (peers/workload.c), and what they find is compared. Prints one table: gist's
-# rates, and their ratio to each peer's; of bytes, gist's by the peer's.
+# file, and Boost's in memory. All do the same seeded workload (peers/workload.c), and what they find is compared. Prints two tables. One has
+# gist's rates, and their ratio to each peer's; of bytes, gist's by the peer's. The other has the microseconds of processor that each thing
+# took, of all processes that an index has, and how many times as many each peer needs.
 #
 #   bench/peers.sh [ENTRIES SEARCHES SINGLES [PROGRAM]]
 #
 # The counts are 100000, 100000 and 2000 where they aren't given. Without PROGRAM the one that stands here is proved and built. A peer that
 # isn't installed is left out, and that is said: Debian's packages are libsqlite3-dev, postgresql with libpq-dev, libspatialindex-dev and
 # libboost-dev. ROUNDS (3) is how often all is done, in turn; ratios are medians of the rounds' own. FOLDER (/tmp) is where the files lie.
-# With SLOW=1 each sync of a file takes a millisecond more.
+# With SLOW=1 each sync of a file takes a millisecond more. Where GROWTH names other numbers of entries (GROWTH='10000 1000000'), all is done
+# over these too, and a third table has each. CHART names a file that gets the first table as bars (chart.py).
 set -euo pipefail
 top="$(cd "$(dirname "${BASH_SOURCE[0]}")/.." && pwd)"
 entries="${1:-100000}"
@@ -72,62 +74,86 @@ fi
 source "$from/server.sh"
 [ ! -x "$work/postgres" ] || start_postgres "$work" "$binaries" "$slow"
 
-# ROUND PEER: a run of its own, on new files.
+# (these are several words)
+# shellcheck disable=SC2086
+sizes="$(printf '%s\n' "$entries" ${GROWTH-} | sort -nu)"
+
+# ROUND PEER ENTRIES: a run of its own, on new files.
 run() {
     local one="$work/index" two="$work/second"
     rm -f "$one" "$one"[.-]* "$two" "$two"[.-]*
     if [ "$2" = postgres ]; then
         one="$work/server"
         two="$one"
-        PEER_PID="$server" "$work/$2" "$one" "$two" "$entries" "$searches" "$singles"
+        PEER_PID="$server" "$work/$2" "$one" "$two" "$3" "$searches" "$singles"
     else
-        LD_PRELOAD="$slow" "$work/$2" "$one" "$two" "$entries" "$searches" "$singles"
-    fi > "$work/told.$2.$1"
+        LD_PRELOAD="$slow" "$work/$2" "$one" "$two" "$3" "$searches" "$singles"
+    fi > "$work/told.$2.$3.$1"
 }
 for round in $(seq "${ROUNDS:-3}"); do
-    for peer in "${peers[@]}"; do
-        run "$round" "$peer"
+    for size in $sizes; do
+        for peer in "${peers[@]}"; do
+            run "$round" "$peer" "$size"
+        done
     done
 done
 
-python3 - "$work" "${ROUNDS:-3}" "$entries" "${peers[@]}" <<'P'
+python3 - "$work" "${ROUNDS:-3}" "$entries" "$sizes" "${peers[@]}" <<'P' | tee "$work/tables"
 import statistics, sys
 
-work, rounds, entries, peers = sys.argv[1], int(sys.argv[2]), int(sys.argv[3]), sys.argv[4:]
-TITLES = {"gist": "gist, a second", "sqlite": "SQLite", "postgres": "PostgreSQL", "spatialindex": "libspatialindex", "boost": "Boost"}
+work, rounds, entries, sizes, peers = sys.argv[1], int(sys.argv[2]), int(sys.argv[3]), [*map(int, sys.argv[4].split())], sys.argv[5:]
+TITLES = {"sqlite": "SQLite", "postgres": "PostgreSQL", "spatialindex": "libspatialindex", "boost": "Boost"}
+RATE, PROCESSOR = 0, 1
 
-def read(peer, number):
+def read(peer, size, number):
     """What a run said: figures by work, and what its searches found."""
-    with open(f"{work}/told.{peer}.{number}") as lines:
+    with open(f"{work}/told.{peer}.{size}.{number}") as lines:
         told = [line.rstrip("\n").split("\t") for line in lines]
-    return ({work: float(figure) for work, figure in told if not work.startswith("= ")},
-            {work: found for work, found in told if work.startswith("= ")})
+    return ({work: [*map(float, figures)] for work, *figures in told if not work.startswith("= ")},
+            {work: found for work, *found in told if work.startswith("= ")})
 
-told = {peer: [read(peer, number + 1) for number in range(rounds)] for peer in peers}
-wanted = told["gist"][0][1]
-for peer in peers:
-    for _, found in told[peer]:
+told = {(peer, size): [read(peer, size, number + 1) for number in range(rounds)] for size in sizes for peer in peers}
+for (peer, size), runs in told.items():
+    wanted = told["gist", size][0][1]
+    for _, found in runs:
         if found != wanted:
-            sys.exit(f"{peer} found something else: {found}, and gist {wanted}")
+            sys.exit(f"{peer} found something else among {size}: {found}, and gist {wanted}")
 
-def cell(peer, work, is_size):
-    figures = [[it[0].get(work) for it in told[one]] for one in ("gist", peer)]
-    if None in figures[1] or 0 in figures[1]:
+def cell(peer, size, work, kind):
+    """gist's own figure; or its ratio to a peer's, of processor time the peer's to gist's."""
+    figures = [[it[0].get(work) for it in told[one, size]] for one in ("gist", peer)]
+    if None in figures[1] or any(it[0] == 0 for it in figures[1]):
         return "-"
+    figures = [[it[kind] for it in one] for one in figures]
     if peer == "gist":
         figure = statistics.median(figures[1])
-        return f"{figure / 1e6:.1f} MB" if is_size else f"{figure:,.0f}"
+        return f"{figure:.1f}" if kind == PROCESSOR else f"{figure / 1e6:.1f} MB" if work.startswith("bytes") else f"{figure:,.0f}"
+    if kind == PROCESSOR:
+        figures.reverse()
     return f"{statistics.median(a / b for a, b in zip(*figures)):.2f}"
 
-WORK = {"searches, a tenth of all": f"searches, {entries // 10:,} hits", "single commits of four writers": "by four writers"}
-ROWS = ("load, drawn order", "load, local order", "searches, ten hits", "searches, a tenth of all", "deletes", "single commits",
-        "single commits of four writers", "bytes on disk", "bytes of memory")
 def tell(*cells):
     print(f"|{'|'.join(cells)}|")
 
-tell("Work", *(TITLES[it] for it in peers))
-tell(*["---"] * (1 + len(peers)))
-for work in ROWS:
-    tell(WORK.get(work, work), *(cell(it, work, work.startswith("bytes")) for it in peers))
-print(f"\n{entries:,} entries; what {len(wanted)} series of searches found is the same in all {len(peers)}, in each of {rounds} rounds.")
+def table(own, rows, kind):
+    """Rows, each of a name, how many entries there are, and the work."""
+    tell("Work", own, *(TITLES[it] for it in peers[1:]))
+    tell(*["---"] * (1 + len(peers)))
+    for name, size, work in rows:
+        tell(name, *(cell(it, size, work, kind) for it in peers))
+    print()
+
+NAMES = {"searches, a tenth of all": f"searches, {entries // 10:,} hits", "single commits of four writers": "by four writers",
+         "single commits of four writers in turn": "by four in turn"}
+RATES = ("load, random order", "load, local order", "searches, ten hits", "searches, a tenth of all", "deletes", "single commits",
+         "single commits of four writers", "single commits of four writers in turn")
+BYTES = ("bytes on disk", "bytes of memory")
+table("gist, a second", [(NAMES.get(it, it), entries, it) for it in RATES + BYTES], RATE)
+table("gist, microseconds of processor", [(NAMES.get(it, it), entries, it) for it in RATES], PROCESSOR)
+if len(sizes) > 1:
+    grown = [(f"{it}; {size:,}", size, it) for it in RATES[:6] + BYTES for size in sizes]
+    table("gist, a second, as it grows", grown, RATE)
+print(f"{entries:,} entries; what {len(told['gist', entries][0][1])} series of searches found is the same in all {len(peers)}, "
+      f"in each of {rounds} rounds.")
 P
+[ -z "${CHART-}" ] || "$top/bench/chart.py" < "$work/tables" > "$CHART"

@@ -5,19 +5,19 @@
 # that of nine with no transaction, all in turn; and, where perf is there, what share of the time the lock is held.
 #
 # Then commits of one insert each in strips of their own, over the file, and of a search and an insert: how many a
-# second, with the syncs and bytes of each, beside SQLite's R*Tree by a connection a thread (write-ahead log, full sync)
-# and, with four threads, PostgreSQL's GiST; medians of ROUNDS (5), all in turn. A peer that isn't installed is left
-# out; Debian's packages are libsqlite3-dev, and postgresql with libpq-dev.
+# second, with the syncs and bytes of each, beside SQLite's R*Tree (write-ahead log, full sync) and PostgreSQL's GiST with
+# a connection a thread; medians of ROUNDS (5), all in turn. A peer that isn't installed is left out; Debian's packages
+# are libsqlite3-dev, and postgresql with libpq-dev.
 #
-# Then one thread's commits alone, and beside a thread that commits one a millisecond; and reads by one and three threads
-# beside one that commits without pause: how many of both a second, and from how many microseconds on the slowest
-# hundredth of the reads is; medians of ROUNDS.
+# Then, beside the same: one thread's commits alone, and beside a thread that commits one a millisecond, with how much the
+# first loses by it; and reads by one and three threads beside one that commits without pause, with how much that one
+# loses: how many of both a second, and from how many microseconds on the slowest hundredth of the reads is.
 #
 #   bench/threads.sh [TRANSACTIONS [FOLDER [PROGRAM]]]
 #
 # TRANSACTIONS is how many there are in memory, up to 5,000: a record has room for no more. FOLDER is on the file system
 # to be measured, and without PROGRAM the one that stands here is proved and built. ONLY=commits leaves out the first
-# part. With SLOW=1 each sync of a file takes a millisecond more, PostgreSQL's too.
+# part. With SLOW=1 each sync of a file takes a millisecond more, SQLite's and PostgreSQL's too.
 set -euo pipefail
 top="$(cd "$(dirname "${BASH_SOURCE[0]}")/.." && pwd)"
 work="$(mktemp -d ${2:+-p "$2"})"
@@ -143,23 +143,24 @@ def shares(transactions):
 def ours(kind, threads, each):
     """Seconds of a run over the file in which each thread commits so many transactions, and the syncs and bytes that it made."""
     began = time.perf_counter()
-    line = f"{kind} {threads} {each} {file}\n"
-    done = subprocess.run([program], input=line, text=True, check=True, capture_output=True, env=counting)
+    done = told_by("gist", kind, threads, each, counting)
     return time.perf_counter() - began, *map(int, done.stderr.split()[-2:])
 
+def told_by(name, kind, threads, each, env):
+    """A run by a program that makes its index anew."""
+    words, where = f"{kind} {threads} {each}", {"sqlite": "other.db", "postgres": os.environ["SERVER"]}.get(name, file)
+    command = [program] if name == "gist" else [f"./{name}", *words.split(), where]
+    return subprocess.run(command, input=f"{words} {where}\n", text=True, check=True, capture_output=True, env=env)
+
 def peer(name, kind, threads, each):
-    """The same by another index: its seconds are those of its threads alone."""
-    where = {"sqlite": "other.db", "postgres": os.environ.get("SERVER", "")}[name]
-    words = [f"./{name}", where, str(threads), str(each)] + ["search"] * (kind == "pair")
-    done = subprocess.run(words, text=True, check=True, capture_output=True, env=counting)
+    """The same as `ours` by another index: its seconds are those of its threads alone."""
+    done = told_by(name, kind, threads, each, counting)
     return float(done.stdout), *map(int, done.stderr.split()[-2:])
 
 def commits(transactions):
-    """Commits of one insert each in strips of their own, and of a search and an insert, by us and by the peers that are there, all in turn."""
-    peers = [name for name in ("sqlite", "postgres") if os.path.exists(name)]
+    """Commits of one insert each in strips of their own, and of a search and an insert, by all indexes in turn."""
     for kind in ("single", "pair"):
-        work = [(threads, name) for threads in (1, 2, 4, 8) for name in ["gist"] + peers
-                if name != "postgres" or threads == 4]
+        work = [(threads, name) for threads in (1, 2, 4, 8) for name in indexes]
         told = {it: [] for it in work}
         for _ in range(rounds):
             for threads, name in work:
@@ -181,28 +182,36 @@ def commits(transactions):
                 told_of += f", gist {ratio:.2f} times as many"
             print(f"{kind}, threads {threads}, {name}: {told_of}", flush=True)
 
-def beside(kind, threads, each):
-    """What the first thread, the others and the readers do a second, and the nanoseconds from which on the slowest hundredth of the reads are."""
-    done = subprocess.run([program], input=f"{kind} {threads} {each} {file}\n", text=True, check=True, capture_output=True, env=slowed)
+def beside(name, kind, threads, each):
+    """What the first thread, the others and the readers do a second, and the microseconds from which on the slowest hundredth of the reads are."""
+    # (SQLite's reads are over too soon to be counted beside commits)
+    each *= 20 if kind == "reads" and name == "sqlite" else 1
+    done = told_by(name, kind, threads, each, slowed)
     commits, others, reads, micros, slowest = map(int, re.findall(r"\d+", done.stdout)[:5])
-    return [1e6 * it / micros for it in (commits, others, reads)] + [slowest]
+    if name == "gist" and 7 * (commits + others) + 2 * reads > 65500:
+        sys.exit(f"the record is full: {done.stdout}")
+    return [1e6 * it / micros for it in (commits, others, reads)] + [slowest / 1000]
 
 def mixed():
-    """Commits alone and beside a thread that pauses for a millisecond behind each of its own, and reads beside commits without pause, in turn."""
+    """Commits alone and beside a thread that pauses for a millisecond behind each of its own, and reads beside commits without pause,
+    by all indexes in turn."""
     each = 400 if slow else 4000
-    work = [("paced", 1, each), ("paced", 2, each), ("reads", 2, 8000), ("reads", 4, 6000)]
-    told = {it: [] for it in work}
+    work = [("paced", 1, each), ("paced", 2, each), ("reads", 2, 20000), ("reads", 4, 7000)]
+    told = {(it, name): [] for it in work for name in indexes}
     for _ in range(rounds):
-        for it in work:
-            told[it].append(beside(*it))
-    for kind, threads, _ in work:
-        commits, others, reads, slowest = (statistics.median(it) for it in zip(*told[kind, threads, _]))
+        for it, name in told:
+            told[it, name].append(beside(name, *it))
+    for (kind, threads, each), name in told:
+        commits, others, reads, slowest = map(statistics.median, zip(*told[(kind, threads, each), name]))
+        lost = 1 - commits / statistics.median(it[0] for it in told[work[0], name])
+        told_of = f"{name}: {commits:.0f} commits a second" + (f", {lost:.0%} fewer than alone" if threads > 1 else "")
         if kind == "paced":
-            print(f"paced, {threads - 1} beside: {commits:.0f} commits a second, {others:.0f} beside", flush=True)
+            print(f"one commits, {threads - 1} beside at a pause, {told_of}, {others:.0f} beside", flush=True)
         else:
-            print(f"reads by {threads - 1}: {reads:.0f} a second, the slowest hundredth from {slowest / 1000:.0f} microseconds on, "
-                  f"beside {commits:.0f} commits a second", flush=True)
+            print(f"one commits, {threads - 1} read, {told_of}; {reads:.0f} reads a second, the slowest hundredth from "
+                  f"{slowest:.0f} microseconds on", flush=True)
 
+indexes = ["gist"] + [name for name in ("sqlite", "postgres") if os.path.exists(name)]
 alone = os.environ.get("ONLY") == "commits"
 if not alone:
     table("memory", total, "")

@@ -57,7 +57,7 @@ enum gist_status {
     GIST_PRESENT = 3,        /* the transaction sees the entry that was to be inserted */
     GIST_ABSENT = 4,         /* the transaction doesn't see the entry that was to be deleted */
     GIST_BUSY = 5,    /* another session (gist_busy) wrote or searched what this call is about; the index never waits */
-    GIST_BAD_BOX = 6, /* x2 < x1 or y2 < y1 */
+    GIST_BAD_BOX = 6,         /* x2 < x1 or y2 < y1, or in space z2 < z1 */
     GIST_PAGES_FULL = 7,      /* a node has to be split and the index has no page left */
     GIST_CLAIMS_FULL = 8,     /* open transactions have written 512 entries in all */
     GIST_PREDICATES_FULL = 9, /* the transaction has made 16 different searches */
@@ -69,7 +69,8 @@ enum gist_status {
     GIST_BAD_SESSION = 15,    /* the session isn't 1 to 8 */
     GIST_CALL_OPEN = 16,      /* never so here */
     GIST_TOO_SMALL = 17,      /* the file is shorter than its index, or than any */
-    GIST_BAD_PARAMETER = 18,  /* the index is of another kind of keys, or its numbers are wrong */
+    GIST_BAD_PARAMETER = 18,  /* the index is of other keys than the call, or of none that has boxes; or its numbers are
+                                 wrong */
     GIST_NO_CALL = 19,        /* never so here */
     GIST_HISTORY_FULL = 20,   /* the numbers of commits or transactions are used up */
     /* The client's own. After GIST_ENDED and GIST_PROTOCOL all calls of the index but gist_close answer GIST_ENDED. */
@@ -91,16 +92,27 @@ typedef struct gist_box {
     int32_t x1, y1, x2, y2;
 } gist_box;
 
+/* A box of space with its faces: x1 <= x2, y1 <= y2 and z1 <= z2. */
+typedef struct gist_box3 {
+    int32_t x1, y1, z1, x2, y2, z2;
+} gist_box3;
+
 /* A row with its box. */
 typedef struct gist_entry {
     uint64_t row;
     gist_box box;
 } gist_entry;
 
+typedef struct gist_entry3 {
+    uint64_t row;
+    gist_box3 box;
+} gist_entry3;
+
 enum gist_query {
     GIST_OVERLAP, /* the entries whose box shares a point with this one */
     GIST_WITHIN,  /* those whose box lies in this one */
     GIST_EQUAL,   /* those with this box */
+    GIST_COVERS,  /* those whose box covers this one */
 };
 
 /* An open index. */
@@ -117,7 +129,7 @@ typedef struct gist_counts {
 } gist_counts;
 
 /* And what it was formatted with: how many pages it may use, how many entries a node has at most, and the class of its
-   keys (1: boxes). It is full where counts.used is pages and a node has to be split. */
+   keys (1: boxes of the plane, 3: boxes of space). It is full where counts.used is pages and a node has to be split. */
 typedef struct gist_stats {
     gist_counts counts;
     uint32_t pages, fanout, key_class;
@@ -128,18 +140,18 @@ typedef struct gist_stats {
    with which it ends, or GIST_ENDED where it ends badly without one: `end`, where it isn't NULL, says how (status 2:
    a number out of its range; 3: a launcher that isn't built). */
 
-/* For gist_format: what the file holds is lost. */
-enum { GIST_OVERWRITE = 1 };
+/* For gist_format: what the file holds is lost; the boxes are those of space, and not of the plane. */
+enum { GIST_OVERWRITE = 1, GIST_SPACE = 2 };
 
 /* Lays a new index down in the file `path`, which is made where it isn't there, for `pages` pages of 4,096 bytes (8
-   to 65536) of `fanout` entries at most (4 to 100). `flags` is 0 or GIST_OVERWRITE; with 0 the file has to be new or
-   empty, else it is left alone, and the answer is GIST_SYSTEM with errno EEXIST. GIST_DEVICE: the file can't be made
-   or written, or is in use. */
+   to 65536) of `fanout` entries at most (4 to 100). `flags` is 0, or GIST_OVERWRITE, GIST_SPACE or both, put together
+   by `|`. Without GIST_OVERWRITE the file has to be new or empty, else it is left alone, and the answer is GIST_SYSTEM
+   with errno EEXIST. GIST_DEVICE: the file can't be made or written, or is in use. */
 int gist_format(const char *program, const char *path, unsigned pages, unsigned fanout, unsigned flags, gist_end *end);
 
 /* Opens the index in the file `path`, with `frames` pages of 4,096 bytes in memory (16 to 4096; 0: as many as it has
-   pages, at most 4096); what a crash cut off is undone first. With GIST_OK *index is the open index, which gist_close has to close; with any other status it is
-   NULL, and nothing is left open. GIST_DEVICE: the file isn't there, is in use or can't be read or written;
+   pages, at most 4096); what a crash cut off is undone first. With GIST_OK *index is the open index, which gist_close
+   has to close; with any other status it is NULL, and nothing is left open. GIST_DEVICE: the file isn't there, is in use or can't be read or written;
    GIST_NOT_FORMATTED, GIST_TOO_SMALL, GIST_BAD_PARAMETER, GIST_DAMAGED: what it holds; GIST_MEMORY. */
 int gist_open(gist_index **index, const char *program, const char *path, unsigned frames, gist_end *end);
 
@@ -159,6 +171,9 @@ int gist_stat(const char *program, const char *path, gist_stats *stats, gist_end
    that was forked off it frees alone, and answers GIST_OK. */
 int gist_close(gist_index *index, gist_end *end);
 
+/* The dimensions of its boxes, which the file says: 2, in the plane, or 3, in space; 0 of NULL. */
+unsigned gist_dimensions(const gist_index *index);
+
 /* Each call from here on is made in a session, 1 to 8, and where it isn't answered with GIST_OK nothing has changed in
    its transaction. Beside what is said with it, it may answer GIST_BAD_SESSION, GIST_MEMORY, GIST_DEVICE, GIST_FAILED,
    GIST_ENDED, GIST_PROTOCOL or GIST_SYSTEM; and but for gist_begin GIST_NO_TRANSACTION. */
@@ -174,22 +189,31 @@ int gist_commit(gist_index *index, unsigned session, uint64_t *number);
 /* Ends the transaction and drops its changes. It costs no sync: so end one that has only searched. */
 int gist_abort(gist_index *index, unsigned session);
 
+/* Of the calls from here on, those whose names end in 3 have boxes of space, and the others boxes of the plane. One of
+   the wrong kind for its index is answered with GIST_BAD_PARAMETER, and asks nothing. */
+
 /* Adds an entry. GIST_PRESENT: it is there. GIST_BUSY; GIST_BAD_BOX; GIST_PAGES_FULL; GIST_CLAIMS_FULL. */
 int gist_insert(gist_index *index, unsigned session, uint64_t row, gist_box box);
+int gist_insert3(gist_index *index, unsigned session, uint64_t row, gist_box3 box);
 
 /* Takes an entry away. GIST_ABSENT: it isn't there, with just this box. GIST_BUSY; GIST_BAD_BOX; GIST_CLAIMS_FULL. */
 int gist_delete(gist_index *index, unsigned session, uint64_t row, gist_box box);
+int gist_delete3(gist_index *index, unsigned session, uint64_t row, gist_box3 box);
 
 /* Adds or takes away `count` entries, of which up to 100 are written before their answers are read; that takes a
    fraction of the time of a call each. The first refusal is the status, and `done`, where it isn't NULL, gets its
    entry's place: so many before it were done. Some behind it may have been done as well: abort, or look. */
 int gist_insert_many(gist_index *index, unsigned session, const gist_entry *entries, size_t count, size_t *done);
 int gist_delete_many(gist_index *index, unsigned session, const gist_entry *entries, size_t count, size_t *done);
+int gist_insert_many3(gist_index *index, unsigned session, const gist_entry3 *entries, size_t count, size_t *done);
+int gist_delete_many3(gist_index *index, unsigned session, const gist_entry3 *entries, size_t count, size_t *done);
 
 /* Finds entries. With GIST_OK *found has `*count` of them in order by row and then box; it is the index's, and stays
    until its next search or its close. GIST_BUSY; GIST_BAD_BOX; GIST_PREDICATES_FULL; GIST_SYSTEM: memory lacks here. */
 int gist_search(gist_index *index, unsigned session, enum gist_query query, gist_box box, const gist_entry **found,
                 size_t *count);
+int gist_search3(gist_index *index, unsigned session, enum gist_query query, gist_box3 box, const gist_entry3 **found,
+                 size_t *count);
 
 /* What one of several searches found. */
 typedef struct gist_hits {
@@ -197,11 +221,18 @@ typedef struct gist_hits {
     size_t count;
 } gist_hits;
 
+typedef struct gist_hits3 {
+    const gist_entry3 *found;
+    size_t count;
+} gist_hits3;
+
 /* Makes `count` searches of one kind, of a box each; up to 16 are written before their answers are read, which saves time
    where they find little. hits[i] gets what boxes[i] finds, as gist_search does. The first refusal is the status, and
    `done`, where it isn't NULL, gets its search's place: only so many hits are set. */
 int gist_search_many(gist_index *index, unsigned session, enum gist_query query, const gist_box *boxes, size_t count,
                      gist_hits *hits, size_t *done);
+int gist_search_many3(gist_index *index, unsigned session, enum gist_query query, const gist_box3 *boxes, size_t count,
+                      gist_hits3 *hits, size_t *done);
 
 /* The session that the last GIST_BUSY was because of; 0 before any, and of NULL. */
 unsigned gist_busy(const gist_index *index);

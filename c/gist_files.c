@@ -84,7 +84,7 @@ int gist_format(const char *program, const char *path, unsigned pages, unsigned 
     char count[16], most[16], last[GIST_LINE];
     bool is_made = false;
     if (end) *end = (gist_end){0};
-    if (!path || (flags & ~(unsigned)GIST_OVERWRITE)) return gist_run_invalid();
+    if (!path || (flags & ~(unsigned)(GIST_OVERWRITE | GIST_SPACE))) return gist_run_invalid();
     if (!(flags & GIST_OVERWRITE) && !may_format(path, &is_made)) {
         if (end)
             snprintf(end->sentence, sizeof end->sentence, "%s: it isn't empty, and wasn't to be overwritten", path);
@@ -93,7 +93,10 @@ int gist_format(const char *program, const char *path, unsigned pages, unsigned 
     }
     snprintf(count, sizeof count, "%u", pages);
     snprintf(most, sizeof most, "%u", fanout);
-    int told = run_through(program, (const char *[]){NULL, "format", "--", path, count, most, NULL}, NULL, last, end);
+    /* (a program that has no boxes of space doesn't know the word) */
+    const char *of_plane[] = {NULL, "format", "--", path, count, most, NULL};
+    const char *of_space[] = {NULL, "format", "--class", "3", "--", path, count, most, NULL};
+    int told = run_through(program, flags & GIST_SPACE ? of_space : of_plane, NULL, last, end);
     if (told != GIST_OK && is_made) remove_empty(path);
     return told;
 }
@@ -140,6 +143,13 @@ unsigned gist_run_frames(const char *path) {
     gist_stats stats;
     if (read_numbers(path, &stats) != GIST_OK) return 64;
     return stats.pages < 16 ? 16 : stats.pages > 4096 ? 4096 : stats.pages;
+}
+
+int gist_run_dimensions(const char *path, unsigned *dimensions) {
+    gist_stats stats;
+    int told = read_numbers(path, &stats);
+    *dimensions = told != GIST_OK ? 0 : stats.key_class == 1 ? 2 : stats.key_class == 3 ? 3 : 0;
+    return told == GIST_OK && *dimensions == 0 ? GIST_PROTOCOL : told;
 }
 
 int gist_stat(const char *program, const char *path, gist_stats *stats, gist_end *end) {

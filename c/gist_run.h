@@ -39,9 +39,11 @@ int gist_run_refusal(const char *words);
 /* Answers a call whose words make no sense: GIST_SYSTEM, with EINVAL. */
 int gist_run_invalid(void);
 
-int gist_run_invalid(void);
-
 /* As many frames as the index in a file has pages, 16 to 4096; 64 where the file can't be read. */
 unsigned gist_run_frames(const char *path);
+
+/* Of which boxes the index in a file is: GIST_OK where `*dimensions` is 2 or 3, GIST_SYSTEM where the file can't be
+   read, and GIST_PROTOCOL where it is of other keys. */
+int gist_run_dimensions(const char *path, unsigned *dimensions);
 
 #endif

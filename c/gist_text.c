@@ -16,7 +16,7 @@ static const text TEXTS[] = {
     [GIST_BUSY] = {"busy",
                    "busy: another session (gist_busy) wrote or searched this; call again once it has ended, and of "
                    "two that wait for each other abort one"},
-    [GIST_BAD_BOX] = {"bad box", "bad box: x2 < x1 or y2 < y1; exchange the corners"},
+    [GIST_BAD_BOX] = {"bad box", "bad box: x2 < x1, y2 < y1 or z2 < z1; exchange the corners"},
     [GIST_PAGES_FULL] = {"pages full", "pages full: no page is left; make a larger index and insert all entries there"},
     [GIST_CLAIMS_FULL] = {"claims full",
                           "claims full: at most 512 entries in all open transactions; commit more often"},
@@ -32,7 +32,8 @@ static const text TEXTS[] = {
     [GIST_BAD_SESSION] = {"bad session", "bad session: sessions are 1 to 8"},
     [GIST_CALL_OPEN] = {"call open", "call open: the session's last call isn't answered yet"},
     [GIST_TOO_SMALL] = {"too small", "too small: the file is shorter than its index, or than any; restore a copy"},
-    [GIST_BAD_PARAMETER] = {"bad parameter", "bad parameter: another kind of keys, or numbers that no index has"},
+    [GIST_BAD_PARAMETER] = {"bad parameter",
+                            "bad parameter: the index is of other keys (gist_dimensions), or has numbers that none has"},
     [GIST_NO_CALL] = {"no call", "no call: an answer was asked for where no call is open"},
     [GIST_HISTORY_FULL] = {"history full", "history full: all numbers of commits are used up; make a fresh index"},
     [GIST_ENDED] = {"the program has ended",

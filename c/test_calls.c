@@ -19,6 +19,8 @@ void calls(void) {
     HOLDS(gist_search(index, 2, GIST_WITHIN, (gist_box){0, -100, 100, 100}, &found, &count) == GIST_OK && count == 1);
     HOLDS(gist_search(index, 2, GIST_EQUAL, it.box, &found, &count) == GIST_OK && count == 1 && is_entry(found, 7));
     HOLDS(gist_search(index, 2, GIST_EQUAL, (gist_box){0, 0, 0, 0}, &found, &count) == GIST_OK && count == 0);
+    HOLDS(gist_search(index, 2, GIST_COVERS, it.box, &found, &count) == GIST_OK && count == 2 && is_entry(found, 7));
+    HOLDS(gist_search(index, 2, GIST_COVERS, (gist_box){0, -100, 100, 100}, &found, &count) == GIST_OK && count == 1);
     HOLDS(gist_delete(index, 2, UINT64_MAX, PLANE) == GIST_OK);
     HOLDS(gist_abort(index, 2) == GIST_OK);
     HOLDS(gist_begin(index, 2) == GIST_OK);

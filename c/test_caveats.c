@@ -176,7 +176,7 @@ void nonsense(void) {
     SENSELESS(gist_search(index, 1, GIST_EQUAL, PLANE, &found, NULL));
     SENSELESS(gist_search_many(NULL, 1, GIST_EQUAL, &PLANE, 0, NULL, NULL));
     SENSELESS(gist_search_many(index, 1, GIST_EQUAL, NULL, 1, NULL, NULL));
-    SENSELESS(gist_search_many(index, 1, (enum gist_query)3, &PLANE, 0, NULL, NULL));
+    SENSELESS(gist_search_many(index, 1, (enum gist_query)4, &PLANE, 0, NULL, NULL));
     SENSELESS(gist_open(NULL, NULL, "nonsense", 64, NULL));
     SENSELESS(gist_open(&(gist_index *){NULL}, NULL, NULL, 64, NULL));
     SENSELESS(gist_format(NULL, NULL, 8, 4, 0, NULL));

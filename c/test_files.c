@@ -70,7 +70,7 @@ void overwriting(void) {
     HOLDS(strcmp(end.sentence, "kept: it isn't empty, and wasn't to be overwritten") == 0);
     HOLDS(gist_format(NULL, "kept", 8, 4, 0, NULL) == GIST_SYSTEM && errno == EEXIST);
     HOLDS(gist_format(NULL, ".", 8, 4, 0, NULL) == GIST_SYSTEM && errno == EEXIST);
-    HOLDS(gist_format(NULL, "kept", 8, 4, 2, NULL) == GIST_SYSTEM && errno == EINVAL);
+    HOLDS(gist_format(NULL, "kept", 8, 4, 4, NULL) == GIST_SYSTEM && errno == EINVAL);
     HOLDS(found_in("kept") == 1);
     HOLDS(gist_format(NULL, "kept", 8, 4, GIST_OVERWRITE, NULL) == GIST_OK && found_in("kept") == 0);
     /* one that is empty, and one that isn't made after all */

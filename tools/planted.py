@@ -11,11 +11,11 @@ they call are proved. One line an edit, and in the last line how many passed:
     refused        with the first goal of its function that refuses it
     NOT REFUSED    its function is still proved
     BAD EDIT       it can't be applied, can't be read, or is refused only because a proof names what it takes away: it shows nothing of a
-                   contract, and is counted apart
+                   contract
     not tried      the minutes were over; it counts for nothing
 
-Ends with status 1 where a bug is still proved, but for those in the list planted/untried, which no gate has tried yet: these are counted
-apart. One that was refused is taken out of the list.
+Ends with status 1 where a bug is still proved or an edit is bad. As long as there is a list planted/untried of bugs that no gate has tried
+yet, those of them that are still proved, and all bad edits, are counted apart. One that was refused is taken out of the list.
 """
 import argparse
 import concurrent.futures
@@ -32,6 +32,7 @@ import time
 from kit import KIT, TOP, libraries, words
 
 FUNCTION = re.compile(r"^( *)(?:pub(?:\(\w+\))? )?(?:const )?(?:unsafe )?(?:extern \"C\" )?fn (\w+)")
+CONSTANT = re.compile(r"^ *(?:pub(?:\(\w+\))? )?const (\w+):")
 IMPL = re.compile(r"^impl(?:<.*?>)? (?:(?P<of>[\w:]+)(?:<.*>)? for )?(?P<type>[\w:]+)")
 PROOF = re.compile(r"^(?:note: )?(?:\./)?(proofs|src)/(\S+?):(\d+):\d+: error(?:\[\w)?")
 STALE = re.compile(r"has no field|is not in scope|has no `|was not admitted")
@@ -53,6 +54,8 @@ class Edit:
     said: str = ""
     #: Functions that may not be changed beside it, since its own call them.
     apart: set = dataclasses.field(default_factory=set)
+    #: Of a constant: the functions that name it, until they were checked.
+    near: list = dataclasses.field(default_factory=list)
     is_alone: bool = False
 
     def is_well(self):
@@ -99,7 +102,7 @@ def function_at(lines, at, file):
             break
     else:
         return None
-    last = next((it for it in range(first + 1, len(lines)) if lines[it].startswith(head[1] + "}")), first)
+    last = next((it for it in range(first + 1, len(lines)) if lines[it].startswith((head[1] + "}", head[1] + "{}"))), first)
     if last < at:
         return None
     within = pathlib.PurePath(file).stem
@@ -110,13 +113,27 @@ def function_at(lines, at, file):
     return (head[2] if within in ("lib", "main") else f"{within}::{head[2]}"), first + 1, last + 1
 
 
+def naming(word, folder):
+    """The functions of a crate that name a constant, in a contract or a body."""
+    found = []
+    for path in sorted(pathlib.Path(folder).glob("src/**/*.rt")):
+        lines = path.read_text(encoding="utf-8").split("\n")
+        within = [function_at(lines, at, str(path)) for at, line in enumerate(lines) if re.search(rf"\b{word}\b", line)]
+        found += [it[0] for it in within if it]
+    return list(dict.fromkeys(found))
+
+
 def find_functions(edit, folder):
     """Notes which functions an edit changes, by where the texts stand that it replaces; none for what is outside of functions."""
     texts = {file: (pathlib.Path(folder) / file).read_text(encoding="utf-8") for file, _, _ in edit.pairs}
     for file, old, new in edit.pairs:
         text = texts[file]
-        found = function_at(text.split("\n"), text[: text.index(old)].count("\n"), file) if file.startswith("src/") else None
+        lines, at = text.split("\n"), text[: text.index(old)].count("\n")
+        found = function_at(lines, at, file) if file.startswith("src/") else None
         edit.functions.append(found[0] if found else None)
+        constant = CONSTANT.match(lines[at])
+        if not found and constant:
+            edit.near = naming(constant[1], folder)
         texts[file] = text.replace(old, new)
 
 
@@ -162,8 +179,8 @@ class Crate:
             for file, text in made.items():
                 (pathlib.Path(folder) / file).write_text(text, encoding="utf-8")
         only = [word for edit in batch if None not in edit.functions and not edit.is_alone for it in edit.functions for word in ("--only", it)]
-        if len(batch) == 1 and None not in batch[0].functions:
-            only = [word for it in batch[0].functions for word in ("--only", it)]
+        if len(batch) == 1:
+            only = [word for it in batch[0].near or batch[0].functions if it for word in ("--only", it)]
         command = [f"{KIT}/bin/rattle", "check", *words(self.name, libraries(), folder, self.over), "--jobs", "1"]
         command += ["--incremental", f"{self.room}/kept", *only]
         os.makedirs(f"{self.room}/kept", exist_ok=True)
@@ -179,23 +196,35 @@ class Crate:
                 ends = [f"/{it.replace('::', '/')}/" for it in edit.functions if it]
                 if None in edit.functions or any(it in f"/{at[2]}" for it in ends):
                     found.append(line)
+            elif at and None in edit.functions:
+                found.append(line)
             elif at and any(f"src/{at[2]}" == file for file, _, _ in edit.pairs):
                 text = (pathlib.Path(self.room) / "crate/src" / at[2]).read_text(encoding="utf-8").split("\n")
                 there = function_at(text, min(int(at[3]), len(text)) - 1, at[2])
-                if None in edit.functions or there and there[0] in edit.functions:
+                if there and there[0] in edit.functions:
                     found.append(line)
         return found
 
     def judge(self, edit, said, status, is_alone):
         """Says what a check showed of an edit, where it did; else it is tried alone."""
-        verdicts = [verdict for name, verdict in VERDICT.findall(said) if any(it and f"::{name}".endswith(f"::{it}") for it in edit.functions)]
+        names = [it for it in edit.near or edit.functions if it]
+        verdicts = [verdict for name, verdict in VERDICT.findall(said) if any(f"::{name}".endswith(f"::{it}") for it in names)]
         errors = self.errors_of(edit, said)
+        unread = [it for it in errors if UNREAD.search(it)]
         real = [it for it in errors if not STALE.search(it)]
         open_goals = [it for it in verdicts if not it.startswith(("proved", "no proof: it calls")) and "it calls" not in it]
-        if real or open_goals and not errors:
+        if unread:
+            edit.said = f"BAD EDIT: it can't be read: {unread[0][:160]}"
+        elif real or open_goals and not errors:
             edit.said = f"refused: {(real or open_goals)[0][:160]}"
+        elif edit.near:
+            # (what names the constant refuses nothing: the whole crate is checked)
+            edit.near = []
         elif errors and is_alone:
             edit.said = f"BAD EDIT: refused only because a proof names what it takes away: {errors[0][:160]}"
+        elif not is_alone and UNREAD.search(said):
+            # (another edit of the batch can't be read, and nothing was checked)
+            pass
         elif not is_alone:
             edit.apart.update(re.findall(r"`\w+::(?:\w+::)*?(\w+::\w+)`", " ".join(it for it in verdicts if "it calls" in it)))
             edit.is_alone = not edit.apart
@@ -217,6 +246,10 @@ class Crate:
                     self.judge(edit, said, status, is_alone=len(batch) == 1)
                 if edit.said:
                     yield edit
+            if UNREAD.search(said) and not any(it.said for it in batch):
+                # (the error is in no function that an edit changes)
+                for edit in batch:
+                    edit.is_alone = True
         for edit in self.edits:
             if not edit.said:
                 edit.said = "not tried"
@@ -242,8 +275,9 @@ def edits_in(folder, crate):
 
 
 def untried():
-    """The planted bugs that no gate has tried yet, as CRATE/NAME."""
-    return set(pathlib.Path(f"{TOP}/planted/untried").read_text(encoding="utf-8").split())
+    """The planted bugs that no gate has tried yet, as CRATE/NAME; none where there is no list."""
+    listed = pathlib.Path(f"{TOP}/planted/untried")
+    return set(listed.read_text(encoding="utf-8").split()) if listed.exists() else set()
 
 
 def main():
@@ -262,10 +296,13 @@ def main():
             it.result()
     every = [it for found in edits.values() for it in found]
     passed = sum(map(Edit.is_well, every))
-    bad, skipped = (sum(it.said.startswith(said) for it in every) for said in ("BAD EDIT", "not tried"))
-    new = sum(f"{it.crate}/{it.name}" in untried() for it in every if it.said.startswith("NOT REFUSED"))
-    failed = len(every) - passed - bad - skipped - new
-    apart = ", ".join(f"{count} {said}" for count, said in ((bad, "bad"), (new, "still proved, of those untried"), (skipped, "not tried")) if count)
+    skipped, bad = (sum(it.said.startswith(said) for it in every) for said in ("not tried", "BAD EDIT"))
+    listed = untried()
+    bad = bad if listed else 0
+    new = sum(f"{it.crate}/{it.name}" in listed for it in every if it.said.startswith("NOT REFUSED"))
+    failed = len(every) - passed - skipped - bad - new
+    counted = ((bad, "bad"), (new, "still proved, of those untried"), (skipped, "not tried"))
+    apart = ", ".join(f"{count} {said}" for count, said in counted if count)
     print(f"{passed} passed, {failed} failed" + (f" ({apart})" if apart else ""))
     sys.exit(failed != 0)
 

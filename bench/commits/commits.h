@@ -21,5 +21,9 @@ void client_close(client *by);
 /* A transaction: a search of the session's strip, where one is wanted; then the insert of a box at this place of it,
    and a commit. */
 void client_transact(client *by, long session, int place, bool searches);
+/* A transaction that reads alone: its begin, a search of the session's strip, and its end. */
+void client_begin(client *by);
+void client_search(client *by, long session);
+void client_abort(client *by);
 
 #endif

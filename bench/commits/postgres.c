@@ -45,13 +45,27 @@ void client_close(client *by) {
     free(by);
 }
 
+void client_begin(client *by) {
+    run(by->base, "BEGIN");
+}
+
+void client_search(client *by, long session) {
+    char box[64];
+    const char *const values[] = {box};
+    snprintf(box, sizeof box, "((0,%ld),(1000,%ld))", session * 100, session * 100 + 1);
+    expect(by->base, PQexecPrepared(by->base, "search", 1, values, NULL, NULL, 1), PGRES_TUPLES_OK);
+}
+
+void client_abort(client *by) {
+    run(by->base, "ROLLBACK");
+}
+
 void client_transact(client *by, long session, int place, bool searches) {
     char row[24], box[64];
     const char *const values[] = {row, box};
     if (searches) {
-        run(by->base, "BEGIN");
-        snprintf(box, sizeof box, "((0,%ld),(1000,%ld))", session * 100, session * 100 + 1);
-        expect(by->base, PQexecPrepared(by->base, "search", 1, values + 1, NULL, NULL, 1), PGRES_TUPLES_OK);
+        client_begin(by);
+        client_search(by, session);
     }
     snprintf(row, sizeof row, "%ld", session * 1000000 + place);
     snprintf(box, sizeof box, "((%d,%ld),(%d,%ld))", place * 100, session * 100, place * 100 + 1, session * 100 + 1);

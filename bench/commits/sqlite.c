@@ -52,12 +52,22 @@ void client_close(client *by) {
     free(by);
 }
 
+void client_begin(client *by) {
+    run(by->base, "BEGIN");
+}
+
+void client_search(client *by, long session) {
+    sqlite3_bind_int64(by->search, 1, session * 100);
+    done(by, by->search);
+}
+
+void client_abort(client *by) {
+    run(by->base, "ROLLBACK");
+}
+
 void client_transact(client *by, long session, int place, bool searches) {
     done(by, by->begin);
-    if (searches) {
-        sqlite3_bind_int64(by->search, 1, session * 100);
-        done(by, by->search);
-    }
+    if (searches) client_search(by, session);
     sqlite3_bind_int64(by->insert, 1, session * 1000000 + place);
     sqlite3_bind_int(by->insert, 2, place * 100);
     sqlite3_bind_int(by->insert, 3, place * 100 + 1);

@@ -1,6 +1,7 @@
 /* The workload that all peers do: a seeded one, so that they find the same. Prints a line for each kind of work, its
-   name and so many a second, or so many bytes; and for each search that is compared a line with how many entries were
-   found and the sum of their rows.
+   name, so many a second, and the microseconds of processor that each took; or so many bytes; and for each search that is
+   compared a line with how many entries were found and the sum of their rows. Memory and processor time are those of the
+   process and of all below it, and of a server, whose process PEER_PID names.
 
    The words are the index's path, one for a second index, how many entries are loaded, how many searches of some ten
    hits are made, and how many entries are added with a commit each. */
@@ -58,36 +59,67 @@ static double now(void) {
     return (double)at.tv_sec + (double)at.tv_nsec / 1e9;
 }
 
-static void tell(const char *work, size_t count, double from) {
-    printf("%s\t%.1f\n", work, (double)count / (now() - from));
-}
-
-/* The memory that a process and those below it have of their own, and their share of what they have with others, in
- * bytes. */
+/* The memory that a process has of its own, and its share of what it has with others, in bytes. */
 static uint64_t memory_of(long pid) {
     char path[64], line[256];
-    unsigned long long bytes = 0, all = 0;
-    long parent;
+    unsigned long long bytes = 0;
     snprintf(path, sizeof path, "/proc/%ld/smaps_rollup", pid);
     FILE *it = fopen(path, "r");
     while (it && fgets(line, sizeof line, it))
-        if (sscanf(line, "Pss: %llu kB", &bytes) == 1) all = bytes * 1024;
+        if (sscanf(line, "Pss: %llu kB", &bytes) == 1) break;
     if (it) fclose(it);
+    return bytes * 1024;
+}
+
+/* The processor time that a process has taken, in nanoseconds. */
+static uint64_t processor_of(long pid) {
+    struct timespec at = {0};
+    clockid_t its;
+    if (clock_getcpuclockid((pid_t)pid, &its) == 0) clock_gettime(its, &at);
+    return (uint64_t)at.tv_sec * 1000000000 + (uint64_t)at.tv_nsec;
+}
+
+/* What a process and all below it have together. */
+static uint64_t sum_below(long pid, uint64_t (*of)(long)) {
+    char path[64], line[256];
+    uint64_t all = of(pid);
+    long parent;
     DIR *processes = opendir("/proc");
     for (struct dirent *one; processes && (one = readdir(processes));) {
         snprintf(path, sizeof path, "/proc/%.20s/stat", one->d_name);
+        FILE *it = NULL;
         if (one->d_name[0] < '1' || one->d_name[0] > '9' || !(it = fopen(path, "r"))) continue;
         if (fgets(line, sizeof line, it) && strrchr(line, ')') &&
             sscanf(strrchr(line, ')'), ") %*c %ld", &parent) == 1 && parent == pid)
-            all += memory_of(atol(one->d_name));
+            all += sum_below(atol(one->d_name), of);
         fclose(it);
     }
     if (processes) closedir(processes);
     return all;
 }
 
+static uint64_t sum_of_all(uint64_t (*of)(long)) {
+    const char *server = getenv("PEER_PID");
+    return sum_below(getpid(), of) + (server ? sum_below(atol(server), of) : 0);
+}
+
+/* When a work began. */
+typedef struct start {
+    double processor, clock;
+} start;
+
+static start begin(void) {
+    double processor = (double)sum_of_all(processor_of) / 1e3;
+    return (start){processor, now()};
+}
+
+static void tell(const char *work, size_t count, start from) {
+    double clock = now() - from.clock, processor = (double)sum_of_all(processor_of) / 1e3 - from.processor;
+    printf("%s\t%.1f\t%.3f\n", work, (double)count / clock, processor / (double)count);
+}
+
 static void change(const char *work, void (*by)(const pair *, size_t), const pair *pairs, size_t count) {
-    double from = now();
+    start from = begin();
     for (size_t at = 0; at < count; at += BATCH) {
         peer_begin();
         by(pairs + at, count - at < BATCH ? count - at : BATCH);
@@ -98,7 +130,7 @@ static void change(const char *work, void (*by)(const pair *, size_t), const pai
 
 /* Searches windows of this side, and says what was found. */
 static void search(const char *work, size_t count, int32_t side, uint64_t seed) {
-    double from = now();
+    start from = begin();
     state = seed;
     hits = rows = 0;
     for (size_t i = 0; i < count; i++) {
@@ -114,58 +146,70 @@ static void search(const char *work, size_t count, int32_t side, uint64_t seed) 
 typedef struct writer {
     pthread_t thread;
     unsigned number;
+    /* whether it waits until no other writes */
+    bool waits;
     const pair *pairs;
     size_t count;
 } writer;
 
+static pthread_mutex_t turn = PTHREAD_MUTEX_INITIALIZER;
+
 static void *write_all(void *given) {
     const writer *it = (const writer *)given;
-    for (size_t i = 0; i < it->count; i++) peer_write(it->number, &it->pairs[i]);
+    for (size_t i = 0; i < it->count; i++) {
+        if (it->waits) pthread_mutex_lock(&turn);
+        peer_write(it->number, &it->pairs[i]);
+        if (it->waits) pthread_mutex_unlock(&turn);
+    }
     return NULL;
 }
 
-/* Adds entries with a commit each, first by one writer and then by several at once. */
-static void write_singly(const pair *pairs, size_t count) {
+/* Adds entries with a commit each by several writers at once. */
+static void write_at_once(const char *work, bool waits, const pair *pairs, size_t count) {
     unsigned many = peer_writers();
     writer all[16];
-    double from = now();
-    if (many == 0) {
-        /* (so that the others' results stay comparable) */
-        write_all(&(writer){.pairs = pairs, .count = 2 * count});
-        return;
-    }
-    write_all(&(writer){.pairs = pairs, .count = count});
-    tell("single commits", count, from);
-    from = now();
+    start from = begin();
     for (unsigned i = 0; i < many; i++) {
-        all[i] = (writer){.number = i, .pairs = pairs + count + i * (count / many), .count = count / many};
+        all[i] = (writer){.number = i, .waits = waits, .pairs = pairs + i * (count / many), .count = count / many};
         if (pthread_create(&all[i].thread, NULL, write_all, &all[i]) != 0) stop("thread", "none can be made");
     }
     for (unsigned i = 0; i < many; i++) pthread_join(all[i].thread, NULL);
-    tell("single commits of four writers", count, from);
+    tell(work, count, from);
+}
+
+/* Adds entries with a commit each: by one writer, by several at once, and by as many that take turns. */
+static void write_singly(const pair *pairs, size_t count) {
+    if (peer_writers() == 0) {
+        /* (so that the others' results stay comparable) */
+        write_all(&(writer){.pairs = pairs, .count = 3 * count});
+        return;
+    }
+    start from = begin();
+    write_all(&(writer){.pairs = pairs, .count = count});
+    tell("single commits", count, from);
+    write_at_once("single commits of four writers", false, pairs + count, count);
+    write_at_once("single commits of four writers in turn", true, pairs + 2 * count, count);
 }
 
 int main(int words_count, char **words) {
     if (words_count != 6) stop("usage", "PATH SECOND-PATH ENTRIES SEARCHES SINGLES");
     size_t count = strtoull(words[3], NULL, 10), searches = strtoull(words[4], NULL, 10),
            singles = strtoull(words[5], NULL, 10) / 4 * 4;
-    const char *server = getenv("PEER_PID");
-    pair *pairs = malloc((count + 2 * singles) * sizeof *pairs);
+    pair *pairs = malloc((count + 3 * singles) * sizeof *pairs);
     if (!pairs) stop("memory", "there is none");
     /* the plane is of SIDE times the root of the count: a box for SIDE by SIDE */
     for (plane = 1; (uint64_t)plane * (uint64_t)plane < (uint64_t)SIDE * SIDE * count; plane++) continue;
     state = 1;
-    for (size_t i = 0; i < count + 2 * singles; i++) pairs[i] = draw_pair(i + 1);
+    for (size_t i = 0; i < count + 3 * singles; i++) pairs[i] = draw_pair(i + 1);
     /* a window with a tenth of all has some ten thousand of a hundred thousand */
     int32_t far = (int32_t)(0.316 * plane);
-    uint64_t before = memory_of(getpid());
+    uint64_t before = sum_below(getpid(), memory_of);
     peer_open(words[1], count, true);
-    change("load, drawn order", peer_insert, pairs, count);
+    change("load, random order", peer_insert, pairs, count);
     printf("bytes on disk\t%llu\n", (unsigned long long)peer_bytes(words[1]));
     search("searches, ten hits", searches, NEAR, 2);
     search("searches, a tenth of all", searches / 500 + 1, far, 3);
-    uint64_t memory = memory_of(getpid()) - before + (server ? memory_of(atol(server)) : 0);
-    printf("bytes of memory\t%llu\n", (unsigned long long)memory);
+    printf("bytes of memory\t%llu\n", (unsigned long long)(sum_of_all(memory_of) - before));
     change("deletes", peer_delete, pairs, count / 5);
     search("searches, after deletes", searches / 10, NEAR, 4);
     write_singly(pairs + count, singles);

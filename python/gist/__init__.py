@@ -11,13 +11,14 @@
 
 What is used most:
 
-    format(path, pages)      makes an index
+    format(path, pages)      makes an index, with dimensions=3 of space
     open(path)               opens it; an Index, with
       .transaction()           begins a transaction, for a with block, with
         .insert(row, box)        and delete: one entry
         .insert_many(entries)    and delete_many: many entries
-        .overlap(box)            and within, equal: a search
+        .overlap(box)            and within, equal, covers: a search
       .search(box)             makes one search, in a transaction of its own
+      .search_many(boxes)      makes many, in less time than one by one
       .reading()               begins a transaction that only searches
       .retry(work)             does work(t) anew while others are in the way
       .load(entries)           adds entries by the thousand
@@ -25,13 +26,14 @@ What is used most:
     verify(path)             tests an index
     GistError                what any call raises; its classes say why
 
-Rows are integers below 2**64, boxes four integers of 32 bits: x1, y1, x2, y2.
-Each open index is a process of its own, which is asked over two pipes: a
-fault of this process leaves the index alone. docs/CLIENTS.md has the whole
-picture, docs/SCRIPT.md what each call means and each refusal.
+Rows are integers below 2**64, boxes four integers of 32 bits: x1, y1, x2, y2;
+in an index of boxes of space six: x1, y1, z1, x2, y2, z2. Each open index is
+a process of its own, which is asked over two pipes: a fault of this process
+leaves the index alone. docs/CLIENTS.md has the whole picture, docs/SCRIPT.md
+what each call means and each refusal.
 """
 
-from gist._entries import MAX_CORNER, MAX_ROW, MIN_CORNER, Box, Hits
+from gist._entries import MAX_CORNER, MAX_ROW, MIN_CORNER, Box, Box3, Hits
 from gist._files import Report, Stat, dump, format, open, stat, verify
 from gist._index import Index
 from gist._refusals import (Absent, BadBox, BadParameter, BadSession, Busy,
@@ -44,7 +46,7 @@ from gist._sessions import SESSIONS
 from gist._transactions import Reader, Transaction
 
 __all__ = [
-    "Absent", "BadBox", "BadParameter", "BadSession", "Box", "Busy",
+    "Absent", "BadBox", "BadParameter", "BadSession", "Box", "Box3", "Busy",
     "CallOpen", "ClaimsFull", "Damaged", "Device", "Ended", "Failed",
     "GistError", "HistoryFull", "Hits", "InTransaction", "InUse", "Index",
     "MAX_CORNER", "MAX_ROW", "MIN_CORNER", "Memory", "NoCall", "NoSession",

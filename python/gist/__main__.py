@@ -11,15 +11,16 @@ from typing import Iterable, Iterator, List, Optional, TextIO, Tuple
 import gist
 from gist._copy import copy
 from gist._draw import MOST_ENTRIES, draw
+from gist._entries import AnyBox
 from gist._table import entries_of
 from gist._tree import live_entries
 
 # How often the progress of a load or a copy is shown, in seconds.
 _OFTEN = 0.1
 # The classes of keys by their numbers in a file.
-_KINDS = {1: "boxes", 2: "intervals"}
+_KINDS = {1: "boxes", 2: "intervals", 3: "boxes of space"}
 
-_Entry = Tuple[int, gist.Box]
+_Entry = Tuple[int, AnyBox]
 
 
 def main(words: Optional[List[str]] = None) -> int:
@@ -86,7 +87,8 @@ def _verify(asked: argparse.Namespace) -> None:
 def _load(asked: argparse.Namespace) -> None:
     with _table(asked.file) as lines, gist.open(asked.index) as index:
         with _Progress() as progress:
-            entries = progress.counting(entries_of(lines, asked.file))
+            entries = progress.counting(
+                entries_of(lines, asked.file, index.dimensions))
             count = index.load(entries, progress.loaded)
     print(f"loaded {count}")
 
@@ -177,17 +179,20 @@ def _parser() -> argparse.ArgumentParser:
             ("stat", _stat, "print sizes, counts and how full an index is",
              ""),
             ("verify", _verify, "test whether an index is sound", ""),
-            ("dump", _dump, "print the live entries, a row and four corners "
-             "a line with commas between", "This is what load reads."),
+            ("dump", _dump, "print the live entries, a row and the corners "
+             "of its box a line with commas between",
+             "This is what load reads."),
             ("draw", _draw, "print a picture (SVG) of an index's tree",
              "The pages have a colour for each level, and the fuller a page "
              f"is, the darker it is. Up to {MOST_ENTRIES:,} entries are "
-             "drawn too.")):
+             "drawn too. Boxes of space are seen from above, the higher the "
+             "darker.")):
         add(name, run, does, more).add_argument("index", metavar="INDEX")
     load = add("load", _load, "add the entries of a file to an index",
-               "Each line has a row and four corners with commas between; "
-               "the first may be a header. All lines are read and sorted by "
-               "place before the first is added.")
+               "Each line has a row and four corners with commas between, "
+               "or six of a box of space; the first may be a header. All "
+               "lines are read and sorted by place before the first is "
+               "added.")
     load.add_argument("file", metavar="FILE.csv",
                       help="the file, or - for standard input")
     load.add_argument("index", metavar="INDEX")

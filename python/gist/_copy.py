@@ -7,8 +7,8 @@ import tempfile
 from pathlib import Path
 from typing import Callable, Optional
 
+from gist._entries import KINDS
 from gist._files import MAX_PAGES, dump, format, open, stat, verify
-from gist._load import load
 from gist._process import AnyPath
 from gist._refusals import GistError, PagesFull
 from gist._tree import live_entries
@@ -33,9 +33,10 @@ def copy(old: AnyPath, new: AnyPath, pages: Optional[int] = None,
     handle, name = tempfile.mkstemp(prefix=f"{to.name}.", dir=to.parent)
     os.close(handle)
     try:
-        format(name, pages, of.fanout, program)
+        format(name, pages, of.fanout, program,
+               dimensions=KINDS[of.kind].dimensions)
         with open(name, program=program) as index:
-            count = load(index, live_entries(dump(old, program)), progress)
+            count = index.load(live_entries(dump(old, program)), progress)
         if verify(name, program).entries != count:
             raise GistError("the copy has other entries than were copied")
         shutil.copymode(old, name)

@@ -2,7 +2,7 @@
 
 from contextlib import suppress
 from itertools import chain
-from typing import Iterator, NamedTuple, Sequence, Tuple
+from typing import Dict, Iterator, NamedTuple, Sequence, Tuple, Type, Union
 
 MAX_ROW = 2 ** 64 - 1
 MIN_CORNER = -2 ** 31
@@ -24,7 +24,25 @@ class Box(NamedTuple):
     y2: int
 
 
-class Hits(Iterator[Tuple[int, Box]]):
+class Box3(NamedTuple):
+    """A box of space with its faces, of 32-bit integers: x1 <= x2, y1 <= y2
+    and z1 <= z2.
+
+    An index of boxes of space takes any six integers in this order.
+    """
+
+    x1: int
+    y1: int
+    z1: int
+    x2: int
+    y2: int
+    z2: int
+
+
+AnyBox = Union[Box, Box3]
+
+
+class Hits(Iterator[Tuple[int, AnyBox]]):
     """What a search found, in order by row and then box: an iterator.
 
     All of it was read when the search was answered, so it may be left half
@@ -34,10 +52,12 @@ class Hits(Iterator[Tuple[int, Box]]):
 
     __slots__ = ("count", "_entries")
 
-    def __init__(self, count: int, lines: bytes) -> None:
+    def __init__(self, count: int, lines: bytes,
+                 box: Type[AnyBox] = Box) -> None:
         #: How many were found, as len() returns.
         self.count = count
-        self._entries = chain.from_iterable(map(_entries, _blocks(lines)))
+        self._entries = chain.from_iterable(
+            _entries(block, box) for block in _blocks(lines))
 
     def __len__(self) -> int:
         return self.count
@@ -45,10 +65,10 @@ class Hits(Iterator[Tuple[int, Box]]):
     def __bool__(self) -> bool:
         return self.count > 0
 
-    def __iter__(self) -> Iterator[Tuple[int, Box]]:
+    def __iter__(self) -> Iterator[Tuple[int, AnyBox]]:
         return self._entries
 
-    def __next__(self) -> Tuple[int, Box]:
+    def __next__(self) -> Tuple[int, AnyBox]:
         return next(self._entries)
 
 
@@ -61,29 +81,62 @@ def _blocks(lines: bytes) -> Iterator[bytes]:
         start = end
 
 
-def _entries(lines: bytes) -> Iterator[Tuple[int, Box]]:
-    """The entries of lines `S entry R X1 Y1 X2 Y2`."""
+def _entries(lines: bytes, box: Type[AnyBox]
+             ) -> Iterator[Tuple[int, AnyBox]]:
+    """The entries of lines `S entry R` with a box's corners behind."""
     words = lines.split()
-    corners = zip(*(map(int, words[at::7]) for at in range(3, 7)))
-    return zip(map(int, words[2::7]), map(Box._make, corners))
+    step = 3 + len(box._fields)
+    corners = zip(*(map(int, words[at::step]) for at in range(3, step)))
+    return zip(map(int, words[2::step]), map(box._make, corners))
 
 
-def corners_of(box: Sequence[int]) -> str:
-    """The words of a box; whether it is reversed is left to the index."""
-    x1, y1, x2, y2 = box
-    if (MIN_CORNER <= min(x1, y1, x2, y2)
-            and max(x1, y1, x2, y2) <= MAX_CORNER):
-        # (numbers that aren't whole have no format d)
-        with suppress(ValueError):
-            return f"{x1:d} {y1:d} {x2:d} {y2:d}"
-    raise ValueError(f"{box!r}: corners are integers of 32 bits; "
-                     "degrees times 10,000,000 fit")
+class Kind:
+    """A class of keys: boxes of so many dimensions."""
+
+    def __init__(self, number: int, name: str, box: Type[AnyBox]) -> None:
+        #: The number that a file has for it.
+        self.number = number
+        #: What its boxes are called.
+        self.name = name
+        self.box = box
+        #: How many numbers a box has.
+        self.count = len(box._fields)
+        self.dimensions = self.count // 2
+        self._spell = " ".join(["{:d}"] * self.count).format
+
+    def corners_of(self, box: Sequence[int]) -> str:
+        """The words of a box; whether it is reversed is left to the index."""
+        corners = tuple(box)
+        if len(corners) != self.count:
+            raise ValueError(
+                f"{box!r}: the index is of {self.name}, which are "
+                f"{self.count} numbers: {', '.join(self.box._fields)}")
+        if MIN_CORNER <= min(corners) and max(corners) <= MAX_CORNER:
+            # (numbers that aren't whole have no format d)
+            with suppress(ValueError):
+                return self._spell(*corners)
+        raise ValueError(f"{box!r}: corners are integers of 32 bits; "
+                         "degrees times 10,000,000 fit")
+
+    def entry_of(self, row: int, box: Sequence[int]) -> str:
+        """The words of an entry."""
+        corners = self.corners_of(box)
+        if 0 <= row <= MAX_ROW:
+            with suppress(ValueError):
+                return f"{row:d} {corners}"
+        raise ValueError(f"row {row!r}: rows are integers from 0 to "
+                         "2**64 - 1")
 
 
-def entry_of(row: int, box: Sequence[int]) -> str:
-    """The words of an entry."""
-    corners = corners_of(box)
-    if 0 <= row <= MAX_ROW:
-        with suppress(ValueError):
-            return f"{row:d} {corners}"
-    raise ValueError(f"row {row!r}: rows are integers from 0 to 2**64 - 1")
+#: Those that this client knows, by their numbers.
+KINDS: Dict[int, Kind] = {
+    kind.number: kind for kind in (Kind(1, "boxes of the plane", Box),
+                                   Kind(3, "boxes of space", Box3))}
+
+
+def kind_of(dimensions: int) -> Kind:
+    """The boxes of so many dimensions."""
+    for kind in KINDS.values():
+        if kind.dimensions == dimensions:
+            return kind
+    raise ValueError(f"dimensions is {dimensions!r}: 2 or 3")

@@ -3,13 +3,13 @@
 import errno
 import operator
 import os
-import struct
 import time
 from contextlib import suppress
-from stat import S_ISDIR
-from typing import Iterator, NamedTuple, Optional, Tuple
+from typing import Iterator, NamedTuple, Optional
 
+from gist._entries import kind_of
 from gist._index import Index
+from gist._numbers import numbers_of, opened
 from gist._process import AnyPath, lines_of, words_of
 from gist._refusals import InUse, ProtocolError
 
@@ -17,8 +17,6 @@ MIN_PAGES, MAX_PAGES = 8, 65536
 MIN_FANOUT, MAX_FANOUT = 4, 100
 MIN_FRAMES, MAX_FRAMES = 16, 4096
 
-# Where a file has the numbers of its index, and how they lie there.
-_NUMBERS_AT, _NUMBERS = 512, struct.Struct(">IHH")
 # How long open waits until it tries again, in seconds.
 _PAUSE = 0.05
 
@@ -40,7 +38,7 @@ class Stat(NamedTuple):
     #: How many pages it may have, and how many entries a page.
     pages: int
     fanout: int
-    #: The class of its keys: 1 for boxes.
+    #: The class of its keys: 1 for boxes of the plane, 3 for boxes of space.
     kind: int
     #: How many pages are in use; they are never given back.
     used: int
@@ -67,7 +65,7 @@ def open(path: AnyPath, frames: Optional[int] = None,
     NotFormatted, Damaged, TooSmall or BadParameter for what it holds.
     """
     words_of(program)
-    pages, _, _ = _numbers_of(path, os.O_RDWR)
+    pages, _, _ = numbers_of(path, os.O_RDWR)
     if frames is None:
         frames = min(max(pages, MIN_FRAMES), MAX_FRAMES)
     _check("frames", frames, MIN_FRAMES, MAX_FRAMES)
@@ -83,17 +81,21 @@ def open(path: AnyPath, frames: Optional[int] = None,
 
 def format(path: AnyPath, pages: int, fanout: int = 100,
            program: Optional[AnyPath] = None,
-           overwrite: bool = False) -> None:
+           overwrite: bool = False, dimensions: int = 2) -> None:
     """Lays a new index down in a file, which is made or is empty.
 
     pages, 8 to 65536, is how many pages it may have, and fanout, 4 to 100,
-    how many entries a page. Raises FileExistsError for a file that isn't
+    how many entries a page. Its boxes are those of the plane, or with
+    dimensions=3 those of space. Raises FileExistsError for a file that isn't
     empty, unless overwrite is given: what the file held is lost then.
     """
     _check("pages", pages, MIN_PAGES, MAX_PAGES)
     _check("fanout", fanout, MIN_FANOUT, MAX_FANOUT)
-    words = words_of(program, "format", "--", os.fspath(path), f"{pages:d}",
-                     f"{fanout:d}")
+    kind = kind_of(dimensions)
+    # (a program that has no boxes of space doesn't know the word)
+    chosen = ["--class", f"{kind.number:d}"] if kind.number > 1 else []
+    words = words_of(program, "format", *chosen, "--", os.fspath(path),
+                     f"{pages:d}", f"{fanout:d}")
     is_made = _make(path, overwrite)
     try:
         line = "".join(lines_of(words))
@@ -115,7 +117,7 @@ def dump(path: AnyPath, program: Optional[AnyPath] = None) -> Iterator[str]:
     The index must not be open; what a crash cut off is undone first.
     """
     words = words_of(program, "dump", "--", os.fspath(path))
-    _numbers_of(path, os.O_RDWR)
+    numbers_of(path, os.O_RDWR)
     return lines_of(words)
 
 
@@ -126,7 +128,7 @@ def verify(path: AnyPath, program: Optional[AnyPath] = None) -> Report:
     for one that isn't sound, and what open raises.
     """
     words = words_of(program, "verify", "--", os.fspath(path))
-    _numbers_of(path, os.O_RDONLY)
+    numbers_of(path)
     line = "".join(lines_of(words))
     told = line.split(" ")
     if told[:1] != ["ok"] or told[1::2] != ["commits", "entries", "used"]:
@@ -137,7 +139,7 @@ def verify(path: AnyPath, program: Optional[AnyPath] = None) -> Report:
 def stat(path: AnyPath, program: Optional[AnyPath] = None) -> Stat:
     """The index in a file in numbers; it is verified, as verify does."""
     commits, entries, used = verify(path, program)
-    pages, fanout, kind = _numbers_of(path, os.O_RDONLY)
+    pages, fanout, kind = numbers_of(path)
     return Stat(pages, fanout, kind, used, commits, entries, used / pages)
 
 
@@ -147,33 +149,13 @@ def _check(name: str, number: int, least: int, most: int) -> None:
                          f"{most}")
 
 
-def _open(path: AnyPath, flags: int) -> int:
-    """Opens a file as the program will, which raises why that can't be done.
-    """
-    return os.open(path, flags | os.O_CLOEXEC | os.O_NONBLOCK | os.O_NOCTTY,
-                   0o666)
-
-
-def _numbers_of(path: AnyPath, flags: int) -> Tuple[int, int, int]:
-    """The pages, entries a page and class of the index in a file."""
-    file = _open(path, flags)
-    try:
-        if S_ISDIR(os.fstat(file).st_mode):
-            raise IsADirectoryError(
-                errno.EISDIR, os.strerror(errno.EISDIR), os.fspath(path))
-        data = os.pread(file, _NUMBERS.size, _NUMBERS_AT)
-    finally:
-        os.close(file)
-    return _NUMBERS.unpack(data.ljust(_NUMBERS.size, b"\0"))
-
-
 def _make(path: AnyPath, overwrite: bool) -> bool:
     """Makes a file where none is there, and returns whether it did."""
     try:
-        os.close(_open(path, os.O_RDWR | os.O_CREAT | os.O_EXCL))
+        os.close(opened(path, os.O_RDWR | os.O_CREAT | os.O_EXCL))
         return True
     except FileExistsError:
-        file = _open(path, os.O_RDWR)
+        file = opened(path, os.O_RDWR)
     size = os.fstat(file).st_size
     os.close(file)
     if size and not overwrite:

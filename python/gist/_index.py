@@ -2,14 +2,16 @@
 
 import random
 import time
+from itertools import islice
 from os import fspath
-from typing import (Any, Callable, Iterable, Optional, Sequence, Tuple, Type,
-                    TypeVar)
+from typing import (Any, Callable, Iterable, List, Optional, Sequence, Tuple,
+                    Type, TypeVar)
 
-from gist._entries import Hits
+from gist._entries import KINDS, Hits
 from gist._load import load
+from gist._numbers import numbers_of
 from gist._process import AnyPath, words_of
-from gist._program import Call, Program
+from gist._program import SEARCHES, Call, Program
 from gist._refusals import Busy, ProtocolError
 from gist._sessions import Hold, Sessions
 from gist._transactions import Reader, Transaction
@@ -41,7 +43,13 @@ class Index:
         if answer != b"0 refused 15 bad session\n":
             end = self._program.close(answer)
             raise end or ProtocolError(f"{answer!r} as the index was opened")
-        self._sessions = Sessions(self._program, path)
+        # (nobody else can format the file while the program has it open)
+        _, _, number = numbers_of(path)
+        if number not in KINDS:
+            self._program.kill()
+            raise ProtocolError(f"an index of class {number} was opened")
+        self._kind = KINDS[number]
+        self._sessions = Sessions(self._program, path, self._kind)
 
     def __enter__(self) -> "Index":
         return self
@@ -56,6 +64,12 @@ class Index:
     def pid(self) -> int:
         """The number of the program's process."""
         return self._program.pid
+
+    @property
+    def dimensions(self) -> int:
+        """2 where its boxes are four numbers, as Box; 3 where they are six,
+        as Box3."""
+        return self._kind.dimensions
 
     def transaction(self, wait: Optional[float] = 0.0) -> Transaction:
         """Begins a transaction in one of the sessions that are free.
@@ -78,6 +92,21 @@ class Index:
         return self.retry(lambda t: t.overlap(box), reading=True, tries=None,
                           wait=_SEARCHING, within=_SEARCHING)
 
+    def search_many(self, boxes: Iterable[Sequence[int]]) -> List[Hits]:
+        """Makes the search of each box, and returns what they found.
+
+        Sixteen are a transaction, and are asked before the first is answered,
+        which takes less time than a search each. For the rest as `search`.
+        """
+        rest = iter(boxes)
+        hits: List[Hits] = []
+        while True:
+            some = list(islice(rest, SEARCHES))
+            if not some:
+                return hits
+            hits += self.retry(lambda t: t.overlap_each(some), reading=True,
+                               tries=None, wait=_SEARCHING, within=_SEARCHING)
+
     def load(self, entries: Iterable[Tuple[int, Sequence[int]]],
              progress: Optional[Callable[[int], object]] = None) -> int:
         """Adds entries of any number, in many commits; returns how many.
@@ -87,7 +116,7 @@ class Index:
         An exception that breaks it off says how many are committed, and has
         that number as its attribute committed.
         """
-        return load(self, entries, progress)
+        return load(self, self._kind, entries, progress)
 
     def retry(self, work: Callable[[Any], _Result], reading: bool = False,
               tries: Optional[int] = 20, wait: Optional[float] = 0.0,

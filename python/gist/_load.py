@@ -12,19 +12,19 @@ from contextlib import closing
 from itertools import islice, starmap
 from operator import index as integer
 from struct import Struct
-from typing import (TYPE_CHECKING, BinaryIO, Callable, Iterable, Iterator,
+from typing import (TYPE_CHECKING, Any, BinaryIO, Callable, Iterable, Iterator,
                     List, Optional, Sequence, Tuple)
 
-from gist._entries import entry_of
-from gist._place import place_of
+from gist._entries import Kind
+from gist._place import PLACE, place_of
 from gist._refusals import Refused
 
 if TYPE_CHECKING:
     from gist._index import Index
 
 Entry = Tuple[int, Sequence[int]]
-# A place on the curve, the row and the four corners.
-_Placed = Tuple[int, ...]
+# A place on the curve, the row and the corners.
+_Placed = Tuple[Any, ...]
 
 # So many entries are sorted in memory; of more, such runs go to a file.
 _RUN = 100_000
@@ -32,12 +32,11 @@ _RUN = 100_000
 _PART = 500
 # So many seconds a commit waits for a session, and for others in its way.
 _WAIT = 10.0
-_RECORD = Struct("=QQ4i")
-# How much of a run is read at once, in bytes.
-_BLOCK = 512 * _RECORD.size
+# How many entries of a run are read at once.
+_BLOCK = 512
 
 
-def load(index: "Index", entries: Iterable[Entry],
+def load(index: "Index", kind: Kind, entries: Iterable[Entry],
          progress: Optional[Callable[[int], object]] = None) -> int:
     """Adds entries, sorted by place, 500 a commit; returns how many.
 
@@ -50,7 +49,7 @@ def load(index: "Index", entries: Iterable[Entry],
     done = 0
     part: List[Entry] = []
     try:
-        with closing(_sorted(entries)) as placed:
+        with closing(_sorted(kind, entries)) as placed:
             while True:
                 part = [(it[1], it[2:]) for it in islice(placed, _PART)]
                 if not part:
@@ -81,34 +80,38 @@ def _note(fault: BaseException, done: int, part: List[Entry]) -> None:
     fault.sentence = "; ".join(filter(None, (fault.sentence, told)))
 
 
-def _placed(entry: Entry) -> _Placed:
+def _placed(kind: Kind, entry: Entry) -> _Placed:
     row, box = entry
     # (this raises what an insert of the entry would)
-    entry_of(row, box)
+    kind.entry_of(row, box)
     corners = tuple(map(integer, box))
-    return (place_of(corners), integer(row), *corners)
+    place = place_of(corners).to_bytes(PLACE, "big")
+    return (place, integer(row), *corners)
 
 
-def _sorted(entries: Iterable[Entry]) -> Iterator[_Placed]:
+def _sorted(kind: Kind, entries: Iterable[Entry]) -> Iterator[_Placed]:
     """The entries in the order of their places."""
-    placed = map(_placed, entries)
+    placed = (_placed(kind, it) for it in entries)
     run = sorted(islice(placed, _RUN))
     if len(run) < _RUN:
         yield from run
         return
+    record = Struct(f"={PLACE}sQ{kind.count}i")
     with tempfile.TemporaryFile() as file:
         ends = [0]
         while run:
-            file.write(b"".join(starmap(_RECORD.pack, run)))
+            file.write(b"".join(starmap(record.pack, run)))
             ends.append(file.tell())
             run = sorted(islice(placed, _RUN))
         file.flush()
-        yield from heapq.merge(*(_run(file, start, end)
+        yield from heapq.merge(*(_run(file, record, start, end)
                                  for start, end in zip(ends, ends[1:])))
 
 
-def _run(file: BinaryIO, start: int, end: int) -> Iterator[_Placed]:
+def _run(file: BinaryIO, record: Struct, start: int, end: int
+         ) -> Iterator[_Placed]:
     """The entries between two places of a file of records."""
-    for at in range(start, end, _BLOCK):
-        yield from _RECORD.iter_unpack(
-            os.pread(file.fileno(), min(_BLOCK, end - at), at))
+    block = _BLOCK * record.size
+    for at in range(start, end, block):
+        yield from record.iter_unpack(
+            os.pread(file.fileno(), min(block, end - at), at))

@@ -25,6 +25,10 @@ from gist._refusals import Ended, GistError, ProtocolError
 # read, so it always reads on, and a write to it always ends.
 AHEAD = 100
 
+# And so many searches: the lines of these go into a pipe as a whole, so that
+# writing them ends, though the program may wait for this process to read.
+SEARCHES = 16
+
 _READ = 1 << 16
 # The first of the sessions that no index has. A call in one of them shows, by
 # its answer, that all calls before it have been answered.
@@ -38,14 +42,18 @@ _Result = TypeVar("_Result")
 class Call:
     """Lines that make so many calls, and what is known of their answers.
 
-    More than one call may only be inserts and deletes, at most AHEAD.
+    More than one call may only be inserts and deletes, at most AHEAD; or
+    searches, at most SEARCHES.
     """
 
-    __slots__ = ("lines", "count", "head", "answer")
+    __slots__ = ("lines", "count", "is_search", "head", "answer")
 
-    def __init__(self, lines: bytes, count: int = 1) -> None:
+    def __init__(self, lines: bytes, count: int = 1,
+                 is_search: bool = False) -> None:
         self.lines = lines
         self.count = count
+        #: Whether they are searches, whose answers have many lines.
+        self.is_search = is_search
         #: The front of the answers, and zeros. A read puts it here itself, so
         #: that it is kept where the read is the last that is done.
         self.head = bytearray(64)
@@ -228,23 +236,49 @@ class Program:
 
     def _read(self, call: Call) -> bytes:
         """Reads the answers of a call, and nothing behind them."""
+        if call.is_search:
+            return self._read_found(call)
         data = self._some(call)
         while b"\n" not in data:
             data += self._some(call)
-        wanted, lines = call.count, data.count(b"\n")
-        words = data[:64].split(b"\n", 1)[0].split(b" ")
-        if len(words) == 3 and words[1] == b"found" and words[2].isdigit():
-            wanted += int(words[2])
+        lines = data.count(b"\n")
+        wanted = call.count + found_in(data[:64].split(b"\n", 1)[0])
         parts = [data]
         while lines < wanted or not data.endswith(b"\n"):
             data = self._some(call)
             parts.append(data)
             lines += data.count(b"\n")
         if lines > wanted:
-            self._kill()
-            self._reap()
-            raise ProtocolError(f"{lines} lines of answers, not {wanted}")
+            raise self._senseless(f"{lines} lines of answers, not {wanted}")
         return parts[0] if len(parts) == 1 else b"".join(parts)
+
+    def _read_found(self, call: Call) -> bytes:
+        """Reads the answers of searches: each says how many lines it has."""
+        parts: List[bytes] = []
+        rest = b""
+        calls, behind = call.count, 0
+        while calls or behind or rest:
+            parts.append(self._some(call))
+            *lines, rest = (rest + parts[-1]).split(b"\n")
+            at = 0
+            while at < len(lines):
+                if behind:
+                    step = min(behind, len(lines) - at)
+                    behind -= step
+                    at += step
+                    continue
+                if not calls:
+                    raise self._senseless("more answers than calls")
+                calls -= 1
+                behind = found_in(lines[at])
+                at += 1
+        return b"".join(parts)
+
+    def _senseless(self, why: str) -> ProtocolError:
+        """Ends a program that answered what makes no sense."""
+        self._kill()
+        self._reap()
+        return ProtocolError(why)
 
     def _settle(self) -> None:
         """Reads what a call that was broken off has left unread.
@@ -324,6 +358,13 @@ _CUT_OFF = ("the index was closed by a signal handler within a call; whether "
             "that call was done isn't known")
 _FORKED = ("the index was opened before a fork, and can be used only by the "
            "process that opened it")
+
+
+def found_in(line: bytes) -> int:
+    """How many lines follow on the first one of an answer."""
+    words = line.split(b" ")
+    is_found = len(words) == 3 and words[1] == b"found" and words[2].isdigit()
+    return int(words[2]) if is_found else 0
 
 
 def _last_line(data: bytes) -> bytes:

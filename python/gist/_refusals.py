@@ -122,9 +122,9 @@ class Busy(Refused):
 
 
 class BadBox(Refused):
-    """A box with x2 < x1 or y2 < y1."""
+    """A box with x2 < x1 or y2 < y1, or of space with z2 < z1."""
     number = 6
-    advice = "x2 < x1 or y2 < y1; exchange the corners"
+    advice = "x2 < x1, y2 < y1 or z2 < z1; exchange the corners"
 
 
 class PagesFull(Refused):

@@ -7,6 +7,7 @@ import weakref
 from contextlib import suppress
 from typing import Dict, Optional
 
+from gist._entries import Kind
 from gist._program import Call, Program
 from gist._refusals import (GistError, InTransaction, NoSession,
                             ProtocolError, refusal)
@@ -25,6 +26,8 @@ class Hold:
     def __init__(self, sessions: "Sessions") -> None:
         #: Those of its index; none once it has ended.
         self.sessions: Optional[Sessions] = sessions
+        #: Which boxes its index has.
+        self.kind = sessions.kind
         #: The session, 1 to 8; 0 before it has one, and once it has ended.
         self.session = 0
         #: The commit that was asked last.
@@ -55,8 +58,9 @@ class Hold:
 class Sessions:
     """The sessions of a program."""
 
-    def __init__(self, program: Program, path: object) -> None:
+    def __init__(self, program: Program, path: object, kind: Kind) -> None:
         self.program = program
+        self.kind = kind
         self._path = path
         # (changed only by what the program does alone)
         self._holds: Dict[int, Hold] = {}

@@ -1,10 +1,11 @@
 """Transactions, and what is asked in them."""
 
 from itertools import islice
-from typing import Iterable, Optional, Sequence, Tuple, Type, TypeVar
+from typing import (Iterable, List, Optional, Sequence, Tuple, Type,
+                    TypeVar)
 
-from gist._entries import Hits, corners_of, entry_of
-from gist._program import AHEAD, Call, Program
+from gist._entries import Hits
+from gist._program import AHEAD, SEARCHES, Call, Program
 from gist._refusals import GistError, NoTransaction, ProtocolError, refusal
 from gist._sessions import Hold
 
@@ -44,6 +45,25 @@ class Reader:
         """Finds the entries whose box shares a point with this one."""
         return self._search("OVERLAP", box)
 
+    def overlap_each(self, boxes: Sequence[Sequence[int]]) -> List[Hits]:
+        """Makes the search of each of up to 16 boxes, as `overlap` does.
+
+        They are written before their answers are read. `Index.search_many`
+        makes any number of searches.
+        """
+        if len(boxes) > SEARCHES:
+            raise ValueError(f"{len(boxes)} boxes, and {SEARCHES} at most")
+        kind = self._hold.kind
+        call = self._asking(*[f"OVERLAP {kind.corners_of(box)}"
+                              for box in boxes], is_search=True)
+        lines = self._exchange(call).splitlines(keepends=True)
+        hits, at = [], 0
+        for _ in boxes:
+            count = int(self._result(lines[at][:-1], b"found "))
+            at += 1 + count
+            hits.append(Hits(count, b"".join(lines[at - count:at]), kind.box))
+        return hits
+
     def within(self, box: Sequence[int]) -> Hits:
         """Finds the entries whose box lies in this one."""
         return self._search("WITHIN", box)
@@ -51,6 +71,10 @@ class Reader:
     def equal(self, box: Sequence[int]) -> Hits:
         """Finds the entries with this box."""
         return self._search("EQUAL", box)
+
+    def covers(self, box: Sequence[int]) -> Hits:
+        """Finds the entries whose box covers this one."""
+        return self._search("COVERS", box)
 
     def abort(self) -> None:
         """Ends the transaction, and drops its changes."""
@@ -67,19 +91,21 @@ class Reader:
                 raise
 
     def _search(self, command: str, box: Sequence[int]) -> Hits:
-        answer = self._exchange(self._asking(f"{command} {corners_of(box)}"))
+        kind = self._hold.kind
+        answer = self._exchange(
+            self._asking(f"{command} {kind.corners_of(box)}"))
         head, _, lines = answer.partition(b"\n")
-        return Hits(int(self._result(head, b"found ")), lines)
+        return Hits(int(self._result(head, b"found ")), lines, kind.box)
 
     def _call(self, words: str, expected: bytes) -> bytes:
         return self._result(self._exchange(self._asking(words))[:-1],
                             expected)
 
-    def _asking(self, *calls: str) -> Call:
+    def _asking(self, *calls: str, is_search: bool = False) -> Call:
         """The call, or calls, of these words in the session."""
         session = self._hold.session
         return Call("".join([f"{session} {words}\n" for words in calls]
-                            ).encode(), len(calls))
+                            ).encode(), len(calls), is_search)
 
     def _exchange(self, call: Call) -> bytes:
         sessions = self._hold.sessions
@@ -129,11 +155,11 @@ class Transaction(Reader):
 
     def insert(self, row: int, box: Sequence[int]) -> None:
         """Adds an entry; it must not be there."""
-        self._call(f"INSERT {entry_of(row, box)}", b"inserted")
+        self._call(f"INSERT {self._hold.kind.entry_of(row, box)}", b"inserted")
 
     def delete(self, row: int, box: Sequence[int]) -> None:
         """Takes an entry away; it must be there, with just this box."""
-        self._call(f"DELETE {entry_of(row, box)}", b"deleted")
+        self._call(f"DELETE {self._hold.kind.entry_of(row, box)}", b"deleted")
 
     def insert_many(self,
                     entries: Iterable[Tuple[int, Sequence[int]]]) -> int:
@@ -196,6 +222,7 @@ class Transaction(Reader):
     def _write_many(self, command: str, expected: bytes,
                     entries: Iterable[Tuple[int, Sequence[int]]]) -> int:
         rest = iter(entries)
+        entry_of = self._hold.kind.entry_of
         count = 0
         while True:
             calls = [f"{command} {entry_of(row, box)}"

@@ -47,10 +47,31 @@ class Calls(Case):
             self.assertEqual(rows(t.within((20, -3, 45, 3))), [2, 3])
             self.assertEqual(rows(t.equal(box_of(9))), [9])
             self.assertEqual(list(t.equal((0, 0, 0, 0))), [])
+            self.assertEqual(rows(t.covers((21, 0, 22, 1))), [2])
+            self.assertEqual(list(t.covers((19, 0, 22, 1))), [])
             self.assertEqual(list(t.overlap(PLANE)), entries(1, 40))
             self.assertEqual(t.overlap(PLANE).count, 39)
             (row, box), = t.equal(box_of(3))
             self.assertEqual((row, box.x1, box.y2), (3, 30, 3))
+
+    def test_many_searches(self) -> None:
+        self.new()
+        self.fill(1, 40)
+        with gist.open(self.path) as index:
+            boxes = [box_of(row) for row in range(1, 40)] + [PLANE]
+            hits = index.search_many(boxes)
+            self.assertEqual([rows(it) for it in hits[:-1]],
+                             [rows(index.search(it)) for it in boxes[:-1]])
+            self.assertEqual(list(hits[-1]), entries(1, 40))
+            self.assertEqual(index.search_many([]), [])
+            with self.assertRaises(gist.BadBox):
+                index.search_many([PLANE, (1, 0, 0, 0)])
+            with index.reading() as t:
+                self.assertEqual(
+                    list(map(len, t.overlap_each([(0, 0, 0, 0)] * 16))),
+                    [len(index.search((0, 0, 0, 0)))] * 16)
+                with self.assertRaises(ValueError):
+                    t.overlap_each([PLANE] * 17)
 
     def test_order_is_by_row_and_box(self) -> None:
         self.new()

@@ -8,6 +8,7 @@ from typing import Iterator, List, Tuple
 
 import gist
 from gist import _load
+from gist._entries import KINDS
 from gist._place import place_of
 from gist._table import BadLine, entries_of
 from tests import PLANE, Case, box_of, entries
@@ -50,13 +51,14 @@ class Curve(unittest.TestCase):
         wanted = scattered(1050)
         wanted.append((gist.MAX_ROW, gist.Box(gist.MIN_CORNER, gist.MIN_CORNER,
                                               gist.MAX_CORNER, 0)))
-        at_once = list(_load._sorted(wanted))
+        at_once = list(_load._sorted(KINDS[1], wanted))
         self.assertEqual(at_once, sorted(at_once))
         self.assertEqual(sorted((it[1], gist.Box(*it[2:])) for it in at_once),
                          sorted(wanted))
         for run in (1, 100, 350, 1051, 1052):
             with unittest.mock.patch.object(_load, "_RUN", run):
-                self.assertEqual(list(_load._sorted(wanted)), at_once)
+                self.assertEqual(list(_load._sorted(KINDS[1], wanted)),
+                                 at_once)
 
 
 class Load(Case):

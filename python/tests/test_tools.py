@@ -9,7 +9,7 @@ import time
 import unittest.mock
 import xml.etree.ElementTree
 from pathlib import Path
-from typing import List, Tuple
+from typing import List, Sequence, Tuple
 
 import gist
 from gist import _draw
@@ -20,7 +20,7 @@ F_SETPIPE_SZ = 1031
 SVG = "{http://www.w3.org/2000/svg}"
 
 
-def lines_of(found: List[Tuple[int, gist.Box]]) -> str:
+def lines_of(found: Sequence[Tuple[int, Sequence[int]]]) -> str:
     """The lines of a table of these entries."""
     return "".join(f"{row},{','.join(map(str, box))}\n"
                    for row, box in found)
@@ -38,6 +38,13 @@ class Tool(Case):
             cwd=self.folder, text=True, **options,  # type: ignore
             env={**os.environ, "GIST": PROGRAM,
                  "PYTHONPATH": str(REPOSITORY / "python")})
+
+    def run_script(self, name: str, *words: object
+                   ) -> "subprocess.CompletedProcess[str]":
+        """Runs a script of the repository."""
+        return subprocess.run([str(REPOSITORY / name), *map(str, words)],
+                              stdout=subprocess.PIPE, stderr=subprocess.PIPE,
+                              stdin=subprocess.DEVNULL, text=True, timeout=60)
 
     def run_tool(self, *words: object, lines: str = "",
                  status: int = 0) -> Tuple[str, str]:

@@ -13,9 +13,9 @@ use Rattle.std.proofs.lemmas.List.{append_assoc, append-nil, drop_all, length-ap
 use Rattle.std.proofs.lemmas.Slice.{drop-append-drop}
 use lib.Seq.{take-append_seam}
 use Rattle.gx_geom.specs.Rectangles.{Rectangle, IsBox, union, area, overlaps, within, rectangle_cmp, rectangle_of}
-use Rattle.gx_geom.specs.BoxLaws.{within_corners, corners_within, overlap_corners, corners_overlap, same_corners, lesser_at_most, at_most_greater, at_most_lesser, greater_at_most, at_most_through}
+use Rattle.gx_geom.specs.BoxLaws.{within_through, within_corners, corners_within, overlap_corners, corners_overlap, same_corners, lesser_at_most, at_most_greater, at_most_lesser, greater_at_most, at_most_through}
 use Rattle.gx_machine.specs.declared.query.Query.{Query}
-use Rattle.gx_machine.specs.declared.query.Query.TheVariants.{Overlap, Within, Equal}
+use Rattle.gx_machine.specs.declared.query.Query.TheVariants.{Overlap, Within, Equal, Covers}
 use Rattle.gx_machine.specs.Keys.{keys, key_matches}
 use Rattle.gx_split.specs.Split.{measure, split_sides}
 use Rattle.gx_split.proofs.Wastes.{fair_split}
@@ -102,6 +102,7 @@ match_is_consistent (Within q) k b is matched inside = within_covered k b q is m
 match_is_consistent (Equal q) k b is matched inside =
     let same : k ≡ q = same_corners k q (same_order (rectangle_cmp k q) matched) in
     subst (λ z. within z b ≡ true) same inside
+match_is_consistent (Covers q) k b is matched inside = within_through q k b matched inside
 
 pub split_leaves_each : (xs : List Rectangle) (least : ℕ) → 1 ≤ least → 2 * least ≤ length xs → LeavesEach (length xs) least (split_sides (measure union area) xs least)
 split_leaves_each xs least one enough =

@@ -12,7 +12,7 @@ use Rattle.std.proofs.lemmas.Bool.{and_parts, and_from}
 use Rattle.gx_geom.specs.Rectangles.{Rectangle, IsBox, overlaps, within, rectangle_cmp, rectangle_of}
 use Rattle.gx_geom.specs.BoxLaws.{at_most, tests_at_most, same_corners}
 use Rattle.gx_machine.specs.declared.query.Query.{Query}
-use Rattle.gx_machine.specs.declared.query.Query.TheVariants.{Overlap, Within, Equal}
+use Rattle.gx_machine.specs.declared.query.Query.TheVariants.{Overlap, Within, Equal, Covers}
 use Rattle.gx_machine.specs.Keys.{keys, key_matches}
 use Rattle.gx_class.specs.Boxes.{may_match}
 use Rattle.gx_class.specs.BoxKeyLaws.{same_order}
@@ -129,12 +129,14 @@ pub key_limits_tell : (q : Query Rectangle) (k : Rectangle) → IsBox k
 key_limits_tell (Overlap q) k is = meeting_tells q k is
 key_limits_tell (Within q) k is = lying_in_tells q k is
 key_limits_tell (Equal q) k is = same_tells q k
+key_limits_tell (Covers q) k is = covering_tells q k is
 
 pub bound_limits_tell : (q : Query Rectangle) (b : Rectangle) → IsBox b
     → are_between (bound_limits q).low (bound_limits q).high (corners b) ≡ may_match q b
 bound_limits_tell (Overlap q) b is = meeting_tells q b is
 bound_limits_tell (Within q) b is = meeting_tells q b is
 bound_limits_tell (Equal q) b is = covering_tells q b is
+bound_limits_tell (Covers q) b is = covering_tells q b is
 
 pub by_limits : (low high xs : List ℤ) (l : Limits) → limits low high ≡ l → are_between low high xs ≡ are_between l.low l.high xs
 by_limits low high xs l e = ap (λ m. are_between m.low m.high xs) e

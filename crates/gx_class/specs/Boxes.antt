@@ -3,13 +3,14 @@ use Rattle.std.specs.Prelude.{ℕ, ◌-◌, ◌==◌, ℤ, int_le, Bool, ◌&&�
 use Rattle.std.specs.Int.{w32, cast_unsigned, cast_signed, to_be_bytes, from_be_bytes}
 use Rattle.gx_geom.specs.Rectangles.{Rectangle, rectangle_of, overlaps, within, union, area}
 use Rattle.gx_machine.specs.declared.query.Query.{Query}
-use Rattle.gx_machine.specs.declared.query.Query.TheVariants.{Overlap, Within, Equal}
+use Rattle.gx_machine.specs.declared.query.Query.TheVariants.{Overlap, Within, Equal, Covers}
 
 -- whether a box below the bound may match the query
 abbrev pub may_match : Query Rectangle → Rectangle → Bool
 may_match (Overlap q) bound = overlaps bound q
 may_match (Within q) bound = overlaps bound q
 may_match (Equal q) bound = within q bound
+may_match (Covers q) bound = within q bound
 
 -- by how much the bound's area grows, and the bound's area
 abbrev pub cost : Rectangle → Rectangle → ℕ × ℕ

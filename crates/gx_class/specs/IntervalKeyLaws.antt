@@ -8,10 +8,10 @@ use Rattle.std.proofs.lemmas.Cmp.{on_total, then_total, int_cmp_total}
 use Rattle.std.proofs.lemmas.List.{length-append}
 use Rattle.std.specs.Cmp.{IsTotalOrder}
 use Rattle.gx_geom.specs.Spans.{Span, IsInterval, meets, lies_in, span_cmp, span_of, hull, size}
-use Rattle.gx_geom.specs.SpanLaws.{ends_in, ends_meet, meet_by_ends, same_ends}
+use Rattle.gx_geom.specs.SpanLaws.{lies_in_through, ends_in, ends_meet, meet_by_ends, same_ends}
 use Rattle.gx_geom.specs.BoxLaws.{at_most_through, lesser_at_most, at_most_greater}
 use Rattle.gx_machine.specs.declared.query.Query.{Query}
-use Rattle.gx_machine.specs.declared.query.Query.TheVariants.{Overlap, Within, Equal}
+use Rattle.gx_machine.specs.declared.query.Query.TheVariants.{Overlap, Within, Equal, Covers}
 use Rattle.gx_machine.specs.Keys.{keys, key_matches}
 use Rattle.gx_class.specs.BoxKeyLaws.{same_order, same_halves}
 use Rattle.gx_class.specs.Halving.{halves_by_order}
@@ -54,6 +54,7 @@ match_is_consistent (Within q) k b is matched inside = inside_covered k b q is.i
 match_is_consistent (Equal q) k b is matched inside =
     let same : k ≡ q = same_ends k q (same_order (span_cmp k q) matched) in
     subst (λ z. lies_in z b ≡ true) same inside
+match_is_consistent (Covers q) k b is matched inside = lies_in_through q k b matched inside
 
 wider : (lo hi less more : ℤ) → lo ≤ℤ hi → less ≤ℤ lo → hi ≤ℤ more → unsigned_abs (hi -ℤ lo) ≤ unsigned_abs (more -ℤ less)
 wider lo hi less more in_order low high = omega (arith, ints)

@@ -4,13 +4,14 @@ use Rattle.std.specs.Int.{w64, cast_unsigned, cast_signed, to_be_bytes, from_be_
 use Rattle.gx_geom.specs.Spans.{Span, span_of, span_cmp, meets, lies_in, hull, size}
 use Rattle.gx_machine.specs.Keys.{keys, key_matches}
 use Rattle.gx_machine.specs.declared.query.Query.{Query}
-use Rattle.gx_machine.specs.declared.query.Query.TheVariants.{Overlap, Within, Equal}
+use Rattle.gx_machine.specs.declared.query.Query.TheVariants.{Overlap, Within, Equal, Covers}
 
 -- whether an interval below the bound may match the query
 abbrev pub may_match : Query Span → Span → Bool
 may_match (Overlap q) bound = meets bound q
 may_match (Within q) bound = meets bound q
 may_match (Equal q) bound = lies_in q bound
+may_match (Covers q) bound = lies_in q bound
 
 -- whether an interval passes, as a bound or as an entry's key
 abbrev pub interval_passes : (of_bounds : Bool) → Query Span → Span → Bool

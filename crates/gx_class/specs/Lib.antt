@@ -1,3 +1,4 @@
+pub mod BoxBytes
 pub mod BoxKeyLaws
 pub mod BoxProbeLaws
 pub mod BoxReadings
@@ -5,6 +6,7 @@ pub mod Boxes
 pub mod Counts
 pub mod Halving
 pub mod HalvingLaws
+pub mod IntervalBytes
 pub mod IntervalKeyLaws
 pub mod IntervalReadings
 pub mod Intervals
@@ -12,8 +14,10 @@ pub mod Numbers
 pub mod Probes
 pub mod Raised
 pub mod Sides
+pub mod SolidBytes
 pub mod SolidKeyLaws
 pub mod SolidKeys
 pub mod SolidProbeLaws
 pub mod SolidProbes
 pub mod SolidReadings
+pub mod Traits

@@ -3,7 +3,7 @@ use Rattle.std.specs.Prelude.{ℤ, pos, negsuc, int_le, FitsSigned, Bool, true, 
 use Rattle.std.specs.Int.{w32}
 use Rattle.gx_geom.specs.Rectangles.{Rectangle}
 use Rattle.gx_machine.specs.declared.query.Query.{Query}
-use Rattle.gx_machine.specs.declared.query.Query.TheVariants.{Overlap, Within, Equal}
+use Rattle.gx_machine.specs.declared.query.Query.TheVariants.{Overlap, Within, Equal, Covers}
 
 -- x1, y1, x2 and y2
 abbrev pub corners : Rectangle → List ℤ
@@ -53,9 +53,11 @@ abbrev pub key_limits : Query Rectangle → Limits
 key_limits (Overlap q) = meeting q
 key_limits (Within q) = lying_in q
 key_limits (Equal q) = limits (corners q) (corners q)
+key_limits (Covers q) = covering q
 
 -- of the bounds below which a key may match it
 abbrev pub bound_limits : Query Rectangle → Limits
 bound_limits (Overlap q) = meeting q
 bound_limits (Within q) = meeting q
 bound_limits (Equal q) = covering q
+bound_limits (Covers q) = covering q

@@ -6,11 +6,11 @@ use Rattle.std.proofs.lemmas.Int.{ints}
 use Rattle.std.proofs.lemmas.Grind.{common_steps}
 use Rattle.std.proofs.lemmas.List.{append_assoc, length-append}
 use Rattle.gx_geom.specs.Solids.{Solid, IsSolid, union, volume, overlaps, within, solid_cmp, solid_of, along_x, along_y, along_z}
-use Rattle.gx_geom.specs.SolidLaws.{within_corners, overlap_corners, same_corners}
+use Rattle.gx_geom.specs.SolidLaws.{within_through, within_corners, overlap_corners, same_corners}
 use Rattle.gx_geom.specs.SpanLaws.{in_by_ends, meet_by_ends}
 use Rattle.std.specs.Cmp.Derive.{both_true}
 use Rattle.gx_machine.specs.declared.query.Query.{Query}
-use Rattle.gx_machine.specs.declared.query.Query.TheVariants.{Overlap, Within, Equal}
+use Rattle.gx_machine.specs.declared.query.Query.TheVariants.{Overlap, Within, Equal, Covers}
 use Rattle.gx_machine.specs.Keys.{keys, key_matches}
 use Rattle.gx_split.specs.Split.{measure, split_sides}
 use Rattle.gx_split.proofs.Wastes.{fair_split}
@@ -67,6 +67,7 @@ match_is_consistent (Within q) k b is matched inside = within_covered k b q is m
 match_is_consistent (Equal q) k b is matched inside =
     let same : k ≡ q = same_corners k q (same_order (solid_cmp k q) matched) in
     subst (λ z. within z b ≡ true) same inside
+match_is_consistent (Covers q) k b is matched inside = within_through q k b matched inside
 
 pub split_leaves_each : (xs : List Solid) (least : ℕ) → 1 ≤ least → 2 * least ≤ length xs → LeavesEach (length xs) least (split_sides (measure union volume) xs least)
 split_leaves_each xs least one enough =

@@ -2,7 +2,7 @@
 use Rattle.std.specs.Prelude.{ℕ, ◌+◌, ◌-◌, ◌==◌, ℤ, int_le, Bool, ◌&&◌, if◌then◌else◌, List, ◌++◌, length, slice_range, Option, Some, None}
 use Rattle.gx_geom.specs.Solids.{Solid, solid_of, overlaps, within, union, volume}
 use Rattle.gx_machine.specs.declared.query.Query.{Query}
-use Rattle.gx_machine.specs.declared.query.Query.TheVariants.{Overlap, Within, Equal}
+use Rattle.gx_machine.specs.declared.query.Query.TheVariants.{Overlap, Within, Equal, Covers}
 use Rattle.gx_class.specs.Boxes.{number_bytes, number_of}
 
 -- whether a box below the bound may match the query
@@ -10,6 +10,7 @@ abbrev pub may_match : Query Solid → Solid → Bool
 may_match (Overlap q) bound = overlaps bound q
 may_match (Within q) bound = overlaps bound q
 may_match (Equal q) bound = within q bound
+may_match (Covers q) bound = within q bound
 
 -- by how much the bound's volume grows, and the bound's volume
 abbrev pub cost : Solid → Solid → ℕ × ℕ

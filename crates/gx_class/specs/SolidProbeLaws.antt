@@ -10,7 +10,7 @@ use Rattle.gx_geom.specs.Solids.{Solid, IsSolid, overlaps, within, solid_cmp}
 use Rattle.gx_geom.specs.BoxLaws.{tests_at_most}
 use Rattle.gx_geom.specs.SolidLaws.{same_corners}
 use Rattle.gx_machine.specs.declared.query.Query.{Query}
-use Rattle.gx_machine.specs.declared.query.Query.TheVariants.{Overlap, Within, Equal}
+use Rattle.gx_machine.specs.declared.query.Query.TheVariants.{Overlap, Within, Equal, Covers}
 use Rattle.gx_machine.specs.Keys.{keys, key_matches}
 use Rattle.gx_class.specs.BoxKeyLaws.{same_order}
 use Rattle.gx_class.specs.BoxProbeLaws.{above_least, below_greatest, both_ways, squeezed, self_equal}
@@ -105,8 +105,10 @@ pub key_limits_tell : (q : Query Solid) (k : Solid) → IsSolid k → lie_betwee
 key_limits_tell (Overlap q) k is = meeting_tells q k is
 key_limits_tell (Within q) k is = lying_in_tells q k is
 key_limits_tell (Equal q) k is = same_tells q k
+key_limits_tell (Covers q) k is = covering_tells q k is
 
 pub bound_limits_tell : (q : Query Solid) (b : Solid) → IsSolid b → lie_between (bound_limits q) b ≡ may_match q b
 bound_limits_tell (Overlap q) b is = meeting_tells q b is
 bound_limits_tell (Within q) b is = meeting_tells q b is
 bound_limits_tell (Equal q) b is = covering_tells q b is
+bound_limits_tell (Covers q) b is = covering_tells q b is

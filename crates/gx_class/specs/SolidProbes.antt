@@ -2,7 +2,7 @@
 use Rattle.std.specs.Prelude.{ℤ, Bool, ◌&&◌, List, [], ◌∷◌}
 use Rattle.gx_geom.specs.Solids.{Solid}
 use Rattle.gx_machine.specs.declared.query.Query.{Query}
-use Rattle.gx_machine.specs.declared.query.Query.TheVariants.{Overlap, Within, Equal}
+use Rattle.gx_machine.specs.declared.query.Query.TheVariants.{Overlap, Within, Equal, Covers}
 use Rattle.gx_class.specs.Probes.{Limits, limits, least, greatest, are_between}
 
 -- the first four corners as they are written, and the last four
@@ -48,9 +48,11 @@ abbrev pub key_limits : Query Solid → SolidLimits
 key_limits (Overlap q) = meeting q
 key_limits (Within q) = lying_in q
 key_limits (Equal q) = the_same q
+key_limits (Covers q) = covering q
 
 -- of the bounds below which a key may match it
 abbrev pub bound_limits : Query Solid → SolidLimits
 bound_limits (Overlap q) = meeting q
 bound_limits (Within q) = meeting q
 bound_limits (Equal q) = covering q
+bound_limits (Covers q) = covering q

@@ -85,7 +85,7 @@ impl KeyClass for Box2Class {
     fn consistent(query: &Query<Box2>, bound: &Box2) -> bool {
         match query {
             Query::Overlap(q) | Query::Within(q) => bound.overlaps(q),
-            Query::Equal(q) => bound.covers(q),
+            Query::Equal(q) | Query::Covers(q) => bound.covers(q),
         }
     }
 
@@ -94,6 +94,7 @@ impl KeyClass for Box2Class {
             Query::Overlap(q) => key.overlaps(q),
             Query::Within(q) => key.within(q),
             Query::Equal(q) => key == q,
+            Query::Covers(q) => key.covers(q),
         }
     }
 

@@ -71,7 +71,7 @@ impl KeyClass for Box3Class {
     fn consistent(query: &Query<Box3>, bound: &Box3) -> bool {
         match query {
             Query::Overlap(q) | Query::Within(q) => bound.overlaps(q),
-            Query::Equal(q) => bound.covers(q),
+            Query::Equal(q) | Query::Covers(q) => bound.covers(q),
         }
     }
 
@@ -80,6 +80,7 @@ impl KeyClass for Box3Class {
             Query::Overlap(q) => key.overlaps(q),
             Query::Within(q) => key.within(q),
             Query::Equal(q) => key == q,
+            Query::Covers(q) => key.covers(q),
         }
     }
 

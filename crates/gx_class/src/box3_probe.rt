@@ -92,13 +92,14 @@ impl Probing for Box3Class {
             Query::Overlap(q) => SolidProbe::meeting(q),
             Query::Within(q) => SolidProbe::lying_in(q),
             Query::Equal(q) => SolidProbe::same(q),
+            Query::Covers(q) => SolidProbe::covering(q),
         }
     }
 
     fn probe_bounds(query: &Query<Box3>) -> SolidProbe {
         match query {
             Query::Overlap(q) | Query::Within(q) => SolidProbe::meeting(q),
-            Query::Equal(q) => SolidProbe::covering(q),
+            Query::Equal(q) | Query::Covers(q) => SolidProbe::covering(q),
         }
     }
 

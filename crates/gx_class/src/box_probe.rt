@@ -103,13 +103,14 @@ impl Probing for Box2Class {
             Query::Overlap(q) => BoxProbe::meeting(q),
             Query::Within(q) => BoxProbe::lying_in(q),
             Query::Equal(q) => BoxProbe::same(q),
+            Query::Covers(q) => BoxProbe::covering(q),
         }
     }
 
     fn probe_bounds(query: &Query<Box2>) -> BoxProbe {
         match query {
             Query::Overlap(q) | Query::Within(q) => BoxProbe::meeting(q),
-            Query::Equal(q) => BoxProbe::covering(q),
+            Query::Equal(q) | Query::Covers(q) => BoxProbe::covering(q),
         }
     }
 

@@ -98,7 +98,7 @@ impl KeyClass for IntervalClass {
     fn consistent(query: &Query<Interval>, bound: &Interval) -> bool {
         match query {
             Query::Overlap(q) | Query::Within(q) => bound.overlaps(q),
-            Query::Equal(q) => bound.covers(q),
+            Query::Equal(q) | Query::Covers(q) => bound.covers(q),
         }
     }
 
@@ -107,6 +107,7 @@ impl KeyClass for IntervalClass {
             Query::Overlap(q) => key.overlaps(q),
             Query::Within(q) => key.within(q),
             Query::Equal(q) => key == q,
+            Query::Covers(q) => key.covers(q),
         }
     }
 

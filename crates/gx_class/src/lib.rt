@@ -9,6 +9,7 @@ mod box_probe;
 mod class;
 mod interval_class;
 mod interval_probe;
+mod keys;
 pub mod laws;
 mod probe;
 
@@ -19,4 +20,5 @@ pub use box3_probe::SolidProbe;
 pub use class::{KeyClass, MAX_KEY};
 pub use interval_class::IntervalClass;
 pub use interval_probe::IntervalProbe;
+pub use keys::ReadKeys;
 pub use probe::Probing;

@@ -2,9 +2,10 @@
 use Rattle.std.proofs.Common.{◌≡◌, ℕ, Bool, true, false, List, inl, inr, ap, sym, subst, length, arith}
 use Rattle.std.specs.Prelude.{Result, Ok, Err, OnOk}
 use Rattle.std.specs.Io.KnownBytes.{Appends}
-use Rattle.gx_geom.specs.Rectangles.{Rectangle}
 use Rattle.gx_machine.specs.declared.entry.Entry.{Entry}
 use Rattle.gx_machine.specs.Keys.{Members}
+use Rattle.gx_script.specs.Corners.{Grammar}
+use Rattle.gx_class.specs.Traits.{traits_of}
 use Rattle.gx_class.specs.declared.class.KeyClass.{Ghosts}
 use Rattle.gx_disk.specs.Device.{Device}
 use Rattle.gx_node.specs.Reading.{format_of}
@@ -23,7 +24,7 @@ use Rattle.gx_commands.specs.Streams.{Outputs}
 use Rattle.gx_commands.specs.Dumping.{DumpsOver, OfTree, TellsDump, TellsKept}
 use Rattle.gx_commands.proofs.Refusing.{refused_status}
 
-module _ {C D : Type 0} (shape : Members Rectangle) (is_key : Rectangle → Bool) (said : List ℕ → Rectangle) (class : Ghosts C Rectangle) (state : D → Device) where
+module _ {B C D : Type 0} (grammar : Grammar B) (shape : Members B) (is_key : B → Bool) (said : List ℕ → B) (class : Ghosts C B) (state : D → Device) where
   zero_not : {A : Type 0} → ◌≡◌ {A = ℕ} 0 1 → A
   zero_not is = absurd (let bad : ⊥ = omega arith in bad)
 
@@ -34,14 +35,14 @@ module _ {C D : Type 0} (shape : Members Rectangle) (is_key : Rectangle → Bool
   dumped_well (Err (fault.Refused why)) from to well told = zero_not told.status_is
 
   -- the last commit of an engine that was opened has the number of the set that the log keeps
-  last_is : (p : Parameters) (seen : List ℕ) (e : Device) (engine : Parts Rectangle D) (kept : HoldsFound shape is_key said (format_of class) p seen e engine)
+  last_is : (p : Parameters) (seen : List ℕ) (e : Device) (engine : Parts B D) (kept : HoldsFound shape is_key said (format_of class) p seen e engine)
       → engine.sessions.latest ≡ number_of (known_for shape is_key said (format_of class) p) (records_of kept.found.log.bodies)
   last_is p seen e engine kept =
-      let none : length kept.index.older ≡ 0 = ap (λ (sets : List (List (Entry Rectangle))). length sets) kept.set.older in
+      let none : length kept.index.older ≡ 0 = ap (λ (sets : List (List (Entry B))). length sets) kept.set.older in
       omega (arith, kept.holds.latest, kept.holds.whole.sets.last, kept.set.oldest, none)
 
   pub tells_kept : (number frames : ℕ) (disk after : D) (from to : Outputs) → (state disk).honest ≡ true
-      → DumpsOver shape is_key said class state number frames disk after from to 0 → TellsKept shape is_key said class state number disk from to
+      → DumpsOver grammar shape (traits_of is_key said class) state number frames disk after from to 0 → TellsKept grammar shape (traits_of is_key said class) state number disk from to
   tells_kept number frames disk after from to honest (inl refused) =
       zero_not (refused_status shape is_key said class state number refused.refused.why refused.refused.disk after from to 0 refused.told)
   tells_kept number frames disk after from to honest (inr dumped) =
@@ -50,12 +51,12 @@ module _ {C D : Type 0} (shape : Members Rectangle) (is_key : Rectangle → Bool
       let is = dumped.opening.opened honest in
       let p = is.parameters in
       let kept = is.holds in
-      let well = dumped_well {P = OfTree shape is_key said class state engine (λ t. Appends from.replies.bytes dump.between.replies.bytes (dump_text engine.sessions.latest t))}
+      let well = dumped_well {P = OfTree shape (traits_of is_key said class) state engine (λ t. Appends from.replies.bytes dump.between.replies.bytes (dump_text grammar engine.sessions.latest t))}
       dump.result dump.between to dump.text dump.told in
       let tree = tree_now (class_of shape is_key (limits_of p)) kept.index in
-      let text = dump_text (number_of (known_for shape is_key said (format_of class) p) (records_of kept.found.log.bodies)) tree in
+      let text = dump_text grammar (number_of (known_for shape is_key said (format_of class) p) (records_of kept.found.log.bodies)) tree in
       let wrote : Appends from.replies.bytes dump.between.replies.bytes text =
-      subst (λ (n : ℕ). Appends from.replies.bytes dump.between.replies.bytes (dump_text n tree)) (last_is p (state disk).seen (state engine.volume.shelf.disk) engine kept)
+      subst (λ (n : ℕ). Appends from.replies.bytes dump.between.replies.bytes (dump_text grammar n tree)) (last_is p (state disk).seen (state engine.volume.shelf.disk) engine kept)
       (well.0 (limits_of p) kept.bodies kept.index kept.holds) in
       record {
         parameters = p;

@@ -2,12 +2,12 @@
 use Rattle.std.proofs.Common.{◌≡◌, ◌≤◌, ℕ, ◌+◌, Bool, true, false, List, [], ◌∷◌, Option, inl, inr, refl, ap, sym, subst, ◌∙◌, arith}
 use Rattle.std.specs.Prelude.{Result, Ok, Err, OnOk}
 use Rattle.std.specs.Io.KnownBytes.{Appends}
-use Rattle.gx_geom.specs.Rectangles.{Rectangle}
 use Rattle.gx_geom.specs.declared.refusal.Refusal.{Refusal}
 use Rattle.gx_machine.specs.declared.entry.Entry.{Entry}
 use Rattle.gx_machine.specs.Keys.{Members}
+use Rattle.gx_script.specs.Corners.{Grammar}
 use Rattle.gx_script.specs.Scripts.{asked}
-use Rattle.gx_plain.specs.Boxes.{box_keys}
+use Rattle.gx_class.specs.Traits.{traits_of}
 use Rattle.gx_class.specs.declared.class.KeyClass.{Ghosts}
 use Rattle.gx_disk.specs.Device.{Device, MayLeave}
 use Rattle.gx_node.specs.Reading.{format_of, is_node}
@@ -37,16 +37,16 @@ use Rattle.gx_commands.specs.Endings.{EndsBy, EndsSettling, HasRun, RunsOver, Te
 use Rattle.gx_commands.proofs.Forgetting.{script_forgets}
 use Rattle.gx_commands.proofs.Refusing.{refused_status}
 
-module _ {C D : Type 0} (shape : Members Rectangle) (is_key : Rectangle → Bool) (said : List ℕ → Rectangle) (class : Ghosts C Rectangle) (state : D → Device) where
-  abbrev makes : Parts Rectangle D → Event Rectangle → Outcome Rectangle → Parts Rectangle D → Type 0
-  makes = Makes shape is_key said class state
+module _ {B C D : Type 0} (grammar : Grammar B) (shape : Members B) (is_key : B → Bool) (said : List ℕ → B) (class : Ghosts C B) (state : D → Device) where
+  abbrev makes : Parts B D → Event B → Outcome B → Parts B D → Type 0
+  makes = Makes shape (traits_of is_key said class) state
 
   zero_not : {A : Type 0} → ◌≡◌ {A = ℕ} 0 1 → A
   zero_not is = absurd (let bad : ⊥ = omega arith in bad)
 
   -- with status 0 nothing was met, and the index was settled
-  met_nothing : (met : Bool) (index : State Rectangle D) (after : D) (from to : Outputs) → EndsBy shape is_key said class state met index after from to 0
-      → (met ≡ false) × EndsSettling shape is_key said class state index after from to 0
+  met_nothing : (met : Bool) (index : State B D) (after : D) (from to : Outputs) → EndsBy shape (traits_of is_key said class) state met index after from to 0
+      → (met ≡ false) × EndsSettling shape (traits_of is_key said class) state index after from to 0
   met_nothing true index after from to ends = zero_not ends.0
   met_nothing false index after from to ends = (refl, ends)
 
@@ -55,12 +55,12 @@ module _ {C D : Type 0} (shape : Members Rectangle) (is_key : Rectangle → Bool
   settled_well (Ok done) from to well told = (well, told.1)
   settled_well (Err why) from to well told = zero_not told.status_is
 
-  module _ (never : (l : Limits) → AskedEnds shape is_key said class state l) (lawful : (l : Limits) → 4 ≤ l.most → IsLawful (class_of shape is_key l)) (boxes : (l : Limits) → (class_of shape is_key l).keys ≡ box_keys) where
+  module _ (never : (l : Limits) → AskedEnds shape (traits_of is_key said class) state l) (lawful : (l : Limits) → 4 ≤ l.most → IsLawful (class_of shape is_key l)) where
     -- what a crash may leave of an index at rest stands for its last set
-    stands_last : (p : Parameters) (e : Parts Rectangle D) (bodies : List (List (Record (Entry Rectangle) (Page Rectangle)))) (i : index.State Rectangle)
+    stands_last : (p : Parameters) (e : Parts B D) (bodies : List (List (Record (Entry B) (Page B)))) (i : index.State B)
         → IsLawful (class_of shape is_key (limits_of p))
         → Holds (class_of shape is_key (limits_of p)) (reading_of said (format_of class)) (format_of class) (is_node (format_of class)) (state e.volume.shelf.disk) e bodies i
-        → IsAtRest e → (image : List ℕ) → MayLeave (state e.volume.shelf.disk) image → StandsForLast shape is_key said class state p i image
+        → IsAtRest e → (image : List ℕ) → MayLeave (state e.volume.shelf.disk) image → StandsForLast shape (traits_of is_key said class) state p i image
     stands_last p e bodies i lc h rest image may =
         let stands = crash_leaves (known_for shape is_key said (format_of class) p) (reading shape is_key said (format_of class)) (known_lawful (class_of shape is_key (limits_of p)) lc)
         _ _ _ _ bodies i.log image h.keeps.runs.up may in
@@ -68,9 +68,9 @@ module _ {C D : Type 0} (shape : Members Rectangle) (is_key : Rectangle → Bool
         record { stands = stands; last = omega (arith, gated, stands.stands.at_least, stands.stands.at_most) }
 
     ran_durably : (number frames : ℕ) (disk after : D) (had left : Stream) (from to : Outputs) → (state disk).honest ≡ true
-        → (opened : WasOpened shape is_key said class state number frames disk after had left from to 0)
-        → HasRun shape is_key said class state (watched_over shape is_key said class state opened.engine) after had left from to 0
-        → EndsDurably shape is_key said class state number disk after had left from to
+        → (opened : WasOpened grammar shape (traits_of is_key said class) state number frames disk after had left from to 0)
+        → HasRun grammar shape (traits_of is_key said class) state (watched_over shape (traits_of is_key said class) state opened.engine) after had left from to 0
+        → EndsDurably grammar shape (traits_of is_key said class) state number disk after had left from to
     ran_durably number frames disk after had left from to honest opened ran =
         let ended = met_nothing ran.new.met ran.new.index after ran.between to ran.ends in
         let settled = ended.1 in
@@ -78,8 +78,8 @@ module _ {C D : Type 0} (shape : Members Rectangle) (is_key : Rectangle → Bool
         let is = opened.opening.opened honest in
         let p = is.parameters in
         let lc = lawful (limits_of p) is.holds.holds.some in
-        let old : State Rectangle D = record { engine = opened.engine; ended = false } in
-        let script = script_forgets (CallsIndex makes) 1 (asked ran.done.input) (watched_over shape is_key said class state opened.engine) ran.new ran.done.text ran.done.ran in
+        let old : State B D = record { engine = opened.engine; ended = false } in
+        let script = script_forgets grammar (CallsIndex makes) 1 (asked grammar ran.done.input) (watched_over shape (traits_of is_key said class) state opened.engine) ran.new ran.done.text ran.done.ran in
         record {
           parameters = p;
           formatted = is.formatted;
@@ -93,7 +93,7 @@ module _ {C D : Type 0} (shape : Members Rectangle) (is_key : Rectangle → Bool
           settled = settled.new.engine;
           left_is = settled.left;
           runs = λ set kept.
-              let run = script_alone shape is_key said class state (limits_of p) 1 (asked ran.done.input) old ran.new.index ran.done.text (boxes (limits_of p)) refl (never (limits_of p)) lc script
+              let run = script_alone grammar shape is_key said class state (limits_of p) 1 (asked grammar ran.done.input) old ran.new.index ran.done.text refl (never (limits_of p)) lc script
               is.holds.bodies is.holds.index is.holds.holds _ (is.seen set kept) in
               let settling = settled.runs (limits_of p) run.ran.bodies run.ran.index run.ran.holds in
               record {
@@ -108,8 +108,8 @@ module _ {C D : Type 0} (shape : Members Rectangle) (is_key : Rectangle → Bool
         }
 
     pub ends_durably : (number frames : ℕ) (disk after : D) (had left : Stream) (from to : Outputs) → (state disk).honest ≡ true
-        → RunsOver shape is_key said class state number frames disk after had left from to 0
-        → EndsDurably shape is_key said class state number disk after had left from to
+        → RunsOver grammar shape (traits_of is_key said class) state number frames disk after had left from to 0
+        → EndsDurably grammar shape (traits_of is_key said class) state number disk after had left from to
     ends_durably number frames disk after had left from to honest (inl refused) = zero_not (refused_status shape is_key said class state number refused.refused.why refused.refused.disk after from to 0 refused.told)
     ends_durably number frames disk after had left from to honest (inr opened) =
         elim opened.script [

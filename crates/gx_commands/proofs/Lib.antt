@@ -1,3 +1,4 @@
+pub mod Classed
 pub mod Refusing
 pub mod Faults
 pub mod Over

@@ -3,6 +3,7 @@ use Rattle.std.proofs.Common.{◌≡◌, ℕ, Bool, List, refl}
 use Rattle.gx_geom.specs.declared.refusal.Refusal.{Refusal}
 use Rattle.gx_geom.specs.declared.refusal.Refusal.TheVariants.{Absent, BadBox, BadParameter, BadSession, Busy, CallOpen, ClaimsFull, Damaged, Device, Failed, HistoryFull, InTransaction, Memory, NoCall, NoTransaction, NotFormatted, PagesFull, PredicatesFull, Present, TooSmall}
 use Rattle.gx_machine.specs.Keys.{Members}
+use Rattle.gx_class.specs.Traits.{traits_of}
 use Rattle.gx_class.specs.declared.class.KeyClass.{Ghosts}
 use Rattle.gx_disk.specs.Device as disk
 use Rattle.gx_commands.specs.Streams.{Outputs}
@@ -37,7 +38,7 @@ told_by_text HistoryFull a b c d e f g = refl
 module _ {B C D : Type 0} (shape : Members B) (is_key : B → Bool) (said : List ℕ → B) (class : Ghosts C B) (state : D → disk.Device) where
   -- it is 1, whatever it was refused with
   pub refused_status : (number : ℕ) (why : Refusal) (disk after : D) (old new : Outputs) (status : ℕ)
-      → TellsOpening shape is_key said class state number why disk after old new status → status ≡ 1
+      → TellsOpening shape (traits_of is_key said class) state number why disk after old new status → status ≡ 1
   refused_status number Damaged disk after old new status told = told.status_is
   refused_status number (Busy s) disk after old new status told = told.0.status_is
   refused_status number NoTransaction disk after old new status told = told.0.status_is
@@ -61,7 +62,7 @@ module _ {B C D : Type 0} (shape : Members B) (is_key : B → Bool) (said : List
 
   -- a refusal that isn't told as damage is told as what it means, and the device stays
   pub told_refused : (number : ℕ) (why : Refusal) (disk : D) (old new : Outputs) (status : ℕ) → (why ≡ Damaged → ⊥) → Refuses why old new status
-      → TellsOpening shape is_key said class state number why disk disk old new status
+      → TellsOpening shape (traits_of is_key said class) state number why disk disk old new status
   told_refused number Damaged disk old new status other told = absurd (other refl)
   told_refused number (Busy s) disk old new status other told = (told, refl)
   told_refused number NoTransaction disk old new status other told = (told, refl)

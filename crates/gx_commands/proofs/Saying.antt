@@ -1,7 +1,6 @@
 -- A command leaves what a device says that it is formatted for.
 use Rattle.std.proofs.Common.{◌≡◌, ◌∙◌, sym, refl, subst, inl, inr, ⊎_elim, ℕ, ◌+◌, ◌≤◌, Bool, true, false, List, [], ◌∷◌, length, Option, arith}
 use Rattle.std.specs.Prelude.{Result, Ok, Err, MatchResult}
-use Rattle.gx_geom.specs.Rectangles.{Rectangle}
 use Rattle.gx_geom.specs.declared.refusal.Refusal.{Refusal}
 use Rattle.gx_geom.specs.declared.refusal.Refusal.TheVariants.{Absent, BadBox, BadParameter, BadSession, Busy, CallOpen, ClaimsFull, Damaged, Device as NoDevice, Failed, HistoryFull, InTransaction, Memory, NoCall, NoTransaction, NotFormatted, PagesFull, PredicatesFull, Present, TooSmall}
 use Rattle.gx_machine.specs.declared.call.Call.{Call}
@@ -12,7 +11,9 @@ use Rattle.gx_script.specs.declared.fault.ScriptFault.{ScriptFault}
 use Rattle.gx_script.specs.declared.fault.ScriptFault.TheVariants.{Read, Write}
 use Rattle.gx_script.specs.declared.line.Line.{Line}
 use Rattle.gx_script.specs.declared.line.Line.TheVariants.{Asks, Bad, Blank, Reversed}
+use Rattle.gx_script.specs.Corners.{Grammar}
 use Rattle.gx_script.specs.Scripts.{IsScript, IsStopped, IsTold}
+use Rattle.gx_class.specs.Traits.{traits_of}
 use Rattle.gx_class.specs.declared.class.KeyClass.{Ghosts}
 use Rattle.gx_disk.specs.Device.{Device, MayLeave}
 use Rattle.gx_disk.proofs.Leaving.{rested_image}
@@ -46,71 +47,71 @@ use Rattle.gx_commands.specs.Refusing.{TellsDamage, TellsOpening}
 use Rattle.gx_commands.specs.Saying.{SaysSo}
 use Rattle.gx_commands.proofs.Forgetting.{script_forgets, stopped_forgets}
 
-module _ {C D : Type 0} (shape : Members Rectangle) (is_key : Rectangle → Bool) (said : List ℕ → Rectangle) (class : Ghosts C Rectangle) (state : D → Device) (p : Parameters) where
+module _ {B C D : Type 0} (grammar : Grammar B) (shape : Members B) (is_key : B → Bool) (said : List ℕ → B) (class : Ghosts C B) (state : D → Device) (p : Parameters) where
   -- an engine holds some index of what its device is formatted for
-  record HoldsSome (e : Parts Rectangle D) : Type 0 where
-    bodies : List (List (Record (Entry Rectangle) (Page Rectangle)))
-    index : index.State Rectangle
+  record HoldsSome (e : Parts B D) : Type 0 where
+    bodies : List (List (Record (Entry B) (Page B)))
+    index : index.State B
     holds : Holds (class_of shape is_key (limits_of p)) (reading_of said (format_of class)) (format_of class) (is_node (format_of class)) (state e.volume.shelf.disk) e bodies index
 
   -- so its device says it
-  held_says : Fit p → (e : Parts Rectangle D) → HoldsSome e → SaysSo p (state e.volume.shelf.disk)
+  held_says : Fit p → (e : Parts B D) → HoldsSome e → SaysSo p (state e.volume.shelf.disk)
   held_says fit e some image may =
       let d = state e.volume.shelf.disk in
       let reads = image_head (head_of p) d.seen d.pending image may some.holds.keeps.runs.up.carries.head in
       (head_magic image p reads, head_says image p reads fit)
 
   -- events keep that
-  abbrev makes : Parts Rectangle D → Event Rectangle → Outcome Rectangle → Parts Rectangle D → Type 0
-  makes = Makes shape is_key said class state
+  abbrev makes : Parts B D → Event B → Outcome B → Parts B D → Type 0
+  makes = Makes shape (traits_of is_key said class) state
 
-  made_hold : (steps : List (Event Rectangle × Outcome Rectangle)) (old new : Parts Rectangle D) → AreMade makes old steps new → HoldsSome old → HoldsSome new
-  made_hold [] old new same some = subst (λ (e : Parts Rectangle D). HoldsSome e) (sym same) some
+  made_hold : (steps : List (Event B × Outcome B)) (old new : Parts B D) → AreMade makes old steps new → HoldsSome old → HoldsSome new
+  made_hold [] old new same some = subst (λ (e : Parts B D). HoldsSome e) (sym same) some
   made_hold (step ∷ steps) old new made some =
       let one = (made.1.steps (limits_of p) some.bodies some.index some.holds).led in
       made_hold steps made.0 new made.2 (record { bodies = one.bodies; index = one.index; holds = one.holds })
 
   -- so do a call and a script
-  calls_by : (ended : Bool) (old : State Rectangle D) (s : ℕ) (call : Call Rectangle) (reply : Reply Rectangle) (new : State Rectangle D) → CallsBy makes ended old s call reply new
+  calls_by : (ended : Bool) (old : State B D) (s : ℕ) (call : Call B) (reply : Reply B) (new : State B D) → CallsBy makes ended old s call reply new
       → HoldsSome old.engine → HoldsSome new.engine
-  calls_by true old s call reply new same some = subst (λ (i : State Rectangle D). HoldsSome i.engine) (sym same.1) some
+  calls_by true old s call reply new same some = subst (λ (i : State B D). HoldsSome i.engine) (sym same.1) some
   calls_by false old s call reply new (inl driven) some = made_hold driven.0.steps old.engine new.engine driven.0.made some
   calls_by false old s call reply new (inr given) some = made_hold given.0.1.steps old.engine new.engine given.0.1.made some
 
-  line_holds : (n : ℕ) (line : Line) (old new : State Rectangle D) (text : List ℕ) → IsTold (CallsIndex makes) n line old text new → HoldsSome old.engine → HoldsSome new.engine
-  line_holds n Blank old new text told some = subst (λ (i : State Rectangle D). HoldsSome i.engine) (sym told.1) some
-  line_holds n Bad old new text told some = subst (λ (i : State Rectangle D). HoldsSome i.engine) (sym told.1) some
-  line_holds n (Reversed session) old new text told some = subst (λ (i : State Rectangle D). HoldsSome i.engine) (sym told.1) some
+  line_holds : (n : ℕ) (line : Line B) (old new : State B D) (text : List ℕ) → IsTold grammar (CallsIndex makes) n line old text new → HoldsSome old.engine → HoldsSome new.engine
+  line_holds n Blank old new text told some = subst (λ (i : State B D). HoldsSome i.engine) (sym told.1) some
+  line_holds n Bad old new text told some = subst (λ (i : State B D). HoldsSome i.engine) (sym told.1) some
+  line_holds n (Reversed session) old new text told some = subst (λ (i : State B D). HoldsSome i.engine) (sym told.1) some
   line_holds n (Asks session call) old new text told some = calls_by old.ended old _ call told.0 new told.1 some
 
-  script_holds : (n : ℕ) (lines : List Line) (old new : State Rectangle D) (text : List ℕ) → IsScript (CallsIndex makes) n lines old text new → HoldsSome old.engine → HoldsSome new.engine
-  script_holds n [] old new text ran some = subst (λ (i : State Rectangle D). HoldsSome i.engine) (sym ran.1) some
+  script_holds : (n : ℕ) (lines : List (Line B)) (old new : State B D) (text : List ℕ) → IsScript grammar (CallsIndex makes) n lines old text new → HoldsSome old.engine → HoldsSome new.engine
+  script_holds n [] old new text ran some = subst (λ (i : State B D). HoldsSome i.engine) (sym ran.1) some
   script_holds n (line ∷ more) old new text ran some =
       script_holds (n + 1) more ran.2 new ran.1 ran.4 (line_holds n line old ran.2 ran.0 ran.3 some)
 
-  stopped_holds : (had left held holds : Option (List ℕ)) (old new : State Rectangle D) (fault : ScriptFault) → IsStopped (CallsIndex makes) had left held holds old new fault
+  stopped_holds : (had left held holds : Option (List ℕ)) (old new : State B D) (fault : ScriptFault) → IsStopped grammar (CallsIndex makes) had left held holds old new fault
       → HoldsSome old.engine → HoldsSome new.engine
   stopped_holds had left held holds old new Read stopped some = script_holds 1 stopped.done old new stopped.text stopped.ran some
   stopped_holds had left held holds old new Write stopped some =
       let w = stopped.ran in script_holds (1 + length w.before) w.after w.middle new _ w.runs (script_holds 1 w.before old w.middle w.settled w.ran some)
 
   -- and what follows a script
-  ends_hold : (met : Bool) (old : State Rectangle D) (after : D) (from to : Outputs) (status : ℕ) → EndsBy shape is_key said class state met old after from to status → Fit p
+  ends_hold : (met : Bool) (old : State B D) (after : D) (from to : Outputs) (status : ℕ) → EndsBy shape (traits_of is_key said class) state met old after from to status → Fit p
       → HoldsSome old.engine → SaysSo p (state after)
   ends_hold true old after from to status ends fit some = subst (λ (d : D). SaysSo p (state d)) (sym ends.1.1.1) (held_says fit old.engine some)
   ends_hold false old after from to status ends fit some =
       let ran = ends.runs (limits_of p) some.bodies some.index some.holds in
       subst (λ (d : D). SaysSo p (state d)) (sym ends.left) (held_says fit ends.new.engine (record { bodies = ran.bodies; index = ran.index; holds = ran.holds }))
 
-  script_says : (engine : Parts Rectangle D) (after : D) (had left : Stream) (from to : Outputs) (status : ℕ)
-      → RunsScript shape is_key said class state (watched_over shape is_key said class state engine) after had left from to status → Fit p → HoldsSome engine → SaysSo p (state after)
+  script_says : (engine : Parts B D) (after : D) (had left : Stream) (from to : Outputs) (status : ℕ)
+      → RunsScript grammar shape (traits_of is_key said class) state (watched_over shape (traits_of is_key said class) state engine) after had left from to status → Fit p → HoldsSome engine → SaysSo p (state after)
   script_says engine after had left from to status (inl ran) fit some =
       let there = script_holds 1 _ (record { engine = engine; ended = false }) ran.new.index ran.done.text
-      (script_forgets (CallsIndex makes) 1 _ (watched_over shape is_key said class state engine) ran.new ran.done.text ran.done.ran) some in
+      (script_forgets grammar (CallsIndex makes) 1 _ (watched_over shape (traits_of is_key said class) state engine) ran.new ran.done.text ran.done.ran) some in
       ends_hold ran.new.met ran.new.index after ran.between to status ran.ends fit there
   script_says engine after had left from to status (inr stopped) fit some =
       let there = stopped_holds _ _ _ _ (record { engine = engine; ended = false }) stopped.new.index stopped.fault
-      (stopped_forgets (CallsIndex makes) _ _ _ _ (watched_over shape is_key said class state engine) stopped.new stopped.fault stopped.stopped) some in
+      (stopped_forgets grammar (CallsIndex makes) _ _ _ _ (watched_over shape (traits_of is_key said class) state engine) stopped.new stopped.fault stopped.stopped) some in
       subst (λ (d : D). SaysSo p (state d)) (sym stopped.left_is) (held_says fit stopped.new.index.engine there)
 
   -- ---- a device whose opening was refused
@@ -129,7 +130,7 @@ module _ {C D : Type 0} (shape : Members Rectangle) (is_key : Rectangle → Bool
         (head_magic image p reads, head_says image p reads own.1.fit)
     kept_says disk so image (inr found) = (head_magic image p found.stands.head, head_says image p found.stands.head (own_says disk so).1.fit)
 
-    refused_says : (number frames : ℕ) (disk : D) (n : NotOpened D) → (state disk).honest ≡ true → Opens shape is_key said class state number frames disk (Err n) → SaysSo p (state disk)
+    refused_says : (number frames : ℕ) (disk : D) (n : NotOpened D) → (state disk).honest ≡ true → Opens shape (traits_of is_key said class) state number frames disk (Err n) → SaysSo p (state disk)
         → SaysSo p (state n.disk)
     refused_says number frames disk n honest opens so image may =
         let still : (state n.disk).honest ≡ true = opens.device.1 ∙ honest in
@@ -137,7 +138,7 @@ module _ {C D : Type 0} (shape : Members Rectangle) (is_key : Rectangle → Bool
         ⊎_elim (λ left. so image (only_now disk image honest left)) (kept_says disk so image)
         (leaves.only (state disk).moment image (omega arith) (counts_now n.disk (state disk).moment image still leaves.later may))
 
-    damage_says : (number : ℕ) (disk after : D) (old new : Outputs) (status : ℕ) → (state disk).honest ≡ true → TellsDamage shape is_key said class state number disk after old new status
+    damage_says : (number : ℕ) (disk after : D) (old new : Outputs) (status : ℕ) → (state disk).honest ≡ true → TellsDamage shape (traits_of is_key said class) state number disk after old new status
         → SaysSo p (state disk) → SaysSo p (state after)
     damage_says number disk after old new status honest told so image may = so image (rested_image (state disk) (state after) (told.rests honest).rests image may)
 
@@ -145,7 +146,7 @@ module _ {C D : Type 0} (shape : Members Rectangle) (is_key : Rectangle → Bool
     same_says disk after same so = subst (λ (d : D). SaysSo p (state d)) (sym same) so
 
     told_says : (number : ℕ) (why : Refusal) (disk after : D) (old new : Outputs) (status : ℕ) → (state disk).honest ≡ true
-        → TellsOpening shape is_key said class state number why disk after old new status → SaysSo p (state disk) → SaysSo p (state after)
+        → TellsOpening shape (traits_of is_key said class) state number why disk after old new status → SaysSo p (state disk) → SaysSo p (state after)
     told_says number Damaged disk after old new status honest told so = damage_says number disk after old new status honest told so
     told_says number (Busy s) disk after old new status honest told so = same_says disk after told.1 so
     told_says number NoTransaction disk after old new status honest told so = same_says disk after told.1 so
@@ -170,13 +171,13 @@ module _ {C D : Type 0} (shape : Members Rectangle) (is_key : Rectangle → Bool
     -- ---- the commands
 
     unopened_says : (number frames : ℕ) (disk after : D) (n : NotOpened D) (from to : Outputs) (status : ℕ) → (state disk).honest ≡ true
-        → Opens shape is_key said class state number frames disk (Err n) → TellsOpening shape is_key said class state number n.why n.disk after from to status → SaysSo p (state disk)
+        → Opens shape (traits_of is_key said class) state number frames disk (Err n) → TellsOpening shape (traits_of is_key said class) state number n.why n.disk after from to status → SaysSo p (state disk)
         → SaysSo p (state after)
     unopened_says number frames disk after n from to status honest opens told so =
         told_says number n.why n.disk after from to status (opens.device.1 ∙ honest) told (refused_says number frames disk n honest opens so)
 
     -- an engine that was opened holds an index of what its device says
-    opened_holds : (number frames : ℕ) (disk : D) (engine : Parts Rectangle D) → (state disk).honest ≡ true → Opens shape is_key said class state number frames disk (Ok engine)
+    opened_holds : (number frames : ℕ) (disk : D) (engine : Parts B D) → (state disk).honest ≡ true → Opens shape (traits_of is_key said class) state number frames disk (Ok engine)
         → SaysSo p (state disk) → HoldsSome engine
     opened_holds number frames disk engine honest opens so =
         let is = opens.opened honest in
@@ -189,14 +190,14 @@ module _ {C D : Type 0} (shape : Members Rectangle) (is_key : Rectangle → Bool
         }
 
     pub run_says : (number frames : ℕ) (disk after : D) (had left : Stream) (from to : Outputs) (status : ℕ) → (state disk).honest ≡ true → SaysSo p (state disk)
-        → RunsOver shape is_key said class state number frames disk after had left from to status → SaysSo p (state after)
+        → RunsOver grammar shape (traits_of is_key said class) state number frames disk after had left from to status → SaysSo p (state after)
     run_says number frames disk after had left from to status honest so (inl refused) =
         unopened_says number frames disk after refused.refused from to status honest refused.opening refused.told so
     run_says number frames disk after had left from to status honest so (inr opened) =
         script_says opened.engine after had left from to status opened.script (own_says disk so).1.fit (opened_holds number frames disk opened.engine honest opened.opening so)
 
     pub dump_says : (number frames : ℕ) (disk after : D) (from to : Outputs) (status : ℕ) → (state disk).honest ≡ true → SaysSo p (state disk)
-        → DumpsOver shape is_key said class state number frames disk after from to status → SaysSo p (state after)
+        → DumpsOver grammar shape (traits_of is_key said class) state number frames disk after from to status → SaysSo p (state after)
     dump_says number frames disk after from to status honest so (inl refused) =
         unopened_says number frames disk after refused.refused from to status honest refused.opening refused.told so
     dump_says number frames disk after from to status honest so (inr dumped) =

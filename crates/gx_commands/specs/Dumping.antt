@@ -1,11 +1,11 @@
 -- How a dump over a device ends: its status, and what it has written.
-use Rattle.std.specs.Prelude.{ℕ, ◌≡◌, ◌⊎◌, Bool, false, Option, List, Result, Ok, Err, IfErr, OnOk}
+use Rattle.std.specs.Prelude.{ℕ, ◌≡◌, ◌⊎◌, false, Option, Result, Ok, Err, IfErr, OnOk}
 use Rattle.std.specs.Io.KnownBytes.{Appends}
-use Rattle.gx_geom.specs.Rectangles.{Rectangle}
 use Rattle.gx_machine.specs.Keys.{Members}
+use Rattle.gx_script.specs.Corners.{Grammar}
 use Rattle.gx_script.specs.declared.fault.ScriptFault.TheVariants.{Write}
 use Rattle.gx_script.specs.Writes.{IsCut}
-use Rattle.gx_class.specs.declared.class.KeyClass.{Ghosts}
+use Rattle.gx_class.specs.Traits.{Traits, own}
 use Rattle.gx_disk.specs.Device.{Device}
 use Rattle.gx_node.specs.Trees.{Tree}
 use Rattle.gx_node.specs.Reading.{format_of, is_node}
@@ -44,57 +44,58 @@ TellsDump (Err fault.Write) old new status =
     (status ≡ 1) × ((new.replies ≡ old.replies) × (TakesNoMore old.replies × TellsFault Write old.replies.kind old.person new.person))
 TellsDump (Err (fault.Refused why)) old new status = Refuses why old new status
 
-module _ {C D : Type 0} (shape : Members Rectangle) (is_key : Rectangle → Bool) (said : List ℕ → Rectangle) (class : Ghosts C Rectangle) (state : D → Device) where
+module _ {B D : Type 0} (shape : Members B) (traits : Traits B) (state : D → Device) where
   -- this holds of the tree of whatever index an engine held
-  abbrev pub OfTree : Parts Rectangle D → (Tree Rectangle → Type 0) → Type 0
-  OfTree engine P = (l : Limits) → OfItsTree (class_of shape is_key l) (reading_of said (format_of class)) (format_of class) (is_node (format_of class)) state engine P
-
-  -- An index was dumped, with this result, which is reported, and its device is handed back. The writer held the tree's text by then; or only a
-  -- beginning of it, where the dump did not end well.
-  pub record DumpsIndex (old : State Rectangle D) (after : D) (from to : Outputs) (status : ℕ) : Type 0 where
-    pub result : Result (Unit {0}) DumpFault
-    pub new : State Rectangle D
-    pub between : Outputs
-    pub dumps : Dumps (Brings shape is_key said class state) (Helps shape is_key said class state) old result new
-    pub text : OnOk result (OfTree old.engine (λ t. Appends from.replies.bytes between.replies.bytes (dump_text old.engine.sessions.latest t)))
-    pub cut : IfErr result (λ why. OfTree old.engine (λ t. IsCut from.replies.bytes between.replies.bytes (dump_text old.engine.sessions.latest t)))
-    pub reads : OnOk result ((l : Limits) → Reads (class_of shape is_key l) (reading_of said (format_of class)) (format_of class) (is_node (format_of class)) state old.engine new.engine)
-    pub runs : (l : Limits) → RunsOn (class_of shape is_key l) (reading_of said (format_of class)) (format_of class) (is_node (format_of class)) state old.engine new.engine
-    pub keeps : KeepsSessions old.engine new.engine
-    pub quiet : between.person ≡ from.person
-    pub told : TellsDump result between to status
-    pub left : after ≡ device_of new
+  abbrev pub OfTree : Parts B D → (Tree B → Type 0) → Type 0
+  OfTree engine P = (l : Limits) → OfItsTree (class_of shape traits.is_proper l) (reading_of traits.said (format_of (own traits))) (format_of (own traits)) (is_node (format_of (own traits))) state engine P
 
   -- an index over an engine
-  abbrev pub index_over : Parts Rectangle D → State Rectangle D
+  abbrev pub index_over : Parts B D → State B D
   index_over engine = record { engine = engine; ended = false }
 
   -- The opening was refused, which is reported.
   pub record IsNotDumped (number frames : ℕ) (disk after : D) (from to : Outputs) (status : ℕ) : Type 0 where
     pub refused : NotOpened D
-    pub opening : Opens shape is_key said class state number frames disk (Err refused)
-    pub told : TellsOpening shape is_key said class state number refused.why refused.disk after from to status
+    pub opening : Opens shape traits state number frames disk (Err refused)
+    pub told : TellsOpening shape traits state number refused.why refused.disk after from to status
+
+module _ {B D : Type 0} (grammar : Grammar B) (shape : Members B) (traits : Traits B) (state : D → Device) where
+  -- An index was dumped, with this result, which is reported, and its device is handed back. The writer held the tree's text by then; or only a
+  -- beginning of it, where the dump did not end well.
+  pub record DumpsIndex (old : State B D) (after : D) (from to : Outputs) (status : ℕ) : Type 0 where
+    pub result : Result (Unit {0}) DumpFault
+    pub new : State B D
+    pub between : Outputs
+    pub dumps : Dumps (Brings shape traits state) (Helps shape traits state) old result new
+    pub text : OnOk result (OfTree shape traits state old.engine (λ t. Appends from.replies.bytes between.replies.bytes (dump_text grammar old.engine.sessions.latest t)))
+    pub cut : IfErr result (λ why. OfTree shape traits state old.engine (λ t. IsCut from.replies.bytes between.replies.bytes (dump_text grammar old.engine.sessions.latest t)))
+    pub reads : OnOk result ((l : Limits) → Reads (class_of shape traits.is_proper l) (reading_of traits.said (format_of (own traits))) (format_of (own traits)) (is_node (format_of (own traits))) state old.engine new.engine)
+    pub runs : (l : Limits) → RunsOn (class_of shape traits.is_proper l) (reading_of traits.said (format_of (own traits))) (format_of (own traits)) (is_node (format_of (own traits))) state old.engine new.engine
+    pub keeps : KeepsSessions old.engine new.engine
+    pub quiet : between.person ≡ from.person
+    pub told : TellsDump result between to status
+    pub left : after ≡ device_of new
 
   -- An engine was opened, and the index over it dumped.
   pub record IsDumped (number frames : ℕ) (disk after : D) (from to : Outputs) (status : ℕ) : Type 0 where
-    pub engine : Parts Rectangle D
-    pub opening : Opens shape is_key said class state number frames disk (Ok engine)
-    pub dump : DumpsIndex (index_over engine) after from to status
+    pub engine : Parts B D
+    pub opening : Opens shape traits state number frames disk (Ok engine)
+    pub dump : DumpsIndex (index_over shape traits state engine) after from to status
 
   -- The index of a device that was opened with so many frames was dumped, for a class of keys of this number; or the opening was refused. The
   -- device that is left is handed back.
   abbrev pub DumpsOver : ℕ → ℕ → D → D → Outputs → Outputs → ℕ → Type 0
   DumpsOver number frames disk after from to status =
-      IsNotDumped number frames disk after from to status ⊎ IsDumped number frames disk after from to status
+      IsNotDumped shape traits state number frames disk after from to status ⊎ IsDumped number frames disk after from to status
 
   -- A device is formatted for an index of the class, and has a sound log. What was written is the text of the tree of a whole index that
   -- has the one set which this log keeps, with that set's number.
   pub record TellsKept (number : ℕ) (disk : D) (from to : Outputs) : Type 0 where
     pub parameters : Parameters
-    pub formatted : IsFormatted shape is_key said (format_of class) number (state disk) parameters
-    pub found : IsGoodLog shape is_key said (format_of class) parameters (state disk).seen
-    pub index : index.State Rectangle
-    pub whole : IsWhole (class_of shape is_key (limits_of parameters)) index
-    pub set : HasFoundSet shape is_key said (format_of class) parameters (state disk).seen found.log index
+    pub formatted : IsFormatted shape traits.is_proper traits.said (format_of (own traits)) number (state disk) parameters
+    pub found : IsGoodLog shape traits.is_proper traits.said (format_of (own traits)) parameters (state disk).seen
+    pub index : index.State B
+    pub whole : IsWhole (class_of shape traits.is_proper (limits_of parameters)) index
+    pub set : HasFoundSet shape traits.is_proper traits.said (format_of (own traits)) parameters (state disk).seen found.log index
     pub wrote : Appends from.replies.bytes to.replies.bytes
-        (dump_text (number_of (known_for shape is_key said (format_of class) parameters) (records_of found.log.bodies)) (tree_now (class_of shape is_key (limits_of parameters)) index))
+        (dump_text grammar (number_of (known_for shape traits.is_proper traits.said (format_of (own traits)) parameters) (records_of found.log.bodies)) (tree_now (class_of shape traits.is_proper (limits_of parameters)) index))

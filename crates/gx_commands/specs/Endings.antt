@@ -1,16 +1,16 @@
 -- How a command over a device ends: its status, what it has read, what it has written, and what became of the device.
-use Rattle.std.specs.Prelude.{ℕ, ◌≡◌, ◌⊎◌, Bool, true, false, Option, List, Result, Ok, Err, OnOk}
+use Rattle.std.specs.Prelude.{ℕ, ◌≡◌, ◌⊎◌, Bool, true, false, Option, Result, Ok, Err, OnOk}
 use Rattle.std.specs.Io.KnownBytes.{Appends}
-use Rattle.gx_geom.specs.Rectangles.{Rectangle}
 use Rattle.gx_geom.specs.declared.refusal.Refusal.{Refusal}
 use Rattle.gx_machine.specs.declared.call.Call.{Call}
 use Rattle.gx_machine.specs.declared.reply.Reply.{Reply}
 use Rattle.gx_machine.specs.Keys.{Members}
 use Rattle.gx_script.specs.declared.fault.ScriptFault.{ScriptFault}
 use Rattle.gx_script.specs.declared.fault.ScriptFault.TheVariants.{Write}
+use Rattle.gx_script.specs.Corners.{Grammar}
 use Rattle.gx_script.specs.Scripts.{IsDone, IsStopped}
 use Rattle.gx_script.specs.Writes.{IsCut}
-use Rattle.gx_class.specs.declared.class.KeyClass.{Ghosts}
+use Rattle.gx_class.specs.Traits.{Traits, own}
 use Rattle.gx_disk.specs.Device.{Device, IsSettled}
 use Rattle.gx_disk.specs.Moments.{Leaves}
 use Rattle.gx_page.specs.Contents.{Contents}
@@ -68,72 +68,73 @@ TellsSettled (Err why) old new status = Refuses why old new status
 abbrev pub device_of : {B D : Type 0} → State B D → D
 device_of index = index.engine.volume.shelf.disk
 
-module _ {C D : Type 0} (shape : Members Rectangle) (is_key : Rectangle → Bool) (said : List ℕ → Rectangle) (class : Ghosts C Rectangle) (state : D → Device) where
+module _ {B D : Type 0} (shape : Members B) (traits : Traits B) (state : D → Device) where
   -- An index was settled, with this result, which is reported, and its device is handed back. Where it ended well, no checkpoint runs, and no batch is
   -- in flight or fills.
-  pub record EndsSettling (old : State Rectangle D) (after : D) (from to : Outputs) (status : ℕ) : Type 0 where
+  pub record EndsSettling (old : State B D) (after : D) (from to : Outputs) (status : ℕ) : Type 0 where
     pub result : Result (Unit {0}) Refusal
-    pub new : State Rectangle D
-    pub settles : Settles (Makes shape is_key said class state) old result new
-    pub runs : (l : Limits) → RunsOn (class_of shape is_key l) (reading_of said (format_of class)) (format_of class) (is_node (format_of class)) state old.engine new.engine
+    pub new : State B D
+    pub settles : Settles (Makes shape traits state) old result new
+    pub runs : (l : Limits) → RunsOn (class_of shape traits.is_proper l) (reading_of traits.said (format_of (own traits))) (format_of (own traits)) (is_node (format_of (own traits))) state old.engine new.engine
     pub rests : OnOk result (IsAtRest new.engine)
     pub keeps : KeepsSessions old.engine new.engine
     pub told : TellsSettled result from to status
     pub left : after ≡ device_of new
 
   -- What follows a script's end, by whether a reply told of a fault: the user is told, and nothing more is done; or the index is settled.
-  abbrev pub EndsBy : Bool → State Rectangle D → D → Outputs → Outputs → ℕ → Type 0
+  abbrev pub EndsBy : Bool → State B D → D → Outputs → Outputs → ℕ → Type 0
   EndsBy true index after from to status =
       (status ≡ 1) × ((to.replies ≡ from.replies) × (TellsPerson fault_sentence from.person to.person × (after ≡ device_of index)))
   EndsBy false index after from to status = EndsSettling index after from to status
 
   -- each call is the index's, and its reply is watched
-  abbrev pub AnswersWatched : Watched (State Rectangle D) → ℕ → Call Rectangle → Reply Rectangle → Watched (State Rectangle D) → Type 0
-  AnswersWatched = Watches (CallsIndex (Makes shape is_key said class state))
+  abbrev pub AnswersWatched : Watched (State B D) → ℕ → Call B → Reply B → Watched (State B D) → Type 0
+  AnswersWatched = Watches (CallsIndex (Makes shape traits state))
 
   -- an index over an engine, none of whose replies was seen yet
-  abbrev pub watched_over : Parts Rectangle D → Watched (State Rectangle D)
+  abbrev pub watched_over : Parts B D → Watched (State B D)
   watched_over engine = record { index = record { engine = engine; ended = false }; met = false }
 
+  -- The opening was refused, which is reported. Nothing was read.
+  pub record WasRefused (number frames : ℕ) (disk after : D) (had left : Stream) (from to : Outputs) (status : ℕ) : Type 0 where
+    pub refused : NotOpened D
+    pub opening : Opens shape traits state number frames disk (Err refused)
+    pub unread : left ≡ had
+    pub told : TellsOpening shape traits state number refused.why refused.disk after from to status
+
+module _ {B D : Type 0} (grammar : Grammar B) (shape : Members B) (traits : Traits B) (state : D → Device) where
   -- The script was read to its end, and then ended by whether a reply told of a fault. The writer held the script's text by then, and a
   -- person had been told nothing. Of the device nothing was asked but by the script's calls and what follows them.
-  pub record HasRun (old : Watched (State Rectangle D)) (after : D) (had left : Stream) (from to : Outputs) (status : ℕ) : Type 0 where
-    pub new : Watched (State Rectangle D)
+  pub record HasRun (old : Watched (State B D)) (after : D) (had left : Stream) (from to : Outputs) (status : ℕ) : Type 0 where
+    pub new : Watched (State B D)
     pub between : Outputs
-    pub done : IsDone AnswersWatched had.bytes left.bytes from.replies.bytes between.replies.bytes old new
+    pub done : IsDone grammar (AnswersWatched shape traits state) had.bytes left.bytes from.replies.bytes between.replies.bytes old new
     pub ended : HasEnded left
     pub quiet : between.person ≡ from.person
-    pub ends : EndsBy new.met new.index after between to status
+    pub ends : EndsBy shape traits state new.met new.index after between to status
 
   -- The script was stopped by a fault of its reader or its writer, which is reported to the user. Of the device nothing was asked but by the script's calls.
-  pub record WasStopped (old : Watched (State Rectangle D)) (after : D) (had left : Stream) (from to : Outputs) (status : ℕ) : Type 0 where
-    pub new : Watched (State Rectangle D)
+  pub record WasStopped (old : Watched (State B D)) (after : D) (had left : Stream) (from to : Outputs) (status : ℕ) : Type 0 where
+    pub new : Watched (State B D)
     pub fault : ScriptFault
     pub status_is : status ≡ 1
-    pub stopped : IsStopped AnswersWatched had.bytes left.bytes from.replies.bytes to.replies.bytes old new fault
+    pub stopped : IsStopped grammar (AnswersWatched shape traits state) had.bytes left.bytes from.replies.bytes to.replies.bytes old new fault
     pub faulty : IsFaultOf left to.replies fault
     pub heard : TellsFault fault (kind_of left to.replies fault) from.person to.person
     pub left_is : after ≡ device_of new.index
 
   -- a script was run on a watched index
-  abbrev pub RunsScript : Watched (State Rectangle D) → D → Stream → Stream → Outputs → Outputs → ℕ → Type 0
+  abbrev pub RunsScript : Watched (State B D) → D → Stream → Stream → Outputs → Outputs → ℕ → Type 0
   RunsScript old after had left from to status = HasRun old after had left from to status ⊎ WasStopped old after had left from to status
-
-  -- The opening was refused, which is reported. Nothing was read.
-  pub record WasRefused (number frames : ℕ) (disk after : D) (had left : Stream) (from to : Outputs) (status : ℕ) : Type 0 where
-    pub refused : NotOpened D
-    pub opening : Opens shape is_key said class state number frames disk (Err refused)
-    pub unread : left ≡ had
-    pub told : TellsOpening shape is_key said class state number refused.why refused.disk after from to status
 
   -- An engine was opened, and the script run on it.
   pub record WasOpened (number frames : ℕ) (disk after : D) (had left : Stream) (from to : Outputs) (status : ℕ) : Type 0 where
-    pub engine : Parts Rectangle D
-    pub opening : Opens shape is_key said class state number frames disk (Ok engine)
-    pub script : RunsScript (watched_over engine) after had left from to status
+    pub engine : Parts B D
+    pub opening : Opens shape traits state number frames disk (Ok engine)
+    pub script : RunsScript (watched_over shape traits state engine) after had left from to status
 
   -- A script was run over a device that was opened with so many frames, for a class of keys of this number; or the opening was refused. The
   -- device that is left is handed back.
   abbrev pub RunsOver : ℕ → ℕ → D → D → Stream → Stream → Outputs → Outputs → ℕ → Type 0
   RunsOver number frames disk after had left from to status =
-      WasRefused number frames disk after had left from to status ⊎ WasOpened number frames disk after had left from to status
+      WasRefused shape traits state number frames disk after had left from to status ⊎ WasOpened number frames disk after had left from to status

@@ -1,9 +1,9 @@
 -- How a command over a file ends: which file was opened, and how; what was written; and what became of the file.
 use Rattle.std.specs.Prelude.{ℕ, ◌≡◌, ◌≤◌, ◌⊎◌, List, Option, None, Some, Ok, Err}
 use Rattle.gx_geom.specs.Rectangles.{Rectangle}
+use Rattle.gx_geom.specs.Solids.{Solid}
 use Rattle.gx_geom.specs.declared.refusal.Refusal.TheVariants.{Device as NoDevice}
 use Rattle.gx_machine.specs.Keys.{Members}
-use Rattle.gx_class.specs.Boxes.{corners_of, in_order}
 use Rattle.gx_class.specs.declared.class.KeyClass.{Ghosts}
 use Rattle.gx_disk.specs.Device.{Device}
 use Rattle.gx_disk.specs.Files.{IsOpened}
@@ -11,12 +11,11 @@ use Rattle.gx_disk.specs.declared.device.DiskFault.{DiskFault}
 use Rattle.gx_disk.specs.declared.file.FileDisk.{FileDisk}
 use Rattle.gx_format.specs.Formatting.{sectors_of}
 use Rattle.gx_format.specs.Fresh.{fresh_root}
-use Rattle.gx_commands.specs.Dumping.{DumpsOver}
-use Rattle.gx_commands.specs.Endings.{FormatsOver, RunsOver}
+use Rattle.gx_commands.specs.Devices.{DumpsDevice, RunsDevice, VerifiesDevice}
+use Rattle.gx_commands.specs.Endings.{FormatsOver}
 use Rattle.gx_commands.specs.Lines.{fault_text, named, refusal_line}
 use Rattle.gx_commands.specs.Opener.{Tries, is_writable}
 use Rattle.gx_commands.specs.Streams.{Outputs, Prints, Stream, TellsPerson}
-use Rattle.gx_commands.specs.Verifying.{VerifiesOver}
 use Rattle.gx_commands.specs.declared.opener.Access.{Access}
 use Rattle.gx_commands.specs.declared.opener.Access.TheVariants.{Create, Write, Read}
 use Rattle.gx_commands.specs.declared.opener.Opener.{Opener}
@@ -54,29 +53,30 @@ module _ {F : Type 0} (file : List ℕ) (old new : Opener F) where
     pub quiet : to.replies ≡ from.replies
     pub cause : TellsCause file after.fault from.person to.person
 
-module _ {C F : Type 0} (class : Ghosts C Rectangle) (state : FileDisk → Device) (file : List ℕ) (old new : Opener F) where
-  -- an index of boxes, class 1, was laid down in the file, which had been extended for it
+module _ {B C F : Type 0} (class : Ghosts C B) (number : ℕ) (state : FileDisk → Device) (file : List ℕ) (old new : Opener F) where
+  -- an index of a class of keys with this number was laid down in the file, which had been extended for it
   pub record FormatsFile (pages most : ℕ) (from to : Outputs) (status : ℕ) : Type 0 where
     pub disk : FileDisk
     pub after : FileDisk
     pub between : Outputs
     pub uses : Uses file old new (Create (sectors_of pages)) disk after between to
     pub room : sectors_of pages ≤ disk.sectors
-    pub formats : FormatsOver state (record { pages = pages; most = most; class = 1 }) (fresh_root class.spelling class.start_key) disk after from between status
+    pub formats : FormatsOver state (record { pages = pages; most = most; class = number }) (fresh_root class.spelling class.start_key) disk after from between status
 
   -- how a format of a file may end
   abbrev pub EndsFormat : ℕ → ℕ → Outputs → Outputs → ℕ → Type 0
   EndsFormat pages most from to status =
       IsNotOpened file old new (Create (sectors_of pages)) from to status ⊎ FormatsFile pages most from to status
 
-module _ {C F : Type 0} (shape : Members Rectangle) (class : Ghosts C Rectangle) (state : FileDisk → Device) (file : List ℕ) (old new : Opener F) where
+module _ {C E F : Type 0} (plane : Members Rectangle) (plane_class : Ghosts C Rectangle) (space : Members Solid) (space_class : Ghosts E Solid) (state : FileDisk → Device)
+    (file : List ℕ) (old new : Opener F) where
   -- a script was run on the index of boxes that the file holds
   pub record RunsFile (frames : ℕ) (had left : Stream) (from to : Outputs) (status : ℕ) : Type 0 where
     pub disk : FileDisk
     pub after : FileDisk
     pub between : Outputs
     pub uses : Uses file old new Write disk after between to
-    pub runs : RunsOver shape in_order corners_of class state 1 frames disk after had left from between status
+    pub runs : RunsDevice plane plane_class space space_class state frames disk after had left from between status
 
   -- how a script on a file may end
   abbrev pub EndsRun : ℕ → Stream → Stream → Outputs → Outputs → ℕ → Type 0
@@ -89,7 +89,7 @@ module _ {C F : Type 0} (shape : Members Rectangle) (class : Ghosts C Rectangle)
     pub after : FileDisk
     pub between : Outputs
     pub uses : Uses file old new Write disk after between to
-    pub dumps : DumpsOver shape in_order corners_of class state 1 64 disk after from between status
+    pub dumps : DumpsDevice plane plane_class space space_class state 64 disk after from between status
 
   -- how a dump of a file may end
   abbrev pub EndsDump : Outputs → Outputs → ℕ → Type 0
@@ -101,7 +101,7 @@ module _ {C F : Type 0} (shape : Members Rectangle) (class : Ghosts C Rectangle)
     pub after : FileDisk
     pub between : Outputs
     pub uses : Uses file old new Read disk after between to
-    pub verifies : VerifiesOver shape in_order corners_of class state 1 64 disk after from between status
+    pub verifies : VerifiesDevice plane plane_class space space_class state 64 disk after from between status
 
   -- how verifying a file may end
   abbrev pub EndsVerify : Outputs → Outputs → ℕ → Type 0

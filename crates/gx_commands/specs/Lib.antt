@@ -3,6 +3,7 @@ pub mod Refusing
 pub mod Watching
 pub mod Opener
 pub mod Openings
+pub mod Devices
 pub mod Files
 pub mod Endings
 pub mod Dumping

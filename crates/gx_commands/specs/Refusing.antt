@@ -1,15 +1,15 @@
 -- How a command ends that is refused: its status, what it has written, and what the user was told.
-use Rattle.std.specs.Prelude.{ℕ, ◌≡◌, ◌≤◌, ◌⊎◌, Bool, true, Option, None, Some, IfSome, List}
+use Rattle.std.specs.Prelude.{ℕ, ◌≡◌, ◌<◌, ◌≤◌, true, Option, Some, Result, Ok, Err}
 use Rattle.gx_disk.specs.declared.layout.TheConstants.{MIN_SECTORS}
 use Rattle.gx_geom.specs.declared.refusal.Refusal.{Refusal}
-use Rattle.gx_geom.specs.declared.refusal.Refusal.TheVariants.{Damaged}
+use Rattle.gx_geom.specs.declared.refusal.Refusal.TheVariants.{Damaged, Device as NoDevice}
 use Rattle.gx_machine.specs.Keys.{Members}
-use Rattle.gx_class.specs.declared.class.KeyClass.{Ghosts}
+use Rattle.gx_class.specs.Traits.{Traits, own}
 use Rattle.gx_disk.specs.Device.{Device}
 use Rattle.gx_node.specs.Reading.{format_of}
 use Rattle.gx_opening.specs.declared.damage.Damage.{Damage}
 use Rattle.gx_opening.specs.Formatted.{OnlyRests}
-use Rattle.gx_opening.specs.Shown.{Shows}
+use Rattle.gx_opening.specs.Shown.{Examines, FindsDamage, HoldsDamaged}
 use Rattle.gx_commands.specs.Streams.{Stream, Outputs, Prints, TellsPerson}
 use Rattle.gx_commands.specs.Lines.{refusal_line, sentence_of, damage_sentence}
 
@@ -20,17 +20,20 @@ pub record Refuses (why : Refusal) (old new : Outputs) (status : ℕ) : Type 0 w
   pub heard : TellsPerson (sentence_of why) old.person new.person
 
 -- the user is told of damage, where it was found; and that there is some where it wasn't
-abbrev pub TellsFound : Option Damage → Stream → Stream → Type 0
-TellsFound (Some damage) old new = TellsPerson (damage_sentence damage) old new
-TellsFound None old new = TellsPerson (sentence_of Damaged) old new
+abbrev pub TellsFound : Result (Option Damage) Refusal → Stream → Stream → Type 0
+TellsFound (Ok (Some damage)) old new = TellsPerson (damage_sentence damage) old new
+TellsFound found old new = TellsPerson (sentence_of Damaged) old new
 
-module _ {B C D : Type 0} (shape : Members B) (is_key : B → Bool) (said : List ℕ → B) (class : Ghosts C B) (state : D → Device) where
-  -- A device whose opening was refused as damaged was settled and read, and the user is told what was found there, if something was: of an
-  -- honest device it is true.
+module _ {B D : Type 0} (shape : Members B) (traits : Traits B) (state : D → Device) where
+  -- A device whose opening was refused as damaged was settled and read, and the user is told what was found there: of an honest device it is
+  -- true, and where that is damaged something was found, unless a call failed or memory was refused.
   pub record TellsDamage (number : ℕ) (disk after : D) (old new : Outputs) (status : ℕ) : Type 0 where
-    pub found : Option Damage
+    pub found : Result (Option Damage) Refusal
     pub is_true : (state disk).honest ≡ true → MIN_SECTORS ≤ (state disk).sectors
-        → IfSome found (Shows shape is_key said (format_of class) D number (state disk))
+        → Examines shape traits.is_proper traits.said (format_of (own traits)) D number (after ≡ disk) (state disk) found
+    pub finds : (state disk).honest ≡ true → HoldsDamaged shape traits.is_proper traits.said (format_of (own traits)) number (state disk)
+        → FindsDamage shape traits.is_proper traits.said (format_of (own traits)) D number (after ≡ disk) (state disk) found
+    pub failed : found ≡ Err NoDevice → (state disk).faults < (state after).faults
     pub status_is : status ≡ 1
     pub told : Prints (refusal_line Damaged) old.replies new.replies
     pub heard : TellsFound found old.person new.person

@@ -1,8 +1,8 @@
 -- How a device is verified: what comes of it, what is printed, and what the user is told.
-use Rattle.std.specs.Prelude.{ℕ, ◌≡◌, ◌⊎◌, ◌<◌, ◌≤◌, Bool, true, Option, Some, List, Result, Ok, Err, IfErr, IfOk, IfSome}
+use Rattle.std.specs.Prelude.{ℕ, ◌≡◌, ◌⊎◌, ◌<◌, ◌≤◌, true, Option, Some, Result, Ok, Err, IfErr, IfOk}
 use Rattle.std.specs.Io.KnownBytes.{Appends}
 use Rattle.gx_disk.specs.declared.layout.TheConstants.{MIN_SECTORS}
-use Rattle.gx_class.specs.declared.class.KeyClass.{Ghosts}
+use Rattle.gx_class.specs.Traits.{Traits, own}
 use Rattle.gx_commands.specs.Scripts.{TellsFault}
 use Rattle.gx_commands.specs.Streams.{Outputs, Prints, Stream, TakesNoMore}
 use Rattle.gx_disk.specs.Device.{Device}
@@ -14,27 +14,28 @@ use Rattle.gx_machine.specs.Keys.{Members}
 use Rattle.gx_node.specs.Reading.{format_of}
 use Rattle.gx_opening.specs.declared.damage.Damage.{Damage}
 use Rattle.gx_opening.specs.Formatted.{Counted}
-use Rattle.gx_opening.specs.Shown.{Shows}
+use Rattle.gx_opening.specs.Shown.{Finds, HoldsDamaged, IsLack, Shows}
 use Rattle.gx_restart.specs.Copied.{memory_state}
 use Rattle.gx_restart.specs.declared.verification.Report.{Report}
-use Rattle.gx_restart.specs.Verified.{IsDamagedCopy, IsUnverified, IsVerified}
+use Rattle.gx_restart.specs.Verified.{IsUnverified, IsVerified}
 use Rattle.gx_script.specs.declared.fault.ScriptFault.TheVariants.{Write}
 use Rattle.gx_script.specs.Writes.{IsCut}
 use Rattle.gx_commands.specs.Lines.{refusal_line, verified_line}
 use Rattle.gx_commands.specs.Refusing.{Refuses, TellsFound}
+use Rattle.gx_restart.specs.Setting.{IsDamagedCopyAs}
 
 -- A device was verified with so many frames, for a class of keys of this number; of which this is the result. No
 -- write and no sync was made.
-pub record Verifies {C B D : Type 0} (shape : Members B) (is_key : B → Bool) (said : List ℕ → B) (class : Ghosts C B)
+pub record Verifies {B D : Type 0} (shape : Members B) (traits : Traits B)
     (state : D → Device) (number frames : ℕ) (old new : D) (result : Result Report Refusal) : Type 0 where
   pub frames_are : ((16 ≤ frames) × (frames ≤ 4096) → ⊥) → (result ≡ Err BadParameter) × (new ≡ old)
   pub small : 16 ≤ frames → frames ≤ 4096 → (state old).sectors < MIN_SECTORS → (result ≡ Err TooSmall) × (new ≡ old)
   pub counted : Counted 0 (state old) (state new) result
   pub looks : (state old).honest ≡ true → Looks (state old) (state new)
   pub verified : (state old).honest ≡ true
-      → IfOk result (IsVerified shape is_key said (format_of class) number (state old))
+      → IfOk result (IsVerified shape traits.is_proper traits.said (format_of (own traits)) number (state old))
   pub refused : (state old).honest ≡ true → 16 ≤ frames → frames ≤ 4096 → MIN_SECTORS ≤ (state old).sectors
-      → IfErr result (IsUnverified shape is_key said (format_of class) number (state old))
+      → IfErr result (IsUnverified shape traits.is_proper traits.said (format_of (own traits)) number (state old))
 
 -- A report is told: its line was written; or a front of it, where the writer takes no more, which is reported to the user.
 abbrev pub TellsReport : Report → Outputs → Outputs → ℕ → Type 0
@@ -43,43 +44,43 @@ TellsReport report old new status =
     ⊎ ((status ≡ 1) × (IsCut old.replies.bytes new.replies.bytes (verified_line report)
     × (TakesNoMore new.replies × TellsFault Write new.replies.kind old.person new.person)))
 
--- The user is told what was found damaged, if something was; this is true of it.
-pub record TellsTrue (is_so : Damage → Type 0) (old new : Stream) : Type 0 where
-  pub found : Option Damage
-  pub is_true : IfSome found is_so
+-- The user is told what was found damaged, of which this is true.
+pub record TellsTrue (is_so : Result (Option Damage) Refusal → Type 0) (old new : Stream) : Type 0 where
+  pub found : Result (Option Damage) Refusal
+  pub is_true : is_so found
   pub heard : TellsFound found old new
 
 -- Damage is told: the line of its refusal, and that to the user.
-pub record TellsCopy (is_so : Damage → Type 0) (old new : Outputs) (status : ℕ) : Type 0 where
+pub record TellsCopy (is_so : Result (Option Damage) Refusal → Type 0) (old new : Outputs) (status : ℕ) : Type 0 where
   pub status_is : status ≡ 1
   pub told : Prints (refusal_line Damaged) old.replies new.replies
   pub heard : TellsTrue is_so old.person new.person
 
 -- so is what a device isn't verified for
-abbrev pub TellsUnverified : (Damage → Type 0) → Refusal → Outputs → Outputs → ℕ → Type 0
+abbrev pub TellsUnverified : (Result (Option Damage) Refusal → Type 0) → Refusal → Outputs → Outputs → ℕ → Type 0
 TellsUnverified is_so why old new status =
     ((why ≡ Damaged) × TellsCopy is_so old new status) ⊎ ((why ≡ Damaged → ⊥) × Refuses why old new status)
 
-abbrev pub TellsVerified : (Damage → Type 0) → Result Report Refusal → Outputs → Outputs → ℕ → Type 0
+abbrev pub TellsVerified : (Result (Option Damage) Refusal → Type 0) → Result Report Refusal → Outputs → Outputs → ℕ → Type 0
 TellsVerified is_so (Ok report) old new status = TellsReport report old new status
 TellsVerified is_so (Err why) old new status = TellsUnverified is_so why old new status
 
-module _ {C B : Type 0} (shape : Members B) (is_key : B → Bool) (said : List ℕ → B) (class : Ghosts C B) (number : ℕ) where
-  -- this was found damaged in a copy, if it has the sectors of the smallest index
-  abbrev pub IsFoundIn : Option MemDisk → Damage → Type 0
-  IsFoundIn copy damage = (c : MemDisk) × ((copy ≡ Some c)
-      × (MIN_SECTORS ≤ (memory_state c).sectors → Shows shape is_key said (format_of class) MemDisk number (memory_state c) damage))
+module _ {B : Type 0} (shape : Members B) (traits : Traits B) (number : ℕ) where
+  -- what comes of examining a copy that is damaged: damage there, unless a call of it failed or memory was refused
+  abbrev pub CopyFinds : Option MemDisk → Result (Option Damage) Refusal → Type 0
+  CopyFinds copy found = (c : MemDisk) → copy ≡ Some c → HoldsDamaged shape traits.is_proper traits.said (format_of (own traits)) number (memory_state c)
+      → Finds ⊥ (Shows shape traits.is_proper traits.said (format_of (own traits)) MemDisk number (memory_state c)) IsLack found
 
   -- This is damaged in a device in memory that reads as the first sectors of a device, but for pages that its log gives.
   pub record IsShownOf (d : Device) (damage : Damage) : Type 0 where
     pub copy : MemDisk
-    pub left : IsDamagedCopy shape is_key said (format_of class) d (memory_state copy)
-    pub shows : Shows shape is_key said (format_of class) MemDisk number (memory_state copy) damage
+    pub left : IsDamagedCopyAs shape traits d (memory_state copy)
+    pub shows : Shows shape traits.is_proper traits.said (format_of (own traits)) MemDisk number (memory_state copy) damage
 
 -- A device was verified, with this result, which is reported.
-pub record VerifiesOver {C B D : Type 0} (shape : Members B) (is_key : B → Bool) (said : List ℕ → B) (class : Ghosts C B)
+pub record VerifiesOver {B D : Type 0} (shape : Members B) (traits : Traits B)
     (state : D → Device) (number frames : ℕ) (old new : D) (from to : Outputs) (status : ℕ) : Type 0 where
   pub result : Result Report Refusal
-  pub verifies : Verifies shape is_key said class state number frames old new result
-  pub told : TellsVerified (λ damage. (state old).honest ≡ true → IsShownOf shape is_key said class number (state old) damage)
+  pub verifies : Verifies shape traits state number frames old new result
+  pub told : TellsVerified (λ found. (state old).honest ≡ true → Finds ⊥ (IsShownOf shape traits number (state old)) IsLack found)
       result from to status

@@ -1,5 +1,6 @@
 //! The tree of an index on a device, told.
 ghost use Rattle.std.specs.Prelude.{◌≡◌, IfErr};
+ghost use Rattle.gx_script.specs.Corners.{grammar_of};
 ghost use Rattle.gx_commands.specs.Streams.{TakesNoMore, outputs_of, stream_of};
 ghost use Rattle.gx_commands.specs.Dumping.{DumpsIndex, DumpsOver, TellsDump};
 
@@ -7,12 +8,10 @@ use crate::opening::{opened, refuse_opening};
 use crate::person::tell_fault;
 use crate::refusals::refuse;
 use crate::{DONE, REFUSED};
-use gx_class::{KeyClass, Probing};
+use gx_class::{KeyClass, Probing, ReadKeys};
 use gx_disk::SectorDisk;
-use gx_durable::ReadKeys;
-use gx_geom::{Box2, Shape};
 use gx_restart::{DumpFault, Index, ScriptFault};
-use gx_script::Noted;
+use gx_script::{Corners, Noted};
 use std::alloc::Global;
 use std::io::Write;
 
@@ -37,12 +36,14 @@ fn tell_dump<W: Write, E: Write>(
 }
 
 // Writes the text of an index's tree, tells what ended that, and returns the device and the status.
-fn dump_index<D: SectorDisk + Drop, K: ReadKeys + KeyClass<Key = Box2>, W: Write, E: Write>(
-    index: Index<D, K>,
-    writer: &mut Noted<W>,
-    faults: &mut Noted<E>,
-) -> (D, u8)
-    ensures { DumpsIndex ⟦<Box2 as Shape>⟧ K.is_proper K.said K.KeyClass D.state index result.0
+fn dump_index<
+    D: SectorDisk + Drop,
+    B: Corners,
+    K: ReadKeys + KeyClass<Key = B>,
+    W: Write,
+    E: Write,
+>(index: Index<D, K>, writer: &mut Noted<W>, faults: &mut Noted<E>) -> (D, u8)
+    ensures { DumpsIndex (grammar_of B.Corners) B.Shape K.ReadKeys D.state index result.0
         (outputs_of W.contents E.contents writer.old faults.old)
         (outputs_of W.contents E.contents writer.new faults.new) result.1 }
 {
@@ -61,11 +62,12 @@ fn dump_index<D: SectorDisk + Drop, K: ReadKeys + KeyClass<Key = Box2>, W: Write
 /// written, the user is told, unless the reader has left.
 pub fn dump_over<
     D: SectorDisk + Drop,
-    K: ReadKeys + KeyClass<Key = Box2> + Probing,
+    B: Corners,
+    K: ReadKeys + KeyClass<Key = B> + Probing,
     W: Write,
     E: Write,
 >(alloc: Global, disk: D, frames: usize, writer: &mut Noted<W>, faults: &mut Noted<E>) -> (D, u8)
-    ensures { DumpsOver ⟦<Box2 as Shape>⟧ K.is_proper K.said K.KeyClass D.state K.CLASS frames disk result.0
+    ensures { DumpsOver (grammar_of B.Corners) B.Shape K.ReadKeys D.state K.CLASS frames disk result.0
         (outputs_of W.contents E.contents writer.old faults.old)
         (outputs_of W.contents E.contents writer.new faults.new) result.1 }
 {

@@ -5,11 +5,11 @@ ghost use Rattle.gx_commands.specs.Streams.{outputs_of, stream_of};
 use crate::opener::{Access, Opener};
 use crate::person::tell_file;
 use crate::refusals::print_refusal;
-use crate::{REFUSED, dump_over, format_over, run_over, verify_over};
-use gx_class::{Box2Class, KeyClass};
+use crate::{REFUSED, dump_device, format_over, run_device, verify_device};
+use gx_class::{Box2Class, Box3Class, KeyClass};
 use gx_disk::{DiskFault, FileDisk, SectorDisk};
 use gx_format::sectors_for;
-use gx_geom::{Box2, Refusal, Shape};
+use gx_geom::{Box2, Box3, Refusal, Shape};
 use gx_script::Noted;
 use std::alloc::Global;
 use std::fs::{File, Files};
@@ -18,11 +18,11 @@ use std::io::{Read, Write};
 /// How many pages a dump holds in memory, and verifying.
 const FRAMES: usize = 64;
 
-/// Opens or makes a file, extends a shorter one, and lays a new index of boxes down in it.
+/// Opens or makes a file, extends a shorter one, and lays a new index of a class of keys down in it.
 ///
 /// The status is that of `format_over`. It is 1 too where the file can't be opened, made or extended, which writes
 /// `refused 11 device`, and tells the user why, behind the file's name. Why a call of it failed is reported too.
-pub fn format_file<'w, F: Files<File = File>, W: Write, E: Write>(
+pub fn format_file<'w, K: KeyClass, F: Files<File = File>, W: Write, E: Write>(
     opener: &mut Opener<'w, F>,
     alloc: Global,
     file: &'w str,
@@ -31,13 +31,13 @@ pub fn format_file<'w, F: Files<File = File>, W: Write, E: Write>(
     writer: &mut Noted<W>,
     faults: &mut Noted<E>,
 ) -> u8
-    ensures { EndsFormat ⟦<Box2Class as KeyClass>⟧ ⟦<FileDisk as SectorDisk>⟧.state file.now opener.old opener.new
+    ensures { EndsFormat K.KeyClass K.CLASS ⟦<FileDisk as SectorDisk>⟧.state file.now opener.old opener.new
         pages most (outputs_of W.contents E.contents writer.old faults.old)
         (outputs_of W.contents E.contents writer.new faults.new) result }
 {
     match opener.open(file, Access::Create(sectors_for(pages))) {
         Ok(mut disk) => {
-            let status = format_over::<FileDisk, Box2Class, W, E>(
+            let status = format_over::<FileDisk, K, W, E>(
                 alloc, &mut disk, pages, most, writer, faults,
             );
             leave(opener, file, disk, faults);
@@ -49,8 +49,8 @@ pub fn format_file<'w, F: Files<File = File>, W: Write, E: Write>(
 
 /// Opens a file that is there, and runs a script on the index of boxes that it holds.
 ///
-/// The status is that of `run_over`. It is 1 too where the file can't be opened, which writes `refused 11 device`, and
-/// tells the user why, behind the file's name; nothing is read then. Why a call of it failed is reported too.
+/// The status is that of `run_device`. It is 1 too where the file can't be opened, which writes `refused 11 device`,
+/// and tells the user why, behind the file's name; nothing is read then. Why a call of it failed is reported too.
 pub fn run_file<'w, F: Files<File = File>, R: Read, W: Write, E: Write>(
     opener: &mut Opener<'w, F>,
     alloc: Global,
@@ -60,16 +60,15 @@ pub fn run_file<'w, F: Files<File = File>, R: Read, W: Write, E: Write>(
     writer: &mut Noted<W>,
     faults: &mut Noted<E>,
 ) -> u8
-    ensures { EndsRun ⟦<Box2 as Shape>⟧ ⟦<Box2Class as KeyClass>⟧ ⟦<FileDisk as SectorDisk>⟧.state file.now
+    ensures { EndsRun ⟦<Box2 as Shape>⟧ ⟦<Box2Class as KeyClass>⟧ ⟦<Box3 as Shape>⟧ ⟦<Box3Class as KeyClass>⟧
+        ⟦<FileDisk as SectorDisk>⟧.state file.now
         opener.old opener.new frames (stream_of R.remaining reader.old) (stream_of R.remaining reader.new)
         (outputs_of W.contents E.contents writer.old faults.old)
         (outputs_of W.contents E.contents writer.new faults.new) result }
 {
     match opener.open(file, Access::Write) {
         Ok(disk) => {
-            let (disk, status) = run_over::<FileDisk, Box2Class, R, W, E>(
-                alloc, disk, frames, reader, writer, faults,
-            );
+            let (disk, status) = run_device(alloc, disk, frames, reader, writer, faults);
             leave(opener, file, disk, faults);
             status
         }
@@ -79,7 +78,7 @@ pub fn run_file<'w, F: Files<File = File>, R: Read, W: Write, E: Write>(
 
 /// Opens a file that is there, and writes the text of the tree of the index of boxes that it holds.
 ///
-/// The status is that of `dump_over`, with 64 frames. It is 1 too where the file can't be opened, which writes
+/// The status is that of `dump_device`, with 64 frames. It is 1 too where the file can't be opened, which writes
 /// `refused 11 device`, and tells the user why, behind the file's name. Why a call of it failed is reported too.
 pub fn dump_file<'w, F: Files<File = File>, W: Write, E: Write>(
     opener: &mut Opener<'w, F>,
@@ -88,15 +87,14 @@ pub fn dump_file<'w, F: Files<File = File>, W: Write, E: Write>(
     writer: &mut Noted<W>,
     faults: &mut Noted<E>,
 ) -> u8
-    ensures { EndsDump ⟦<Box2 as Shape>⟧ ⟦<Box2Class as KeyClass>⟧ ⟦<FileDisk as SectorDisk>⟧.state file.now
+    ensures { EndsDump ⟦<Box2 as Shape>⟧ ⟦<Box2Class as KeyClass>⟧ ⟦<Box3 as Shape>⟧ ⟦<Box3Class as KeyClass>⟧
+        ⟦<FileDisk as SectorDisk>⟧.state file.now
         opener.old opener.new (outputs_of W.contents E.contents writer.old faults.old)
         (outputs_of W.contents E.contents writer.new faults.new) result }
 {
     match opener.open(file, Access::Write) {
         Ok(disk) => {
-            let (disk, status) = dump_over::<FileDisk, Box2Class, W, E>(
-                alloc, disk, FRAMES, writer, faults,
-            );
+            let (disk, status) = dump_device(alloc, disk, FRAMES, writer, faults);
             leave(opener, file, disk, faults);
             status
         }
@@ -106,7 +104,7 @@ pub fn dump_file<'w, F: Files<File = File>, W: Write, E: Write>(
 
 /// Opens a file that is there to read it alone, and verifies the index of boxes that it holds: the file stays as it is.
 ///
-/// The status is that of `verify_over`, with 64 frames. It is 1 too where the file can't be opened, which writes
+/// The status is that of `verify_device`, with 64 frames. It is 1 too where the file can't be opened, which writes
 /// `refused 11 device`, and tells the user why, behind the file's name. Why a call of it failed is reported too.
 pub fn verify_file<'w, F: Files<File = File>, W: Write, E: Write>(
     opener: &mut Opener<'w, F>,
@@ -115,15 +113,14 @@ pub fn verify_file<'w, F: Files<File = File>, W: Write, E: Write>(
     writer: &mut Noted<W>,
     faults: &mut Noted<E>,
 ) -> u8
-    ensures { EndsVerify ⟦<Box2 as Shape>⟧ ⟦<Box2Class as KeyClass>⟧ ⟦<FileDisk as SectorDisk>⟧.state file.now
+    ensures { EndsVerify ⟦<Box2 as Shape>⟧ ⟦<Box2Class as KeyClass>⟧ ⟦<Box3 as Shape>⟧ ⟦<Box3Class as KeyClass>⟧
+        ⟦<FileDisk as SectorDisk>⟧.state file.now
         opener.old opener.new (outputs_of W.contents E.contents writer.old faults.old)
         (outputs_of W.contents E.contents writer.new faults.new) result }
 {
     match opener.open(file, Access::Read) {
         Ok(mut disk) => {
-            let status = verify_over::<FileDisk, Box2Class, W, E>(
-                alloc, &mut disk, FRAMES, writer, faults,
-            );
+            let status = verify_device(alloc, &mut disk, FRAMES, writer, faults);
             leave(opener, file, disk, faults);
             status
         }

@@ -6,6 +6,7 @@
 
 mod causes;
 mod damage;
+mod devices;
 mod dumping;
 mod files;
 mod formatting;
@@ -19,6 +20,7 @@ mod scripts;
 mod verifying;
 mod watched;
 
+pub use devices::{dump_device, run_device, verify_device};
 pub use dumping::dump_over;
 pub use files::{dump_file, format_file, run_file, verify_file};
 pub use formatting::format_over;

@@ -1,5 +1,6 @@
 //! A script over a device, from its opening to the program's status.
 ghost use Rattle.gx_commands.specs.Streams.{kind_of, outputs_of, stream_of};
+ghost use Rattle.gx_script.specs.Corners.{grammar_of};
 ghost use Rattle.gx_commands.specs.Scripts.{TellsFault};
 ghost use Rattle.gx_commands.specs.Endings.{EndsBy, EndsSettling, RunsOver, RunsScript, TellsSettled};
 
@@ -7,12 +8,11 @@ use crate::opening::{opened, refuse_opening};
 use crate::person::{tell_fault, tell_person};
 use crate::refusals::refuse;
 use crate::{DONE, REFUSED, Watched};
-use gx_class::{KeyClass, Probing};
+use gx_class::{KeyClass, Probing, ReadKeys};
 use gx_disk::SectorDisk;
-use gx_durable::ReadKeys;
-use gx_geom::{Box2, Refusal, Shape};
+use gx_geom::Refusal;
 use gx_restart::{Index, ScriptFault};
-use gx_script::Noted;
+use gx_script::{Corners, Noted};
 use std::alloc::Global;
 use std::io::{Read, Write};
 
@@ -34,11 +34,12 @@ fn tell_settled<W: Write, E: Write>(
 // Settles an index, tells what that was refused with, and returns the device and the status.
 fn settle_after<
     D: SectorDisk + Drop,
-    K: ReadKeys + KeyClass<Key = Box2> + Probing,
+    B: Corners,
+    K: ReadKeys + KeyClass<Key = B> + Probing,
     W: Write,
     E: Write,
 >(index: Index<D, K>, writer: &mut Noted<W>, faults: &mut Noted<E>) -> (D, u8)
-    ensures { EndsSettling ⟦<Box2 as Shape>⟧ K.is_proper K.said K.KeyClass D.state index result.0
+    ensures { EndsSettling B.Shape K.ReadKeys D.state index result.0
         (outputs_of W.contents E.contents writer.old faults.old)
         (outputs_of W.contents E.contents writer.new faults.new) result.1 }
 {
@@ -52,11 +53,12 @@ fn settle_after<
 // settled. The device is handed back.
 fn end_script<
     D: SectorDisk + Drop,
-    K: ReadKeys + KeyClass<Key = Box2> + Probing,
+    B: Corners,
+    K: ReadKeys + KeyClass<Key = B> + Probing,
     W: Write,
     E: Write,
 >(watched: Watched<Index<D, K>>, writer: &mut Noted<W>, faults: &mut Noted<E>) -> (D, u8)
-    ensures { EndsBy ⟦<Box2 as Shape>⟧ K.is_proper K.said K.KeyClass D.state watched.met watched.index result.0
+    ensures { EndsBy B.Shape K.ReadKeys D.state watched.met watched.index result.0
         (outputs_of W.contents E.contents writer.old faults.old)
         (outputs_of W.contents E.contents writer.new faults.new) result.1 }
 {
@@ -74,7 +76,8 @@ fn end_script<
 // Runs a script on an index, and what follows it. The device is handed back: what isn't on it is lost.
 fn run_watched<
     D: SectorDisk + Drop,
-    K: ReadKeys + KeyClass<Key = Box2> + Probing,
+    B: Corners,
+    K: ReadKeys + KeyClass<Key = B> + Probing,
     R: Read,
     W: Write,
     E: Write,
@@ -84,7 +87,7 @@ fn run_watched<
     writer: &mut Noted<W>,
     faults: &mut Noted<E>,
 ) -> (D, u8)
-    ensures { RunsScript ⟦<Box2 as Shape>⟧ K.is_proper K.said K.KeyClass D.state watched result.0
+    ensures { RunsScript (grammar_of B.Corners) B.Shape K.ReadKeys D.state watched result.0
         (stream_of R.remaining reader.old) (stream_of R.remaining reader.new)
         (outputs_of W.contents E.contents writer.old faults.old)
         (outputs_of W.contents E.contents writer.new faults.new) result.1 }
@@ -99,8 +102,8 @@ fn run_watched<
     }
 }
 
-// Tells the user what stopped a script.
-fn tell_stopped<R: Read, W: Write, E: Write>(
+/// Tells the user what stopped a script.
+pub(crate) fn tell_stopped<R: Read, W: Write, E: Write>(
     faults: &mut Noted<E>,
     fault: ScriptFault,
     reader: &Noted<R>,
@@ -116,7 +119,7 @@ fn tell_stopped<R: Read, W: Write, E: Write>(
     tell_fault(faults, fault, kind);
 }
 
-/// Opens a device with so many frames for pages, 16 to 4,096, runs a script of boxes on the index that it holds,
+/// Opens a device with so many frames for pages, 16 to 4,096, runs a script on the index that it holds,
 /// writes the replies, gates all that is logged, and returns the device and the status. Transactions that are open at
 /// the script's end stay open, and the next opening undoes them.
 ///
@@ -128,7 +131,8 @@ fn tell_stopped<R: Read, W: Write, E: Write>(
 /// replies has left. Of the device nothing is asked but by the opening, the script's calls and the settling.
 pub fn run_over<
     D: SectorDisk + Drop,
-    K: ReadKeys + KeyClass<Key = Box2> + Probing,
+    B: Corners,
+    K: ReadKeys + KeyClass<Key = B> + Probing,
     R: Read,
     W: Write,
     E: Write,
@@ -140,7 +144,7 @@ pub fn run_over<
     writer: &mut Noted<W>,
     faults: &mut Noted<E>,
 ) -> (D, u8)
-    ensures { RunsOver ⟦<Box2 as Shape>⟧ K.is_proper K.said K.KeyClass D.state K.CLASS frames disk result.0
+    ensures { RunsOver (grammar_of B.Corners) B.Shape K.ReadKeys D.state K.CLASS frames disk result.0
         (stream_of R.remaining reader.old) (stream_of R.remaining reader.new)
         (outputs_of W.contents E.contents writer.old faults.old)
         (outputs_of W.contents E.contents writer.new faults.new) result.1 }

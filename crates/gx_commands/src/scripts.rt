@@ -1,11 +1,14 @@
 //! A script on a fresh index, from its first byte to the program's status.
+ghost use Rattle.gx_machine.specs.Keys.{keys_of};
+ghost use Rattle.gx_script.specs.Corners.{grammar_of};
 ghost use Rattle.gx_commands.specs.Scripts.{TellsMemory, EndsScript};
 ghost use Rattle.gx_commands.specs.Streams.{outputs_of, stream_of};
 
-use crate::person::{print, tell_fault};
+use crate::person::print;
+use crate::running::tell_stopped;
 use crate::{DONE, REFUSED};
 use gx_plain::{PlainIndex, run_plain};
-use gx_script::{Noted, ScriptFault};
+use gx_script::{Corners, Noted};
 use std::alloc::Global;
 use std::io::{Read, Write};
 
@@ -22,27 +25,24 @@ pub fn refuse_memory<W: Write>(writer: &mut Noted<W>) -> u8
 /// The status is 0 where the script was read to its end; and 1 where a read or a write failed, of which the user is
 /// told unless the reader of the replies has left, and where memory is refused before the script begins, which writes
 /// `refused 10 memory`.
-pub fn run_script<R: Read, W: Write, E: Write>(
+pub fn run_script<B: Corners, R: Read, W: Write, E: Write>(
     alloc: Global,
     reader: &mut Noted<R>,
     writer: &mut Noted<W>,
     faults: &mut Noted<E>,
 ) -> u8
-    ensures { EndsScript (stream_of R.remaining reader.old) (stream_of R.remaining reader.new)
+    ensures { EndsScript (grammar_of B.Corners) (keys_of B.Shape)
+        (stream_of R.remaining reader.old) (stream_of R.remaining reader.new)
         (outputs_of W.contents E.contents writer.old faults.old)
         (outputs_of W.contents E.contents writer.new faults.new) result }
 {
-    let Ok(mut index) = PlainIndex::new(alloc) else {
+    let Ok(mut index) = PlainIndex::<B>::new(alloc) else {
         return refuse_memory(writer);
     };
     match run_plain(reader, writer, &mut index) {
         Ok(()) => DONE,
         Err(fault) => {
-            let kind = match fault {
-                ScriptFault::Read => reader.kind,
-                ScriptFault::Write => writer.kind,
-            };
-            tell_fault(faults, fault, kind);
+            tell_stopped(faults, fault, reader, writer);
             REFUSED
         }
     }

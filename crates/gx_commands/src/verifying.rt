@@ -2,20 +2,19 @@
 ghost use Rattle.std.specs.Prelude.{◌≡◌, true, IfErr, IfSome};
 ghost use Rattle.gx_commands.specs.Streams.{outputs_of};
 ghost use Rattle.gx_commands.specs.Lines.{verified_line};
-ghost use Rattle.gx_commands.specs.Verifying.{IsFoundIn, TellsReport, TellsUnverified, Verifies, VerifiesOver};
-ghost use Rattle.gx_node.specs.Reading.{format_of};
+ghost use Rattle.gx_commands.specs.Verifying.{CopyFinds, TellsReport, TellsUnverified, Verifies, VerifiesOver};
 ghost use Rattle.gx_restart.specs.Copied.{memory_state};
-ghost use Rattle.gx_restart.specs.Verified.{IsDamagedCopy, why_of};
+ghost use Rattle.gx_restart.specs.Verified.{why_of};
+ghost use Rattle.gx_restart.specs.Setting.{HandsOutAs, IsDamagedCopyAs};
 
 use crate::opening::tell_found;
 use crate::person::tell_fault;
 use crate::refusals::{print_refusal, refuse};
 use crate::{DONE, REFUSED};
 use arrayvec::ArrayString;
-use gx_class::{KeyClass, Probing};
+use gx_class::{Probing, ReadKeys};
 use gx_disk::{MemDisk, SectorDisk};
-use gx_durable::ReadKeys;
-use gx_geom::{Box2, Refusal, Shape};
+use gx_geom::Refusal;
 use gx_opening::{Damage, examine};
 use gx_restart::{NotVerified, Report, verify_or_copy};
 use gx_script::{Noted, write_whole};
@@ -60,13 +59,13 @@ fn tell_report<W: Write, E: Write>(
     }
 }
 
-// What is damaged in a copy, if there is one and something is found.
-fn damage_in<K: ReadKeys>(alloc: Global, copy: Option<MemDisk>) -> Option<Damage>
-    ensures { IfSome result (IsFoundIn K.Key.Shape K.is_proper K.said K.KeyClass K.CLASS copy) }
+// What is damaged in a copy, if there is one.
+fn damage_in<K: ReadKeys>(alloc: Global, copy: Option<MemDisk>) -> Result<Option<Damage>, Refusal>
+    ensures { CopyFinds K.Key.Shape K.ReadKeys K.CLASS copy result }
 {
     match copy {
         Some(copy) => examine::<MemDisk, K>(alloc, copy).1,
-        None => None,
+        None => Ok(None),
     }
 }
 
@@ -77,7 +76,7 @@ fn refuse_verified<K: ReadKeys, W: Write, E: Write>(
     writer: &mut Noted<W>,
     faults: &mut Noted<E>,
 ) -> u8
-    ensures { TellsUnverified (IsFoundIn K.Key.Shape K.is_proper K.said K.KeyClass K.CLASS refused.copy) refused.why
+    ensures { TellsUnverified (CopyFinds K.Key.Shape K.ReadKeys K.CLASS refused.copy) refused.why
         (outputs_of W.contents E.contents writer.old faults.old)
         (outputs_of W.contents E.contents writer.new faults.new) result }
 {
@@ -93,16 +92,15 @@ fn refuse_verified<K: ReadKeys, W: Write, E: Write>(
 }
 
 // Verifies a device, in one word.
-fn verified<D: SectorDisk, K: ReadKeys + KeyClass<Key = Box2> + Probing>(
+fn verified<D: SectorDisk, K: ReadKeys + Probing>(
     alloc: Global,
     disk: &mut D,
     frames: usize,
 ) -> Result<Report, NotVerified>
-    ensures told { Verifies ⟦<Box2 as Shape>⟧ K.is_proper K.said K.KeyClass D.state K.CLASS
-        frames disk.old disk.new (why_of result) }
+    ensures told { Verifies K.Key.Shape K.ReadKeys D.state K.CLASS frames disk.old disk.new (why_of result) }
     ensures damaged { (D.state disk.old).honest ≡ true → IfErr result (λ n. n.why ≡ Refusal.Damaged → IfSome n.copy
-        (λ copy. IsDamagedCopy ⟦<Box2 as Shape>⟧ K.is_proper K.said (format_of K.KeyClass)
-        (D.state disk.old) (memory_state copy))) }
+        (λ copy. IsDamagedCopyAs K.Key.Shape K.ReadKeys (D.state disk.old) (memory_state copy))) }
+    ensures copy { (D.state disk.old).honest ≡ true → IfErr result (HandsOutAs K.Key.Shape K.ReadKeys) }
 {
     verify_or_copy::<D, K>(alloc, disk, frames)
 }
@@ -113,14 +111,14 @@ fn verified<D: SectorDisk, K: ReadKeys + KeyClass<Key = Box2> + Probing>(
 /// The status is 0 where the line was written. It is 1 in all other cases: where the line couldn't be written, of
 /// which the user is told unless the reader has left; and where the device isn't verified, which writes `refused N
 /// text`, and tells the user what that means, and of damage where it lies, as it is found in a copy of the device.
-pub fn verify_over<D: SectorDisk, K: ReadKeys + KeyClass<Key = Box2> + Probing, W: Write, E: Write>(
+pub fn verify_over<D: SectorDisk, K: ReadKeys + Probing, W: Write, E: Write>(
     alloc: Global,
     disk: &mut D,
     frames: usize,
     writer: &mut Noted<W>,
     faults: &mut Noted<E>,
 ) -> u8
-    ensures { VerifiesOver ⟦<Box2 as Shape>⟧ K.is_proper K.said K.KeyClass D.state K.CLASS frames disk.old disk.new
+    ensures { VerifiesOver K.Key.Shape K.ReadKeys D.state K.CLASS frames disk.old disk.new
         (outputs_of W.contents E.contents writer.old faults.old)
         (outputs_of W.contents E.contents writer.new faults.new) result }
 {

@@ -1,8 +1,8 @@
 //! An index whose replies are watched for faults.
 ghost use Rattle.std.specs.Prelude.{◌≡◌, false};
-ghost use Rattle.gx_commands.specs.Watching.{tells_fault};
+ghost use Rattle.gx_commands.specs.Watching.{Watches, tells_fault};
 
-use gx_geom::{Box2, Refusal};
+use gx_geom::Refusal;
 use gx_machine::{Call, Reply};
 use gx_script::Answers;
 
@@ -25,7 +25,7 @@ impl<I> Watched<I> {
 }
 
 // Whether a reply tells that the device failed, or had failed before, or holds what can't be read.
-fn tells_fault(reply: &Reply<Box2>) -> bool
+fn tells_fault<B>(reply: &Reply<B>) -> bool
     ensures { result ≡ tells_fault reply.now }
 {
     matches!(
@@ -34,12 +34,14 @@ fn tells_fault(reply: &Reply<Box2>) -> bool
     )
 }
 
-impl<I: Answers> Answers for Watched<I> {
+impl<B, I: Answers<B>> Answers<B> for Watched<I> {
     ghost use Rattle.gx_commands.specs.Watching.{Watches};
 
     ghost answered = { Watches I.answered };
 
-    fn call(&mut self, session: u8, call: Call<Box2>) -> Reply<Box2> {
+    fn call(&mut self, session: u8, call: Call<B>) -> Reply<B>
+        ensures { Watches I.answered self.old session call result self.new }
+    {
         let reply = self.index.call(session, call);
         if tells_fault(&reply) {
             self.met = true;

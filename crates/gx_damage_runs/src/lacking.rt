@@ -1,5 +1,5 @@
 //! Events of an engine between two marks, between which a library that is loaded before the C library refuses memory
-//! (`bench/refuse_memory.c`). Without that library nothing is refused.
+//! (`trials/refuse_memory.c`). Without that library nothing is refused.
 use crate::draw::{below, one_in};
 use crate::fault::RunFault;
 use crate::opened::FRAMES;

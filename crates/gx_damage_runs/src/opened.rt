@@ -1,9 +1,8 @@
 //! An image is opened, and what comes of it is compared with what the plain reader finds there.
 use crate::device::{bytes_of, device};
 use crate::fault::RunFault;
-use gx_class::Probing;
+use gx_class::{Probing, ReadKeys};
 use gx_disk::MemDisk;
-use gx_durable::ReadKeys;
 use gx_engine::Engine;
 use gx_opening::examine;
 use gx_plain_reader::{Damage, Finding, Part, Reading, findings, read};
@@ -45,8 +44,8 @@ fn is_told(alloc: Global, found: &[Finding], sentence: &str) -> Result<bool, Run
 fn is_said<K: ReadKeys>(alloc: Global, disk: MemDisk, found: &[Finding]) -> Result<bool, RunFault> {
     let (_disk, damage) = examine::<MemDisk, K>(alloc, disk);
     match damage {
-        Some(damage) => is_told(alloc, found, format!(in alloc; "{damage}")?.as_str()),
-        None => Ok(false),
+        Ok(Some(damage)) => is_told(alloc, found, format!(in alloc; "{damage}")?.as_str()),
+        Ok(None) | Err(_) => Ok(false),
     }
 }
 

@@ -21,7 +21,7 @@ fn run(alloc: Global, bytes: &[u8], frames: usize) -> Result<Written, RunFault> 
     let mut writer = Noted::new(Vec::new(alloc));
     let mut faults = Noted::new(Vec::new(alloc));
     let disk = device(alloc, bytes)?;
-    let (_disk, _status) = run_over::<MemDisk, Box2Class, _, _, _>(
+    let (_disk, _status) = run_over::<MemDisk, _, Box2Class, _, _, _>(
         alloc,
         disk,
         frames,
@@ -40,7 +40,7 @@ fn dump(alloc: Global, bytes: &[u8], frames: usize) -> Result<Written, RunFault>
     let mut writer = Noted::new(Vec::new(alloc));
     let mut faults = Noted::new(Vec::new(alloc));
     let disk = device(alloc, bytes)?;
-    let (_disk, _status) = dump_over::<MemDisk, Box2Class, _, _>(
+    let (_disk, _status) = dump_over::<MemDisk, _, Box2Class, _, _>(
         alloc,
         disk,
         frames,

@@ -3,10 +3,9 @@ use crate::devices::{Device, crash, set_fuse};
 use crate::extents::{Seen, log_of, say_seen};
 use crate::fault::RunFault;
 use crate::logs::{Logged, Work, append_commit, append_counters, make, make_calls, put_head};
-use crate::words::{Part, print_parts, say_end, word};
+use crate::words::{Line, Part, print_parts, say_end};
 use gx_disk::{Fuse, Torn};
 use std::alloc::Global;
-use std::str::SplitWhitespace;
 
 /// What a crash leaves of what wasn't synced.
 #[derive(Clone, Copy)]
@@ -95,16 +94,31 @@ impl Case {
         self.run(alloc, &mut logged)
     }
 
-    /// Prints what the crash leaves, and the log after it.
+    /// The case in words.
+    fn parts(self) -> [Part<'static>; 7] {
+        let (call, fault, done) = match (self.fault, self.done) {
+            (u64::MAX, _) => (" calls", Part::Text(""), ", "),
+            (fault, true) => (" calls, call", Part::Number(fault), " fails and is done, "),
+            (fault, false) => (
+                " calls, call",
+                Part::Number(fault),
+                " fails and isn't done, ",
+            ),
+        };
+        [
+            Part::Text(" "),
+            Part::Number(self.calls),
+            Part::Text(call),
+            fault,
+            Part::Text(done),
+            Part::Text(self.left.name()),
+            Part::Text(" sectors:"),
+        ]
+    }
+
+    /// Prints the case, and the log after it.
     fn say<R: Print>(self, rt: &R, alloc: Global) -> Result<(), RunFault> {
-        print_parts(
-            rt,
-            &[
-                Part::Text(" "),
-                Part::Text(self.left.name()),
-                Part::Text(" sectors:"),
-            ],
-        )?;
+        print_parts(rt, &self.parts())?;
         say_seen(rt, self.seen(alloc)?)
     }
 }
@@ -120,35 +134,22 @@ fn crashes<R: Print>(rt: &R, alloc: Global, work: Work) -> Result<(), RunFault> 
                 done: false,
                 left,
             };
-            print_parts(
-                rt,
-                &[Part::Text(" "), Part::Number(calls), Part::Text(" calls,")],
-            )?;
             case.say(rt, alloc)?;
         }
     }
     Ok(())
 }
 
-/// Prints a case in which a call fails, and the log after it.
-fn say_fault<R: Print>(rt: &R, alloc: Global, case: Case) -> Result<(), RunFault> {
-    let done = if case.done { "is" } else { "isn't" };
-    print_parts(
-        rt,
-        &[
-            Part::Text(" "),
-            Part::Number(case.calls),
-            Part::Text(" calls, call"),
-            Part::Number(case.fault),
-            Part::Text(" fails and "),
-            Part::Text(done),
-            Part::Text(" done,"),
-        ],
-    )?;
-    case.say(rt, alloc)
-}
+/// Crashes behind a fault, and one once all calls were made: whether all were, and what the crash leaves.
+const BEHIND: [(bool, Left); 5] = [
+    (false, Left::Old),
+    (false, Left::New),
+    (false, Left::Mixed),
+    (false, Left::Other),
+    (true, Left::Old),
+];
 
-/// A fault at a call: a crash behind it, and a crash once all was made.
+/// A fault at a call, done or not, and a crash.
 fn fails<R: Print>(
     rt: &R,
     alloc: Global,
@@ -156,20 +157,18 @@ fn fails<R: Print>(
     fault: u64,
     done: bool,
 ) -> Result<(), RunFault> {
-    let mut case = Case {
-        work,
-        calls: fault.saturating_add(1),
-        fault,
-        done,
-        left: Left::Old,
-    };
-    for left in ALL {
-        case.left = left;
-        say_fault(rt, alloc, case)?;
+    for (is_whole, left) in BEHIND {
+        let last = if is_whole { work.calls() } else { fault };
+        let case = Case {
+            work,
+            calls: last.saturating_add(1),
+            fault,
+            done,
+            left,
+        };
+        case.say(rt, alloc)?;
     }
-    case.left = Left::Old;
-    case.calls = work.calls().saturating_add(1);
-    say_fault(rt, alloc, case)
+    Ok(())
 }
 
 /// A fault at each call, done or not.
@@ -182,27 +181,16 @@ fn faults<R: Print>(rt: &R, alloc: Global, work: Work) -> Result<(), RunFault> {
     Ok(())
 }
 
-/// What is made, by its name.
-fn work(name: &str) -> Result<Work, RunFault> {
-    match name {
-        "batch" => Ok(Work::Batch),
-        "turn" => Ok(Work::Turn),
-        _ => Err(RunFault::BadLine),
-    }
-}
-
 /// A line that asks for all cases.
-pub(crate) fn call<R: Print>(
-    rt: &R,
-    alloc: Global,
-    words: &mut SplitWhitespace<'_>,
-) -> Result<(), RunFault> {
-    let asked = word(words)?;
-    let work = work(word(words)?)?;
+pub(crate) fn call<R: Print>(rt: &R, alloc: Global, line: &Line<'_>) -> Result<(), RunFault> {
+    let work = if line.words[1] == "batch" {
+        Work::Batch
+    } else {
+        Work::Turn
+    };
     say_end(rt)?;
-    match asked {
+    match line.asked() {
         "crashes" => crashes(rt, alloc, work),
-        "faults" => faults(rt, alloc, work),
-        _ => Err(RunFault::BadLine),
+        _ => faults(rt, alloc, work),
     }
 }

@@ -1,10 +1,9 @@
 //! The device in memory behind a fuse, and what becomes of it.
 use crate::fault::RunFault;
-use crate::words::{Part, byte, count, number, say_parts, word};
+use crate::words::{Line, Part, byte, say_parts, to_usize};
 use gx_disk::{Fuse, FuseDisk, MemDisk, SectorDisk, Torn};
 use std::alloc::{AllocError, Global};
 use std::mem;
-use std::str::SplitWhitespace;
 
 /// A device in memory behind a fuse.
 pub(crate) type Device = FuseDisk<MemDisk>;
@@ -39,86 +38,60 @@ pub(crate) fn crash(disk: &mut Device, alloc: Global, left: &[Torn]) {
 }
 
 /// Another device.
-fn renew(
-    disk: &mut Device,
-    alloc: Global,
-    words: &mut SplitWhitespace<'_>,
-) -> Result<(), RunFault> {
-    *disk = blank(alloc, count(words)?)?;
+fn renew(disk: &mut Device, alloc: Global, line: &Line<'_>) -> Result<(), AllocError> {
+    *disk = blank(alloc, to_usize(line.numbers[1]))?;
     Ok(())
 }
 
 /// A fuse by its words: behind how many calls, how often, and whether a write is done that fails.
-fn fuse_by(
-    disk: &mut Device,
-    alloc: Global,
-    words: &mut SplitWhitespace<'_>,
-) -> Result<(), RunFault> {
-    let calls = number(words)?;
-    let fuse = match word(words)? {
-        "once" => Fuse::Once,
-        "ever" => Fuse::ForEver,
-        _ => return Err(RunFault::BadLine),
+fn fuse_by(disk: &mut Device, alloc: Global, line: &Line<'_>) {
+    let fuse = if line.words[2] == "once" {
+        Fuse::Once
+    } else {
+        Fuse::ForEver
     };
-    let done = words.next().is_some();
-    set_fuse(disk, alloc, calls, fuse, done);
-    Ok(())
+    let done = !line.words[3].is_empty();
+    set_fuse(disk, alloc, line.numbers[1], fuse, done);
 }
 
 /// What a crash leaves of a sector: its old bytes, its new bytes, or a byte all over.
-fn choice(word: &str) -> Result<Torn, RunFault> {
+fn choice(word: &str) -> Torn {
     match word {
-        "old" => Ok(Torn::Old),
-        "new" => Ok(Torn::New),
-        _ => {
-            let byte = byte(word)?;
-            Ok(Torn::Bytes([byte; 512]))
-        }
+        "old" => Torn::Old,
+        "new" => Torn::New,
+        _ => Torn::Bytes([byte(word); 512]),
     }
 }
 
-fn choices(alloc: Global, words: &mut SplitWhitespace<'_>) -> Result<Vec<Torn>, RunFault> {
-    let mut choices = Vec::new(alloc);
-    for word in words {
-        choices.push(choice(word)?)?;
+/// A crash by a line's words: none, one or two.
+fn crash_by(disk: &mut Device, alloc: Global, line: &Line<'_>) {
+    let [_, one, two, ..] = line.words;
+    if one.is_empty() {
+        crash(disk, alloc, &[]);
+    } else if two.is_empty() {
+        crash(disk, alloc, &[choice(one)]);
+    } else {
+        crash(disk, alloc, &[choice(one), choice(two)]);
     }
-    Ok(choices)
-}
-
-fn crash_by(
-    disk: &mut Device,
-    alloc: Global,
-    words: &mut SplitWhitespace<'_>,
-) -> Result<(), RunFault> {
-    let left = choices(alloc, words)?;
-    crash(disk, alloc, &left);
-    Ok(())
 }
 
 /// Reserves memory for so many calls on so many sectors.
-fn reserve(
-    disk: &mut Device,
-    alloc: Global,
-    words: &mut SplitWhitespace<'_>,
-) -> Result<(), RunFault> {
-    let calls = count(words)?;
-    let sectors = count(words)?;
+fn reserve(disk: &mut Device, alloc: Global, line: &Line<'_>) -> Result<(), AllocError> {
+    let [_, calls, sectors, ..] = line.numbers;
     let mut inner = take(disk, alloc);
-    let reserved = inner.reserve(calls, sectors);
+    let reserved = inner.reserve(to_usize(calls), to_usize(sectors));
     *disk = whole(inner);
-    reserved?;
-    Ok(())
+    reserved
 }
 
 /// Cuts the device off behind so many sectors.
-fn cut(disk: &mut Device, alloc: Global, words: &mut SplitWhitespace<'_>) -> Result<(), RunFault> {
-    let sectors = count(words)?;
+fn cut(disk: &mut Device, alloc: Global, line: &Line<'_>) {
+    let sectors = to_usize(line.numbers[1]);
     let mut inner = take(disk, alloc);
     if sectors as u64 <= inner.sectors() {
         inner.cut(sectors);
     }
     *disk = whole(inner);
-    Ok(())
 }
 
 /// A sector's first byte, 0 where it can't be read.
@@ -161,20 +134,15 @@ fn say_firsts<R: Print>(rt: &R, disk: &mut Device, alloc: Global) -> Result<(), 
 }
 
 /// Does what a line asks of the device.
-fn make(
-    disk: &mut Device,
-    alloc: Global,
-    name: &str,
-    words: &mut SplitWhitespace<'_>,
-) -> Result<(), RunFault> {
-    match name {
-        "new" => renew(disk, alloc, words),
-        "fuse" => fuse_by(disk, alloc, words),
-        "crash" => crash_by(disk, alloc, words),
-        "reserve" => reserve(disk, alloc, words),
-        "cut" => cut(disk, alloc, words),
-        _ => Err(RunFault::BadLine),
+fn make(disk: &mut Device, alloc: Global, line: &Line<'_>) -> Result<(), AllocError> {
+    match line.asked() {
+        "new" => renew(disk, alloc, line)?,
+        "reserve" => reserve(disk, alloc, line)?,
+        "fuse" => fuse_by(disk, alloc, line),
+        "crash" => crash_by(disk, alloc, line),
+        _ => cut(disk, alloc, line),
     }
+    Ok(())
 }
 
 /// A line about the device.
@@ -182,12 +150,11 @@ pub(crate) fn call<R: Print>(
     rt: &R,
     disk: &mut Device,
     alloc: Global,
-    words: &mut SplitWhitespace<'_>,
+    line: &Line<'_>,
 ) -> Result<(), RunFault> {
-    let name = word(words)?;
-    if name == "firsts" {
+    if line.asked() == "firsts" {
         return say_firsts(rt, disk, alloc);
     }
-    make(disk, alloc, name, words)?;
+    make(disk, alloc, line)?;
     say_parts(rt, &[Part::Number(disk.sectors()), Part::Text(" sectors")])
 }

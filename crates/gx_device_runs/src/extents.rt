@@ -2,11 +2,11 @@
 use crate::fault::RunFault;
 use crate::logs::extent;
 use crate::records::say_record;
-use crate::words::{Part, place, print_parts, say, say_number, say_parts, word};
+use crate::words::{Line, Part, print_parts, say, say_number, say_parts};
 use gx_disk::SectorDisk;
+use gx_geom::Refusal;
 use gx_glog::{BODY_SIZE, Extent, PLACES, read_extent, selected};
 use std::alloc::Global;
-use std::str::SplitWhitespace;
 
 /// What is read of a log.
 #[derive(Clone, Copy)]
@@ -27,11 +27,11 @@ fn name(extent: Extent) -> &'static str {
 }
 
 /// The extent that a device selects.
-fn selected_by<D: SectorDisk>(disk: &mut D) -> Result<Extent, RunFault> {
+fn selected_by<D: SectorDisk>(disk: &mut D) -> Result<Extent, Refusal> {
     if disk.sectors() < 4168 {
-        return Err(RunFault::BadLine);
+        return Err(Refusal::TooSmall);
     }
-    Ok(selected(disk)?)
+    selected(disk)
 }
 
 /// Reads the body of a place, and returns how many bytes of records it has. `None` where its gate is closed.
@@ -40,38 +40,35 @@ fn read<D: SectorDisk>(
     extent: Extent,
     place: u8,
     body: &mut [u8],
-) -> Result<Option<usize>, RunFault> {
+) -> Result<Option<usize>, Refusal> {
     if place >= PLACES || disk.sectors() < 4168 || body.len() != BODY_SIZE {
-        return Err(RunFault::BadLine);
+        return Err(Refusal::TooSmall);
     }
-    Ok(read_extent(disk, extent, place, body)?)
+    read_extent(disk, extent, place, body)
 }
 
 /// The batches up to the first closed gate.
-fn gated<D: SectorDisk>(disk: &mut D, extent: Extent, body: &mut [u8]) -> Result<Seen, RunFault> {
-    let mut last = 0;
-    for batches in 0..PLACES {
-        let Some(size) = read(disk, extent, batches, body)? else {
-            return Ok(Seen {
-                extent,
-                batches,
-                last,
-            });
-        };
-        last = size;
-    }
-    Ok(Seen {
+fn gated<D: SectorDisk>(disk: &mut D, extent: Extent, body: &mut [u8]) -> Result<Seen, Refusal> {
+    let mut seen = Seen {
         extent,
-        batches: PLACES,
-        last,
-    })
+        batches: 0,
+        last: 0,
+    };
+    for place in 0..PLACES {
+        let Some(size) = read(disk, extent, place, body)? else {
+            break;
+        };
+        seen.batches = place.saturating_add(1);
+        seen.last = size;
+    }
+    Ok(seen)
 }
 
 /// The log of a device.
 pub(crate) fn log_of<D: SectorDisk>(alloc: Global, disk: &mut D) -> Result<Seen, RunFault> {
-    let extent = selected_by(disk)?;
     let mut body = vec![in alloc; 0; BODY_SIZE]?;
-    gated(disk, extent, &mut body)
+    let extent = selected_by(disk)?;
+    Ok(gated(disk, extent, &mut body)?)
 }
 
 /// Prints a log.
@@ -90,66 +87,50 @@ pub(crate) fn say_seen<R: Print>(rt: &R, seen: Seen) -> Result<(), RunFault> {
 }
 
 /// Prints what a place has: nothing, the size of its records, or none that can be read.
-fn say_place<R: Print>(rt: &R, found: Result<Option<usize>, RunFault>) -> Result<(), RunFault> {
+fn say_place<R: Print>(rt: &R, found: Result<Option<usize>, Refusal>) -> Result<(), RunFault> {
     match found {
         Ok(Some(size)) => say_number(rt, size as u64),
         Ok(None) => say(rt, "closed"),
-        Err(RunFault::Damaged) => say(rt, "damaged"),
-        Err(fault) => Err(fault),
+        Err(Refusal::Damaged) => say(rt, "damaged"),
+        Err(refusal) => Err(RunFault::from(refusal)),
     }
-}
-
-/// Reads the place that a line names, of the extent that it names.
-fn read_place<R: Print, D: SectorDisk>(
-    rt: &R,
-    alloc: Global,
-    disk: &mut D,
-    words: &mut SplitWhitespace<'_>,
-) -> Result<(), RunFault> {
-    let extent = extent(word(words)?)?;
-    let place = place(words)?;
-    let mut body = vec![in alloc; 0; BODY_SIZE]?;
-    say_place(rt, read(disk, extent, place, &mut body))
 }
 
 /// Prints how many bytes of records a body has, and the first of them.
 fn say_body<R: Print>(rt: &R, size: usize, body: &[u8]) -> Result<(), RunFault> {
-    let records = body.get(4..).ok_or(RunFault::BadLine)?;
     print_parts(
         rt,
         &[Part::Number(size as u64), Part::Text(" bytes of records:")],
     )?;
-    say_record(rt, records)
+    say_record(rt, body.get(4..).unwrap_or(&[]))
 }
 
-/// Prints how many bytes of records a place of the selected extent has, and the first of them.
-fn say_first<R: Print, D: SectorDisk>(
-    rt: &R,
-    alloc: Global,
-    disk: &mut D,
-    words: &mut SplitWhitespace<'_>,
-) -> Result<(), RunFault> {
-    let place = place(words)?;
-    let mut body = vec![in alloc; 0; BODY_SIZE]?;
-    let extent = selected_by(disk)?;
-    match read(disk, extent, place, &mut body)? {
-        Some(size) => say_body(rt, size, &body),
-        None => say(rt, "closed"),
-    }
+/// The place of an extent that a number names, or one behind the last.
+fn place(number: u64) -> u8 {
+    u8::try_from(number).unwrap_or(PLACES)
 }
 
-/// A line about the log as a device has it.
+/// A line about the log as a device has it: of the extent that it names where it asks for a place, else of the selected
+/// one.
 pub(crate) fn call<R: Print, D: SectorDisk>(
     rt: &R,
     alloc: Global,
     disk: &mut D,
-    words: &mut SplitWhitespace<'_>,
+    line: &Line<'_>,
 ) -> Result<(), RunFault> {
-    match word(words)? {
-        "log" => say_seen(rt, log_of(alloc, disk)?),
-        "selected" => say(rt, name(selected_by(disk)?)),
-        "place" => read_place(rt, alloc, disk, words),
-        "first" => say_first(rt, alloc, disk, words),
-        _ => Err(RunFault::BadLine),
+    let [_, first, second, ..] = line.numbers;
+    let mut body = vec![in alloc; 0; BODY_SIZE]?;
+    if line.asked() == "place" {
+        let found = read(disk, extent(line.words[1]), place(second), &mut body);
+        return say_place(rt, found);
+    }
+    let selected = selected_by(disk)?;
+    match line.asked() {
+        "log" => say_seen(rt, gated(disk, selected, &mut body)?),
+        "selected" => say(rt, name(selected)),
+        _ => match read(disk, selected, place(first), &mut body) {
+            Ok(Some(size)) => say_body(rt, size, &body),
+            found => say_place(rt, found),
+        },
     }
 }

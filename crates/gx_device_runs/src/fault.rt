@@ -1,5 +1,6 @@
 //! Why a line stops the program.
 use crate::storage::StorageFault;
+use gx_disk::DiskFault;
 use gx_geom::Refusal;
 use gx_page::PageFault;
 use std::alloc::{AllocError, AllocFailed};
@@ -70,6 +71,15 @@ impl From<Refusal> for RunFault {
             Refusal::Device => RunFault::Device,
             Refusal::Damaged => RunFault::Damaged,
             _ => RunFault::Unexpected,
+        }
+    }
+}
+
+impl From<DiskFault> for RunFault {
+    fn from(fault: DiskFault) -> RunFault {
+        match fault {
+            DiskFault::Memory => RunFault::Memory,
+            _ => RunFault::Device,
         }
     }
 }

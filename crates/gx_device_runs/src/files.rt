@@ -2,9 +2,8 @@
 use crate::devices::firsts;
 use crate::fault::RunFault;
 use crate::sectors::{word_of, write};
-use crate::words::{Part, number, say, say_parts, word};
+use crate::words::{Line, Part, say, say_parts};
 use gx_disk::{DiskFault, FileDisk, SectorDisk};
-use std::str::SplitWhitespace;
 
 /// The file.
 const FILE: &str = "runs.device";
@@ -34,12 +33,24 @@ fn say_file<R: Print>(rt: &R, disk: Result<FileDisk, DiskFault>) -> Result<(), R
     }
 }
 
-/// Writes and syncs sector 2 of a file that is created with four sectors, and returns why it can't be opened besides.
-fn write_file(rt: &HostRuntime) -> Result<Option<DiskFault>, DiskFault> {
+/// Opens the file besides: in a word.
+fn open_besides(rt: &HostRuntime) -> &'static str {
+    match FileDisk::open(rt, FILE) {
+        Ok(_) => "opened besides",
+        Err(fault) => word_of(Err(fault)),
+    }
+}
+
+/// Writes and syncs sector 2 of a file that is created with four sectors, and opens it besides.
+fn write_file(rt: &HostRuntime) -> Result<&'static str, DiskFault> {
     let mut disk = FileDisk::create(rt, FILE, 4)?;
-    write(&mut disk, 2, &[0xc3; 512])?;
-    disk.sync()?;
-    Ok(FileDisk::open(rt, FILE).err())
+    let written = write(&mut disk, 2, &[0xc3; 512]);
+    let synced = disk.sync();
+    let besides = open_besides(rt);
+    match (written, synced) {
+        (Ok(()), Ok(())) => Ok(besides),
+        _ => Ok("not written"),
+    }
 }
 
 /// Three words of a line.
@@ -49,14 +60,10 @@ type ThreeWords = (&'static str, &'static str, &'static str);
 fn share_file(rt: &HostRuntime) -> Result<ThreeWords, DiskFault> {
     let mut disk = FileDisk::open_to_read(rt, FILE)?;
     let _other = FileDisk::open_to_read(rt, FILE)?;
-    let besides = match FileDisk::open(rt, FILE) {
-        Ok(_) => "opened besides",
-        Err(fault) => word_of(Err(fault)),
-    };
     Ok((
         word_of(write(&mut disk, 2, &[0xd4; 512])),
         word_of(disk.sync()),
-        besides,
+        open_besides(rt),
     ))
 }
 
@@ -77,23 +84,18 @@ fn say_three<R: Print>(rt: &R, words: ThreeWords) -> Result<(), RunFault> {
 }
 
 /// A line about the file.
-pub(crate) fn call(rt: &HostRuntime, words: &mut SplitWhitespace<'_>) -> Result<(), RunFault> {
-    match word(words)? {
-        "write" => match write_file(rt) {
-            Ok(Some(besides)) => say(rt, word_of(Err(besides))),
-            Ok(None) => say(rt, "opened besides"),
-            Err(_) => say(rt, "not written"),
-        },
+pub(crate) fn call(rt: &HostRuntime, line: &Line<'_>) -> Result<(), RunFault> {
+    match line.asked() {
+        "write" => say(rt, write_file(rt).unwrap_or("not written")),
         "open" => say_file(rt, FileDisk::open(rt, FILE)),
         "share" => match share_file(rt) {
             Ok(words) => say_three(rt, words),
             Err(fault) => say(rt, word_of(Err(fault))),
         },
-        "create" => say_file(rt, FileDisk::create(rt, FILE, number(words)?)),
-        "remove" => {
+        "create" => say_file(rt, FileDisk::create(rt, FILE, line.numbers[1])),
+        _ => {
             std::fs::remove_file(rt, FILE)?;
             say(rt, "done")
         }
-        _ => Err(RunFault::BadLine),
     }
 }

@@ -4,13 +4,12 @@ ghost use Rattle.gx_record.specs.Seen.{rec_of};
 
 use crate::devices::{Device, blank};
 use crate::fault::RunFault;
-use crate::words::{Part, number, place, say, say_number, say_parts, word};
+use crate::words::{Line, Part, say, say_number, say_parts};
 use gx_disk::SectorDisk;
 use gx_geom::Refusal;
 use gx_glog::{Appended, Extent, Glog, PLACES};
 use gx_record::Record;
 use std::alloc::Global;
-use std::str::SplitWhitespace;
 
 /// A device with a log.
 #[derive(Drop)]
@@ -151,22 +150,14 @@ fn fill(log: &mut Glog, records: u64) -> Result<u64, RunFault> {
 }
 
 /// An extent by its name.
-pub(crate) fn extent(name: &str) -> Result<Extent, RunFault> {
-    match name {
-        "A" => Ok(Extent::A),
-        "B" => Ok(Extent::B),
-        _ => Err(RunFault::BadLine),
-    }
+pub(crate) fn extent(name: &str) -> Extent {
+    if name == "A" { Extent::A } else { Extent::B }
 }
 
 /// Begins a log in an extent of which so many places are used.
-fn start(alloc: Global, words: &mut SplitWhitespace<'_>) -> Result<Glog, RunFault> {
-    let extent = extent(word(words)?)?;
-    let used = place(words)?;
-    if used > PLACES {
-        return Err(RunFault::BadLine);
-    }
-    Ok(Glog::start(alloc, extent, used)?)
+fn start(alloc: Global, extent: Extent, used: u64) -> Result<Glog, Refusal> {
+    let used = u8::try_from(used).unwrap_or(PLACES);
+    Glog::start(alloc, extent, used.min(PLACES))
 }
 
 /// Prints the place that a record went to.
@@ -178,12 +169,11 @@ fn say_appended<R: Print>(rt: &R, appended: Appended) -> Result<(), RunFault> {
 }
 
 /// Puts the record of a line into the log.
-fn appended(log: &mut Glog, words: &mut SplitWhitespace<'_>) -> Result<Appended, RunFault> {
-    match word(words)? {
+fn appended(log: &mut Glog, line: &Line<'_>) -> Result<Appended, RunFault> {
+    match line.asked() {
         "counters" => append_counters(log),
-        "commit" => append_commit(log, number(words)?),
-        "head" => put_head(log, number(words)?),
-        _ => Err(RunFault::BadLine),
+        "commit" => append_commit(log, line.numbers[1]),
+        _ => put_head(log, line.numbers[1]),
     }
 }
 
@@ -191,9 +181,9 @@ fn appended(log: &mut Glog, words: &mut SplitWhitespace<'_>) -> Result<Appended,
 pub(crate) fn put_record<R: Print>(
     rt: &R,
     log: &mut Glog,
-    words: &mut SplitWhitespace<'_>,
+    line: &Line<'_>,
 ) -> Result<(), RunFault> {
-    say_appended(rt, appended(log, words)?)
+    say_appended(rt, appended(log, line)?)
 }
 
 /// Prints how many places are used, and how many bytes of the buffer are free.
@@ -210,12 +200,12 @@ fn say_room<R: Print>(rt: &R, log: &Glog) -> Result<(), RunFault> {
 }
 
 /// Fills the log, or makes calls: how many records went with the next batch, or how many calls the device made.
-fn make_by(disk: &mut Device, log: &mut Glog, name: &str, count: u64) -> Result<u64, RunFault> {
+fn make_by(logged: &mut Logged, name: &str, count: u64) -> Result<u64, RunFault> {
+    let Logged { disk, log } = logged;
     match name {
         "fill" => fill(log, count),
         "steps" => make_calls(Work::Batch, log, disk, count),
-        "turns" => make_calls(Work::Turn, log, disk, count),
-        _ => Err(RunFault::BadLine),
+        _ => make_calls(Work::Turn, log, disk, count),
     }
 }
 
@@ -223,16 +213,16 @@ fn make_by(disk: &mut Device, log: &mut Glog, name: &str, count: u64) -> Result<
 pub(crate) fn call<R: Print>(
     rt: &R,
     alloc: Global,
-    disk: &mut Device,
-    log: &mut Glog,
-    words: &mut SplitWhitespace<'_>,
+    logged: &mut Logged,
+    line: &Line<'_>,
 ) -> Result<(), RunFault> {
-    let name = word(words)?;
-    if name == "start" {
-        *log = start(alloc, words)?;
-    } else if name != "room" {
-        let count = number(words)?;
-        return say_number(rt, make_by(disk, log, name, count)?);
+    let [_, count, used, ..] = line.numbers;
+    match line.asked() {
+        "start" => {
+            logged.log = start(alloc, extent(line.words[1]), used)?;
+            say_room(rt, &logged.log)
+        }
+        "room" => say_room(rt, &logged.log),
+        name => say_number(rt, make_by(logged, name, count)?),
     }
-    say_room(rt, log)
 }

@@ -10,6 +10,7 @@ mod devices;
 mod extents;
 mod fault;
 mod files;
+mod forms;
 mod logs;
 mod parameters;
 mod pools;
@@ -21,14 +22,14 @@ mod storage;
 mod words;
 
 use fault::RunFault;
+use forms::is_known;
 use gx_pool::Pool;
 use logs::Logged;
 use pools::Leaves;
 use records::ROOM;
 use std::alloc::Global;
 use std::process::ExitCode;
-use std::str::SplitWhitespace;
-use words::word;
+use words::{Line, Part, print_parts, say_parts};
 
 /// What the lines work on.
 #[derive(Drop)]
@@ -50,58 +51,39 @@ impl Bench {
     }
 }
 
-/// Whether a line with this first word is about the device or the log.
-fn is_on_log(name: &str) -> bool {
-    matches!(
-        name,
-        "device" | "disk" | "show" | "parameters" | "log" | "put" | "read" | "all"
-    )
-}
-
-/// Takes a line about the device or the log, by its first word and those behind it.
-fn on_log(
-    rt: &HostRuntime,
-    logged: &mut Logged,
-    name: &str,
-    words: &mut SplitWhitespace<'_>,
-) -> Result<(), RunFault> {
-    let Logged { disk, log } = logged;
-    let alloc = rt.alloc();
-    match name {
-        "device" => devices::call(rt, disk, alloc, words),
-        "disk" => sectors::call(rt, disk, words),
-        "show" => sectors::look(rt, disk, words),
-        "parameters" => parameters::call(rt, disk, words),
-        "log" => logs::call(rt, alloc, disk, log, words),
-        "put" => logs::put_record(rt, log, words),
-        "read" => extents::call(rt, alloc, disk, words),
-        "all" => cases::call(rt, alloc, words),
-        _ => Err(RunFault::BadLine),
-    }
-}
-
-/// Takes a line about frames, records or a file.
-fn on_pages(
-    rt: &HostRuntime,
-    bench: &mut Bench,
-    name: &str,
-    words: &mut SplitWhitespace<'_>,
-) -> Result<(), RunFault> {
+/// Takes a line about frames, pages, records, runs or a file.
+fn on_pages(rt: &HostRuntime, bench: &mut Bench, line: &Line<'_>) -> Result<(), RunFault> {
     let Bench { logged, pool, text } = bench;
     let disk = &mut logged.disk;
     let alloc = rt.alloc();
-    match name {
-        "frames" => pools::renew(rt, alloc, pool, words),
-        "pages" => pools::on_device(rt, alloc, disk, words),
-        "pool" => pools::call(rt, pool, disk, words),
-        "look" => pools::look(rt, pool, words),
-        "run" => runs::call(rt, alloc, words),
-        "storage" => storage::call(rt, alloc, words),
-        "scan" => scans::call(rt, alloc, words),
-        "record" => records::call(rt, alloc, text, words),
-        "text" => records::read(rt, text, words),
-        "file" => files::call(rt, words),
-        _ => Err(RunFault::BadLine),
+    match line.name {
+        "frames" => pools::renew(rt, alloc, pool, line),
+        "pages" => pools::on_device(rt, alloc, disk, line),
+        "pool" => pools::call(rt, pool, disk, line),
+        "look" => pools::look(rt, pool, line),
+        "record" => records::call(rt, alloc, text, line),
+        "text" => records::read(rt, text, line),
+        "run" => runs::call(rt, alloc, line),
+        "storage" => storage::call(rt, alloc, line),
+        "scan" => scans::call(rt, alloc, line),
+        _ => files::call(rt, line),
+    }
+}
+
+/// Takes a line.
+fn take(rt: &HostRuntime, bench: &mut Bench, line: &Line<'_>) -> Result<(), RunFault> {
+    let logged = &mut bench.logged;
+    let alloc = rt.alloc();
+    match line.name {
+        "device" => devices::call(rt, &mut logged.disk, alloc, line),
+        "disk" => sectors::call(rt, &mut logged.disk, line),
+        "show" => sectors::look(rt, &mut logged.disk, line),
+        "parameters" => parameters::call(rt, &mut logged.disk, line),
+        "read" => extents::call(rt, alloc, &mut logged.disk, line),
+        "log" => logs::call(rt, alloc, logged, line),
+        "put" => logs::put_record(rt, &mut logged.log, line),
+        "all" => cases::call(rt, alloc, line),
+        _ => on_pages(rt, bench, line),
     }
 }
 
@@ -113,17 +95,13 @@ fn is_title(line: &str) -> bool {
 /// Prints a line, and behind it what is answered.
 fn take_line(rt: &HostRuntime, bench: &mut Bench, line: &str) -> Result<(), RunFault> {
     if is_title(line) {
-        println!(rt; "{line}")?;
-        return Ok(());
+        return say_parts(rt, &[Part::Text(line)]);
     }
-    print!(rt; "{line}:")?;
-    let mut words = line.split_whitespace();
-    let name = word(&mut words)?;
-    if is_on_log(name) {
-        on_log(rt, &mut bench.logged, name, &mut words)
-    } else {
-        on_pages(rt, bench, name, &mut words)
+    print_parts(rt, &[Part::Text(line), Part::Text(":")])?;
+    if !is_known(line) {
+        return Err(RunFault::BadLine);
     }
+    take(rt, bench, &Line::read(line))
 }
 
 /// Takes each line of the input.

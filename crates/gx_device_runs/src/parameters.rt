@@ -1,30 +1,24 @@
 //! What a device is formatted for.
 use crate::fault::RunFault;
 use crate::sectors::{read, word_of, write};
-use crate::words::{Part, number, say, say_parts, word};
-use gx_disk::SectorDisk;
+use crate::words::{Line, Part, say, say_parts, to_u32};
+use gx_disk::{DiskFault, SectorDisk};
 use gx_glog::{PARAMETERS, Parameters};
-use std::str::SplitWhitespace;
 
-/// The parameters of a line: pages, entries and class.
-fn parameters(words: &mut SplitWhitespace<'_>) -> Result<Parameters, RunFault> {
-    let pages = number(words)?;
-    let most = number(words)?;
-    let class = number(words)?;
-    Ok(Parameters {
-        pages: u32::try_from(pages).ok().ok_or(RunFault::BadLine)?,
-        most: u16::try_from(most).ok().ok_or(RunFault::BadLine)?,
-        class: u16::try_from(class).ok().ok_or(RunFault::BadLine)?,
-    })
+/// A number of at most 16 bits; the greatest where it is greater.
+fn to_u16(number: u64) -> u16 {
+    u16::try_from(number).unwrap_or(u16::MAX)
 }
 
-/// Writes the sector of parameters.
-fn write_parameters<D: SectorDisk>(
-    disk: &mut D,
-    words: &mut SplitWhitespace<'_>,
-) -> Result<&'static str, RunFault> {
-    let sector = parameters(words)?.encode();
-    Ok(word_of(write(disk, PARAMETERS, &sector)))
+/// Writes the sector of parameters: pages, entries and class.
+fn write_parameters<D: SectorDisk>(disk: &mut D, line: &Line<'_>) -> Result<(), DiskFault> {
+    let [_, pages, most, class, ..] = line.numbers;
+    let parameters = Parameters {
+        pages: to_u32(pages),
+        most: to_u16(most),
+        class: to_u16(class),
+    };
+    write(disk, PARAMETERS, &parameters.encode())
 }
 
 /// Prints what the sector of parameters says.
@@ -47,10 +41,10 @@ fn look<R: Print, D: SectorDisk>(rt: &R, disk: &mut D) -> Result<(), RunFault> {
 pub(crate) fn call<R: Print, D: SectorDisk>(
     rt: &R,
     disk: &mut D,
-    words: &mut SplitWhitespace<'_>,
+    line: &Line<'_>,
 ) -> Result<(), RunFault> {
-    match word(words)? {
-        "write" => say(rt, write_parameters(disk, words)?),
+    match line.asked() {
+        "write" => say(rt, word_of(write_parameters(disk, line))),
         "read" => look(rt, disk),
         _ => Err(RunFault::BadLine),
     }

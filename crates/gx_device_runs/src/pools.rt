@@ -4,12 +4,12 @@ ghost use Rattle.std.specs.Bool.{OnTrue};
 ghost use Rattle.gx_pool.specs.Area.{IsPage, first_of};
 
 use crate::fault::RunFault;
-use crate::words::{Part, count, number_or_zero, say, say_number, say_parts, word};
+use crate::records::fresh;
+use crate::words::{Line, Part, say, say_number, say_parts, to_u32, to_usize};
 use gx_disk::{MAX_PAGES, PAGE_SECTORS, PAGES_AT, SectorDisk};
-use gx_page::{PAGE_SIZE, Page};
+use gx_page::{PAGE_SIZE, Page, PageFault};
 use gx_pool::{FRAMES, PageTest, Pool, PoolFault};
-use std::alloc::Global;
-use std::str::SplitWhitespace;
+use std::alloc::{AllocError, Global};
 
 /// Pages of level 0 pass.
 #[derive(Drop)]
@@ -27,14 +27,6 @@ impl PageTest for Leaves {
 type Answer = Result<Option<u64>, PoolFault>;
 
 const DONE: Answer = Ok(None);
-
-/// The numbers of a line, 0 where it ends before.
-#[derive(Clone, Copy)]
-struct Numbers {
-    page: u32,
-    second: u64,
-    third: u64,
-}
 
 /// Whether the device has the page.
 pub(crate) fn is_there<D: SectorDisk>(disk: &D, page: u32) -> bool
@@ -61,12 +53,10 @@ fn lay<D: SectorDisk>(
     level: u64,
     number: u64,
 ) -> Result<(), RunFault> {
-    let level = u16::try_from(level).ok().ok_or(RunFault::BadLine)?;
-    let number = u32::try_from(number).ok().ok_or(RunFault::BadLine)?;
     if !is_there(disk, place) {
         return Err(RunFault::BadLine);
     }
-    let page = Page::fresh(alloc, level, number)?;
+    let page = fresh(alloc, level, number)?;
     match disk.write(first_sector(place), page.image()) {
         Ok(()) => Ok(()),
         Err(_) => Err(RunFault::Device),
@@ -171,7 +161,7 @@ fn leaves_below<D: SectorDisk>(
     disk: &mut D,
     end: u32,
     nsn: u64,
-) -> Result<u64, RunFault> {
+) -> Result<u64, PageFault> {
     let mut leaves = 0_u64;
     for number in 1..end {
         let mut page = Page::fresh(alloc, 0, number)?;
@@ -183,47 +173,23 @@ fn leaves_below<D: SectorDisk>(
     Ok(leaves)
 }
 
-/// A pool of so many empty frames.
-pub(crate) fn empty(alloc: Global, frames: usize) -> Result<Pool<Leaves>, RunFault> {
-    if frames > FRAMES {
-        return Err(RunFault::BadLine);
-    }
-    Ok(Pool::with_capacity(alloc, frames, Leaves)?)
+/// A pool of so many empty frames, or of as many as one has at most.
+pub(crate) fn empty(alloc: Global, frames: usize) -> Result<Pool<Leaves>, AllocError> {
+    Pool::with_capacity(alloc, frames.min(FRAMES), Leaves)
 }
 
-/// Reads a line's numbers.
-fn read_numbers(words: &mut SplitWhitespace<'_>) -> Result<Numbers, RunFault> {
-    let page = number_or_zero(words)?;
-    let second = number_or_zero(words)?;
-    let third = number_or_zero(words)?;
-    Ok(Numbers {
-        page: u32::try_from(page).ok().ok_or(RunFault::BadLine)?,
-        second,
-        third,
-    })
-}
-
-/// Makes a call of the pool, if it has one of this name.
-fn make<D: SectorDisk>(
-    pool: &mut Pool<Leaves>,
-    disk: &mut D,
-    name: &str,
-    numbers: Numbers,
-) -> Option<Answer> {
-    let Numbers {
-        page,
-        second,
-        third,
-    } = numbers;
-    match name {
-        "bring" => Some(bring(pool, disk, page)),
-        "view" => Some(view(pool, disk, page)),
-        "change" => Some(change(pool, disk, page, second, third)),
-        "change-kept" => Some(change_kept(pool, page, second, third)),
-        "gated" => Some(gate(pool, u64::from(page))),
-        "write" => Some(write(pool, disk, page)),
-        "hold-none" => Some(hold_none(pool, disk)),
-        _ => None,
+/// Makes a call of the pool.
+fn make<D: SectorDisk>(pool: &mut Pool<Leaves>, disk: &mut D, line: &Line<'_>) -> Answer {
+    let [_, number, second, third, ..] = line.numbers;
+    let page = to_u32(number);
+    match line.asked() {
+        "bring" => bring(pool, disk, page),
+        "view" => view(pool, disk, page),
+        "change" => change(pool, disk, page, second, third),
+        "change-kept" => change_kept(pool, page, second, third),
+        "gated" => gate(pool, number),
+        "write" => write(pool, disk, page),
+        _ => hold_none(pool, disk),
     }
 }
 
@@ -242,14 +208,9 @@ pub(crate) fn call<R: Print, D: SectorDisk>(
     rt: &R,
     pool: &mut Pool<Leaves>,
     disk: &mut D,
-    words: &mut SplitWhitespace<'_>,
+    line: &Line<'_>,
 ) -> Result<(), RunFault> {
-    let name = word(words)?;
-    let numbers = read_numbers(words)?;
-    match make(pool, disk, name, numbers) {
-        Some(answer) => say_answer(rt, answer),
-        None => Err(RunFault::BadLine),
-    }
+    say_answer(rt, make(pool, disk, line))
 }
 
 fn say_look<R: Print>(rt: &R, found: Option<u64>) -> Result<(), RunFault> {
@@ -261,20 +222,15 @@ fn say_look<R: Print>(rt: &R, found: Option<u64>) -> Result<(), RunFault> {
 
 /// A line that looks at the pool: a page's sequence number, the least page that may be written, how many are dirty or
 /// kept.
-pub(crate) fn look<R: Print>(
-    rt: &R,
-    pool: &Pool<Leaves>,
-    words: &mut SplitWhitespace<'_>,
-) -> Result<(), RunFault> {
-    let name = word(words)?;
-    let Numbers { page, .. } = read_numbers(words)?;
-    match name {
-        "dirty" => say_look(rt, pool.dirty().map(|page| u64::from(page))),
-        "dirty-frames" => say_number(rt, pool.dirty_frames() as u64),
-        "nsn" => say_look(rt, nsn(pool, page)),
-        "kept" => say_number(rt, kept_below(pool, page)),
-        _ => Err(RunFault::BadLine),
-    }
+pub(crate) fn look<R: Print>(rt: &R, pool: &Pool<Leaves>, line: &Line<'_>) -> Result<(), RunFault> {
+    let page = to_u32(line.numbers[1]);
+    let found = match line.asked() {
+        "dirty" => pool.dirty().map(|page| u64::from(page)),
+        "dirty-frames" => Some(pool.dirty_frames() as u64),
+        "nsn" => nsn(pool, page),
+        _ => Some(kept_below(pool, page)),
+    };
+    say_look(rt, found)
 }
 
 /// A line about pages on the device itself.
@@ -282,22 +238,14 @@ pub(crate) fn on_device<R: Print, D: SectorDisk>(
     rt: &R,
     alloc: Global,
     disk: &mut D,
-    words: &mut SplitWhitespace<'_>,
+    line: &Line<'_>,
 ) -> Result<(), RunFault> {
-    let name = word(words)?;
-    let Numbers {
-        page,
-        second,
-        third,
-    } = read_numbers(words)?;
-    match name {
-        "lay" => {
-            lay(alloc, disk, page, second, third)?;
-            say(rt, "done")
-        }
-        "leaves" => say_number(rt, leaves_below(alloc, disk, page, second)?),
-        _ => Err(RunFault::BadLine),
+    let [_, page, second, third, ..] = line.numbers;
+    if line.asked() == "lay" {
+        lay(alloc, disk, to_u32(page), second, third)?;
+        return say(rt, "done");
     }
+    say_number(rt, leaves_below(alloc, disk, to_u32(page), second)?)
 }
 
 /// Another pool, of so many frames.
@@ -305,9 +253,9 @@ pub(crate) fn renew<R: Print>(
     rt: &R,
     alloc: Global,
     pool: &mut Pool<Leaves>,
-    words: &mut SplitWhitespace<'_>,
+    line: &Line<'_>,
 ) -> Result<(), RunFault> {
-    *pool = empty(alloc, count(words)?)?;
+    *pool = empty(alloc, to_usize(line.numbers[0]))?;
     say_parts(
         rt,
         &[

@@ -4,12 +4,11 @@ ghost use Rattle.gx_record.specs.Seen.{rec_of};
 
 use crate::fault::RunFault;
 use crate::words::{
-    Part, byte, count, level, number, page, print_parts, say, say_bytes, say_parts, truth, word,
+    Line, Part, byte, print_parts, say, say_bytes, say_parts, to_u32, to_usize, truth,
 };
-use gx_page::Page;
+use gx_page::{Page, PageFault};
 use gx_record::{Mark, PageImage, PageImages, Record};
 use std::alloc::Global;
-use std::str::SplitWhitespace;
 
 /// How many bytes a key has.
 const KEY: usize = 16;
@@ -45,119 +44,92 @@ fn spell<R: Print>(rt: &R, given: &Record<'_>, text: &mut [u8]) -> Result<(), Ru
 {
     let length = given.length();
     text.fill(0xee);
-    match given.encode_into(text) {
+    let spelled = match given.encode_into(text) {
         Some(size) if size == length => {
             let back = if reads_back(given, text, size) {
                 " bytes, read back:"
             } else {
                 " bytes, not read back:"
             };
-            print_parts(rt, &[Part::Number(size as u64), Part::Text(back)])?;
+            [Part::Number(size as u64), Part::Text(back)]
         }
-        Some(_) => print_parts(rt, &[Part::Text(" of another length:")])?,
-        None => print_parts(rt, &[Part::Text(" no room:")])?,
-    }
+        Some(_) => [Part::Text(" of another length"), Part::Text(":")],
+        None => [Part::Text(" no room"), Part::Text(":")],
+    };
+    print_parts(rt, &spelled)?;
     say_bytes(rt, text)
 }
 
 /// A mark by its name.
-fn mark(name: &str) -> Result<Mark, RunFault> {
-    match name {
-        "live" => Ok(Mark::Live),
-        "marked" => Ok(Mark::Marked),
-        _ => Err(RunFault::BadLine),
+fn mark(name: &str) -> Mark {
+    if name == "live" {
+        Mark::Live
+    } else {
+        Mark::Marked
     }
 }
 
-fn commit<R: Print>(
-    rt: &R,
-    text: &mut [u8],
-    words: &mut SplitWhitespace<'_>,
-) -> Result<(), RunFault> {
-    let tx = number(words)?;
-    let n = number(words)?;
-    spell(rt, &Record::Commit { tx, n }, text)
+fn commit<R: Print>(rt: &R, text: &mut [u8], line: &Line<'_>) -> Result<(), RunFault> {
+    let commit = Record::Commit {
+        tx: line.number(1),
+        n: line.number(2),
+    };
+    spell(rt, &commit, text)
 }
 
-fn spell_end<R: Print>(
-    rt: &R,
-    text: &mut [u8],
-    words: &mut SplitWhitespace<'_>,
-) -> Result<(), RunFault> {
-    let tx = number(words)?;
+fn spell_end<R: Print>(rt: &R, text: &mut [u8], line: &Line<'_>) -> Result<(), RunFault> {
+    let tx = line.number(1);
     spell(rt, &Record::End { tx }, text)
 }
 
-fn counters<R: Print>(
-    rt: &R,
-    text: &mut [u8],
-    words: &mut SplitWhitespace<'_>,
-) -> Result<(), RunFault> {
-    let n = number(words)?;
-    let counter = number(words)?;
-    let used = page(words)?;
-    let next = number(words)?;
+fn counters<R: Print>(rt: &R, text: &mut [u8], line: &Line<'_>) -> Result<(), RunFault> {
     let counters = Record::Counters {
-        n,
-        counter,
-        used,
-        next,
+        n: line.number(1),
+        counter: line.number(2),
+        used: to_u32(line.number(3)),
+        next: line.number(4),
     };
     spell(rt, &counters, text)
 }
 
-fn note<R: Print>(
-    rt: &R,
-    text: &mut [u8],
-    words: &mut SplitWhitespace<'_>,
-) -> Result<(), RunFault> {
-    let tx = number(words)?;
-    let row = number(words)?;
-    let before = mark(word(words)?)?;
-    let leaf = page(words)?;
+fn note<R: Print>(rt: &R, text: &mut [u8], line: &Line<'_>) -> Result<(), RunFault> {
     let note = Record::Note {
-        tx,
-        row,
+        tx: line.number(1),
+        row: line.number(2),
         key: &KEY_BYTES,
-        before,
-        leaf,
+        before: mark(line.words[3]),
+        leaf: to_u32(line.number(4)),
     };
     spell(rt, &note, text)
-}
-
-/// A write's numbers and marks.
-#[derive(Clone, Copy)]
-struct Written {
-    tx: u64,
-    row: u64,
-    before: Mark,
-    after: Mark,
 }
 
 /// A write that doesn't change its leaf.
 fn spell_write<R: Print>(
     rt: &R,
     text: &mut [u8],
-    written: Written,
+    line: &Line<'_>,
     leaf: &Page,
 ) -> Result<(), RunFault> {
-    let Written {
-        tx,
-        row,
-        before,
-        after,
-    } = written;
     let leaf = PageImage::of(leaf);
     let write = Record::Write {
-        tx,
-        row,
+        tx: line.number(1),
+        row: line.number(2),
         key: &KEY_BYTES,
-        before,
-        after,
+        before: mark(line.words[3]),
+        after: mark(line.words[4]),
         leaf: leaf.page,
         image: leaf.image,
     };
     spell(rt, &write, text)
+}
+
+/// A fresh page by its level and its number.
+pub(crate) fn fresh(alloc: Global, level: u64, number: u64) -> Result<Page, PageFault> {
+    Page::fresh(
+        alloc,
+        u16::try_from(level).unwrap_or(u16::MAX),
+        to_u32(number),
+    )
 }
 
 /// A write whose leaf is a fresh page.
@@ -165,24 +137,10 @@ fn write<R: Print>(
     rt: &R,
     alloc: Global,
     text: &mut [u8],
-    words: &mut SplitWhitespace<'_>,
+    line: &Line<'_>,
 ) -> Result<(), RunFault> {
-    let written = Written {
-        tx: number(words)?,
-        row: number(words)?,
-        before: mark(word(words)?)?,
-        after: mark(word(words)?)?,
-    };
-    let leaf = page(words)?;
-    let page = Page::fresh(alloc, 0, leaf)?;
-    spell_write(rt, text, written, &page)
-}
-
-/// A fresh page by its level and its number.
-fn fresh(alloc: Global, words: &mut SplitWhitespace<'_>) -> Result<Page, RunFault> {
-    let level = level(words)?;
-    let number = page(words)?;
-    Ok(Page::fresh(alloc, level, number)?)
+    let page = fresh(alloc, 0, line.numbers[5])?;
+    spell_write(rt, text, line, &page)
 }
 
 /// Pages as counter 5 and 3 pages in use leave them.
@@ -221,13 +179,8 @@ fn say_second<R: Print>(
 }
 
 /// The same of three pages.
-fn spell_three<R: Print>(
-    rt: &R,
-    text: &mut [u8],
-    first: &Page,
-    second: &Page,
-    third: &Page,
-) -> Result<(), RunFault> {
+fn spell_three<R: Print>(rt: &R, text: &mut [u8], three: [&Page; 3]) -> Result<(), RunFault> {
+    let [first, second, third] = three;
     let first = PageImage::of(first);
     let second = PageImage::of(second);
     let third = PageImage::of(third);
@@ -248,10 +201,11 @@ fn two_pages<R: Print>(
     rt: &R,
     alloc: Global,
     text: &mut [u8],
-    words: &mut SplitWhitespace<'_>,
+    line: &Line<'_>,
 ) -> Result<(), RunFault> {
-    let low = fresh(alloc, words)?;
-    let high = fresh(alloc, words)?;
+    let [_, level, number, other_level, other, ..] = line.numbers;
+    let low = fresh(alloc, level, number)?;
+    let high = fresh(alloc, other_level, other)?;
     spell_two(rt, text, &low, &high)
 }
 
@@ -259,22 +213,27 @@ fn three_pages<R: Print>(
     rt: &R,
     alloc: Global,
     text: &mut [u8],
-    words: &mut SplitWhitespace<'_>,
+    line: &Line<'_>,
 ) -> Result<(), RunFault> {
-    let first = fresh(alloc, words)?;
-    let second = fresh(alloc, words)?;
-    let third = fresh(alloc, words)?;
-    spell_three(rt, text, &first, &second, &third)
+    let [
+        _,
+        level,
+        number,
+        second_level,
+        second,
+        third_level,
+        third,
+        ..
+    ] = line.numbers;
+    let first = fresh(alloc, level, number)?;
+    let second = fresh(alloc, second_level, second)?;
+    let third = fresh(alloc, third_level, third)?;
+    spell_three(rt, text, [&first, &second, &third])
 }
 
 /// The record of the first commit where there are so many bytes.
-fn short<R: Print>(
-    rt: &R,
-    text: &mut [u8],
-    words: &mut SplitWhitespace<'_>,
-) -> Result<(), RunFault> {
-    let room = count(words)?;
-    match text.get_mut(..room) {
+fn short<R: Print>(rt: &R, text: &mut [u8], line: &Line<'_>) -> Result<(), RunFault> {
+    match text.get_mut(..to_usize(line.numbers[1])) {
         Some(front) => spell(rt, &Record::Commit { tx: 1, n: 1 }, front),
         None => Err(RunFault::BadLine),
     }
@@ -285,17 +244,17 @@ pub(crate) fn call<R: Print>(
     rt: &R,
     alloc: Global,
     text: &mut [u8],
-    words: &mut SplitWhitespace<'_>,
+    line: &Line<'_>,
 ) -> Result<(), RunFault> {
-    match word(words)? {
-        "commit" => commit(rt, text, words),
-        "end" => spell_end(rt, text, words),
-        "counters" => counters(rt, text, words),
-        "note" => note(rt, text, words),
-        "write" => write(rt, alloc, text, words),
-        "two" => two_pages(rt, alloc, text, words),
-        "three" => three_pages(rt, alloc, text, words),
-        "short" => short(rt, text, words),
+    match line.asked() {
+        "commit" => commit(rt, text, line),
+        "end" => spell_end(rt, text, line),
+        "counters" => counters(rt, text, line),
+        "note" => note(rt, text, line),
+        "write" => write(rt, alloc, text, line),
+        "two" => two_pages(rt, alloc, text, line),
+        "three" => three_pages(rt, alloc, text, line),
+        "short" => short(rt, text, line),
         _ => Err(RunFault::BadLine),
     }
 }
@@ -344,28 +303,27 @@ pub(crate) fn say_record<R: Print>(rt: &R, bytes: &[u8]) -> Result<(), RunFault>
 }
 
 /// Sets one byte of the text.
-fn set(text: &mut [u8], words: &mut SplitWhitespace<'_>) -> Result<(), RunFault> {
-    let at = count(words)?;
-    let byte = byte(word(words)?)?;
-    let place = text.get_mut(at).ok_or(RunFault::BadLine)?;
-    *place = byte;
-    Ok(())
+fn set(text: &mut [u8], line: &Line<'_>) -> Result<(), RunFault> {
+    match text.get_mut(to_usize(line.numbers[1])) {
+        Some(place) => {
+            *place = byte(line.words[2]);
+            Ok(())
+        }
+        None => Err(RunFault::BadLine),
+    }
 }
 
 /// A line that reads the text, of which a byte is set before, or all bytes are zeros, or a front of it.
-pub(crate) fn read<R: Print>(
-    rt: &R,
-    text: &mut [u8],
-    words: &mut SplitWhitespace<'_>,
-) -> Result<(), RunFault> {
-    match word(words)? {
-        "set" => set(text, words)?,
+pub(crate) fn read<R: Print>(rt: &R, text: &mut [u8], line: &Line<'_>) -> Result<(), RunFault> {
+    let mut end = text.len();
+    match line.asked() {
+        "set" => set(text, line)?,
         "zeros" => text.fill(0),
-        "front" => {
-            let front = text.get(..count(words)?).ok_or(RunFault::BadLine)?;
-            return say_record(rt, front);
-        }
+        "front" => end = to_usize(line.numbers[1]),
         _ => return Err(RunFault::BadLine),
     }
-    say_record(rt, text)
+    match text.get(..end) {
+        Some(front) => say_record(rt, front),
+        None => Err(RunFault::BadLine),
+    }
 }

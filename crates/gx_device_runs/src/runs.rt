@@ -1,13 +1,12 @@
 //! Frames in long runs over devices in memory, against a list of what was last written to each page.
 use crate::fault::RunFault;
 use crate::pools::{Leaves, empty, is_there};
-use crate::words::{Part, number, say_parts, truth, word};
+use crate::words::{Line, Part, say_parts, truth};
 use gx_disk::{Fuse, FuseDisk, MAX_PAGES, MemDisk, SectorDisk};
 use gx_pool::{Pool, PoolFault};
 use rand_core::utils::NextWord;
 use rand_pcg::Pcg32;
-use std::alloc::Global;
-use std::str::SplitWhitespace;
+use std::alloc::{AllocError, Global};
 
 /// A pool of 16 frames, and of each page the sequence number that it was last given; none was made yet of a page
 /// without one.
@@ -17,7 +16,7 @@ struct Run {
     last: Vec<Option<u64>>,
 }
 
-fn start(alloc: Global, pages: usize) -> Result<Run, RunFault> {
+fn start(alloc: Global, pages: usize) -> Result<Run, AllocError> {
     let last = vec![in alloc; None; pages]?;
     let pool = empty(alloc, 16)?;
     Ok(Run { pool, last })
@@ -215,7 +214,7 @@ fn end_of(faults: Option<u64>, well: bool) -> End {
 }
 
 /// A run over a device that fails once, at its k-th call.
-fn run_with_fault(alloc: Global, k: u64) -> Result<End, RunFault> {
+fn run_with_fault(alloc: Global, k: u64) -> Result<End, AllocError> {
     let inner = MemDisk::new(alloc, 4168 + 8 * 20)?;
     let mut disk = FuseDisk::new(inner, k, Fuse::Once, k % 2 == 0);
     let mut run = start(alloc, 21)?;
@@ -248,14 +247,9 @@ fn say_faults<R: Print>(rt: &R, alloc: Global, calls: u64) -> Result<(), RunFaul
 }
 
 /// A line that asks for runs.
-pub(crate) fn call<R: Print>(
-    rt: &R,
-    alloc: Global,
-    words: &mut SplitWhitespace<'_>,
-) -> Result<(), RunFault> {
-    match word(words)? {
+pub(crate) fn call<R: Print>(rt: &R, alloc: Global, line: &Line<'_>) -> Result<(), RunFault> {
+    match line.asked() {
         "long" => say_long(rt, alloc),
-        "faults" => say_faults(rt, alloc, number(words)?),
-        _ => Err(RunFault::BadLine),
+        _ => say_faults(rt, alloc, line.numbers[1]),
     }
 }

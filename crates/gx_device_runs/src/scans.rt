@@ -6,7 +6,7 @@ mod pages;
 
 use crate::fault::RunFault;
 use crate::words::Part::{Number, Text};
-use crate::words::{count, say_parts, word};
+use crate::words::{Line, say_parts, to_usize};
 use compare::{Found, compare};
 use gx_class::Box2Class;
 use gx_geom::Box2;
@@ -14,7 +14,6 @@ use gx_machine::Query;
 use gx_node::{Inner, Leaf};
 use pages::{BOXES, Boxes, Pages};
 use std::alloc::Global;
-use std::str::SplitWhitespace;
 
 /// A query on a box.
 #[derive(Clone, Copy)]
@@ -22,6 +21,7 @@ enum Kind {
     Overlap,
     Within,
     Equal,
+    Covers,
 }
 
 impl Kind {
@@ -30,17 +30,18 @@ impl Kind {
             Kind::Overlap => Query::Overlap(wanted),
             Kind::Within => Query::Within(wanted),
             Kind::Equal => Query::Equal(wanted),
+            Kind::Covers => Query::Covers(wanted),
         }
     }
 }
 
 /// A kind by its name.
-fn kind_by(name: &str) -> Result<Kind, RunFault> {
+fn kind_by(name: &str) -> Kind {
     match name {
-        "overlap" => Ok(Kind::Overlap),
-        "within" => Ok(Kind::Within),
-        "equal" => Ok(Kind::Equal),
-        _ => Err(RunFault::BadLine),
+        "overlap" => Kind::Overlap,
+        "within" => Kind::Within,
+        "equal" => Kind::Equal,
+        _ => Kind::Covers,
     }
 }
 
@@ -79,24 +80,19 @@ fn found_on_pages(alloc: Global, kind: Kind, count: usize) -> Option<Found> {
 
 /// A line that asks for the queries of a kind on pages of so many entries: how many keys match, how many of those are
 /// of live pairs, and how many bounds may have a match below them.
-pub(crate) fn call<R: Print>(
-    rt: &R,
-    alloc: Global,
-    words: &mut SplitWhitespace<'_>,
-) -> Result<(), RunFault> {
-    let kind = kind_by(word(words)?)?;
-    let count = count(words)?;
-    let Found { keys, live, bounds } = found_on_pages(alloc, kind, count).ok_or(
-        RunFault::Unexpected,
-    )?;
+pub(crate) fn call<R: Print>(rt: &R, alloc: Global, line: &Line<'_>) -> Result<(), RunFault> {
+    let kind = kind_by(line.asked());
+    let Some(found) = found_on_pages(alloc, kind, to_usize(line.numbers[1])) else {
+        return Err(RunFault::Unexpected);
+    };
     say_parts(
         rt,
         &[
-            Number(keys),
+            Number(found.keys),
             Text(" keys,"),
-            Number(live),
+            Number(found.live),
             Text(" of them live,"),
-            Number(bounds),
+            Number(found.bounds),
             Text(" bounds"),
         ],
     )

@@ -1,9 +1,8 @@
 //! Calls of the device: sectors written, synced, and shown.
 use crate::fault::RunFault;
-use crate::words::{Part, byte, number, say, say_bytes, say_number, say_parts, word};
+use crate::words::{Line, Part, byte, say, say_bytes, say_number, say_parts};
 use gx_disk::{DiskFault, SectorDisk};
 use std::io::ErrorKind;
-use std::str::SplitWhitespace;
 
 /// What a call answers, as a word.
 pub(crate) fn word_of(answer: Result<(), DiskFault>) -> &'static str {
@@ -30,16 +29,14 @@ pub(crate) fn write<D: SectorDisk>(
     disk.write(sector, bytes)
 }
 
-/// The bytes of a sector.
-pub(crate) fn read<D: SectorDisk>(disk: &mut D, sector: u64) -> Result<[u8; 512], RunFault> {
+/// The bytes of a sector, if the device has it.
+pub(crate) fn read<D: SectorDisk>(disk: &mut D, sector: u64) -> Result<[u8; 512], DiskFault> {
     if sector >= disk.sectors() {
-        return Err(RunFault::BadLine);
+        return Err(DiskFault::File(ErrorKind::InvalidInput));
     }
     let mut bytes = [0; 512];
-    match disk.read(sector, &mut bytes) {
-        Ok(()) => Ok(bytes),
-        Err(_) => Err(RunFault::Device),
-    }
+    disk.read(sector, &mut bytes)?;
+    Ok(bytes)
 }
 
 /// Writes so many sectors, all of one byte.
@@ -52,41 +49,27 @@ fn fill<D: SectorDisk>(disk: &mut D, first: u64, byte: u8, count: u64) -> Result
 }
 
 /// The byte that a line asks for, in how many sectors, one if it doesn't say.
-fn fill_by<D: SectorDisk>(
-    disk: &mut D,
-    words: &mut SplitWhitespace<'_>,
-) -> Result<&'static str, RunFault> {
-    let first = number(words)?;
-    let byte = byte(word(words)?)?;
-    let count = match words.next() {
-        Some(word) => word.parse::<u64>().ok().ok_or(RunFault::BadLine)?,
-        None => 1,
-    };
-    Ok(word_of(fill(disk, first, byte, count)))
+fn fill_by<D: SectorDisk>(disk: &mut D, line: &Line<'_>) -> Result<(), DiskFault> {
+    let [_, first, _, count, ..] = line.numbers;
+    fill(disk, first, byte(line.words[2]), count.max(1))
 }
 
-/// Writes the bytes of a line over the first ones.
-fn overlay(bytes: &mut [u8], words: &mut SplitWhitespace<'_>) -> Result<(), RunFault> {
-    let mut at: usize = 0;
-    for word in words {
-        let Some(place) = bytes.get_mut(at) else {
-            return Err(RunFault::BadLine);
-        };
-        *place = byte(word)?;
-        at = at.wrapping_add(1);
+/// Writes bytes over the first ones, up to an empty word.
+fn overlay(bytes: &mut [u8], words: &[&str]) {
+    for (place, word) in bytes.iter_mut().zip(words.iter()) {
+        if word.is_empty() {
+            return;
+        }
+        *place = byte(word);
     }
-    Ok(())
 }
 
 /// Writes a sector again with other bytes at its front.
-fn front_by<D: SectorDisk>(
-    disk: &mut D,
-    words: &mut SplitWhitespace<'_>,
-) -> Result<&'static str, RunFault> {
-    let sector = number(words)?;
+fn front_by<D: SectorDisk>(disk: &mut D, line: &Line<'_>) -> Result<(), DiskFault> {
+    let sector = line.numbers[1];
     let mut bytes = read(disk, sector)?;
-    overlay(&mut bytes, words)?;
-    Ok(word_of(write(disk, sector, &bytes)))
+    overlay(&mut bytes, &line.words[2..]);
+    write(disk, sector, &bytes)
 }
 
 /// A gate that is written open.
@@ -120,7 +103,7 @@ fn say_gates<R: Print, D: SectorDisk>(rt: &R, disk: &mut D, first: u64) -> Resul
 }
 
 /// How many of so many sectors from a first one on are all zeros.
-fn zeros<D: SectorDisk>(disk: &mut D, first: u64, count: u64) -> Result<u64, RunFault> {
+fn zeros<D: SectorDisk>(disk: &mut D, first: u64, count: u64) -> Result<u64, DiskFault> {
     let mut zeros = 0_u64;
     for k in 0..count {
         if read(disk, first.saturating_add(k))? == [0; 512] {
@@ -130,40 +113,30 @@ fn zeros<D: SectorDisk>(disk: &mut D, first: u64, count: u64) -> Result<u64, Run
     Ok(zeros)
 }
 
-/// Makes the call that a line asks for.
-fn make<D: SectorDisk>(
-    disk: &mut D,
-    words: &mut SplitWhitespace<'_>,
-) -> Result<&'static str, RunFault> {
-    match word(words)? {
-        "fill" => fill_by(disk, words),
-        "front" => front_by(disk, words),
-        "sync" => Ok(word_of(disk.sync())),
-        _ => Err(RunFault::BadLine),
-    }
-}
-
 /// A line that asks for a call of the device.
 pub(crate) fn call<R: Print, D: SectorDisk>(
     rt: &R,
     disk: &mut D,
-    words: &mut SplitWhitespace<'_>,
+    line: &Line<'_>,
 ) -> Result<(), RunFault> {
-    say(rt, make(disk, words)?)
+    let answer = match line.asked() {
+        "fill" => fill_by(disk, line),
+        "front" => front_by(disk, line),
+        _ => disk.sync(),
+    };
+    say(rt, word_of(answer))
 }
 
 /// A line that looks at sectors.
 pub(crate) fn look<R: Print, D: SectorDisk>(
     rt: &R,
     disk: &mut D,
-    words: &mut SplitWhitespace<'_>,
+    line: &Line<'_>,
 ) -> Result<(), RunFault> {
-    let looked = word(words)?;
-    let first = number(words)?;
-    match looked {
+    let [_, first, count, ..] = line.numbers;
+    match line.asked() {
         "sector" => say_bytes(rt, &read(disk, first)?),
         "gates" => say_gates(rt, disk, first),
-        "zeros" => say_number(rt, zeros(disk, first, number(words)?)?),
-        _ => Err(RunFault::BadLine),
+        _ => say_number(rt, zeros(disk, first, count)?),
     }
 }

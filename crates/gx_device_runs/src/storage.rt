@@ -23,28 +23,22 @@ mod steps;
 mod volume;
 
 use crate::fault::RunFault;
-use crate::words::{numbers, say_end, word};
+use crate::words::{Line, Part, print_parts, say_end, to_usize};
 use counts::Done;
 use ends::{Stood, make_run};
 pub(crate) use fault::{StorageFault, What};
 use run::{Failing, Setting};
 use std::alloc::Global;
-use std::str::SplitWhitespace;
 
 /// How a line's runs are made.
-fn setting(words: &mut SplitWhitespace<'_>) -> Result<Setting, RunFault> {
-    let [most, frames, seed, steps] = numbers::<4>(words)?;
-    let most = usize::try_from(most).unwrap_or(0);
-    let frames = usize::try_from(frames).unwrap_or(0);
-    if most < 4 || most > 100 || frames < 4 || frames > 64 {
-        return Err(RunFault::BadLine);
-    }
-    Ok(Setting {
-        most,
-        frames,
+fn setting(line: &Line<'_>) -> Setting {
+    let [_, most, frames, seed, steps, ..] = line.numbers;
+    Setting {
+        most: to_usize(most).clamp(4, 100),
+        frames: to_usize(frames).clamp(4, 64),
         seed,
         steps,
-    })
+    }
 }
 
 /// No call of the device fails.
@@ -79,14 +73,19 @@ fn run_each<R: Print>(
     rt: &R,
     alloc: Global,
     setting: Setting,
-    words: &mut SplitWhitespace<'_>,
+    stride: u64,
 ) -> Result<(), RunFault> {
-    let [stride] = numbers::<1>(words)?;
     let stride = stride.max(1);
     let runs = setting.steps / stride;
     make_each(alloc, setting, stride, runs)?;
-    print!(rt; " agree: read back {runs} times")?;
-    Ok(())
+    print_parts(
+        rt,
+        &[
+            Part::Text(" agree: read back"),
+            Part::Number(runs),
+            Part::Text(" times"),
+        ],
+    )
 }
 
 /// How the runs of a line ended.
@@ -147,32 +146,33 @@ fn run_all_failing<R: Print>(
     rt: &R,
     alloc: Global,
     setting: Setting,
-    words: &mut SplitWhitespace<'_>,
+    calls: [u64; 3],
 ) -> Result<(), RunFault> {
-    let Endings {
-        gated,
-        flight,
-        whole,
-        again,
-    } = make_all_failing(alloc, setting, numbers::<3>(words)?)?;
-    print!(rt; " agree: {again} failed once; stopped {gated} with what is gated")?;
-    print!(rt; ", {flight} with what is in flight, {whole} not at all")?;
-    Ok(())
+    let ends = make_all_failing(alloc, setting, calls)?;
+    print_parts(
+        rt,
+        &[
+            Part::Text(" agree:"),
+            Part::Number(ends.again),
+            Part::Text(" failed once; stopped"),
+            Part::Number(ends.gated),
+            Part::Text(" with what is gated,"),
+            Part::Number(ends.flight),
+            Part::Text(" with what is in flight,"),
+            Part::Number(ends.whole),
+            Part::Text(" not at all"),
+        ],
+    )
 }
 
 /// A line that asks for runs of the storage.
-pub(crate) fn call<R: Print>(
-    rt: &R,
-    alloc: Global,
-    words: &mut SplitWhitespace<'_>,
-) -> Result<(), RunFault> {
-    let name = word(words)?;
-    let setting = setting(words)?;
-    match name {
+pub(crate) fn call<R: Print>(rt: &R, alloc: Global, line: &Line<'_>) -> Result<(), RunFault> {
+    let setting = setting(line);
+    let [_, _, _, _, _, first, stride, calls, ..] = line.numbers;
+    match line.asked() {
         "whole" => run_whole(rt, alloc, setting)?,
-        "each" => run_each(rt, alloc, setting, words)?,
-        "fail" => run_all_failing(rt, alloc, setting, words)?,
-        _ => return Err(RunFault::BadLine),
+        "each" => run_each(rt, alloc, setting, first)?,
+        _ => run_all_failing(rt, alloc, setting, [first, stride, calls])?,
     }
     say_end(rt)
 }

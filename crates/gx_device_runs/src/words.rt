@@ -1,59 +1,62 @@
 //! The words of a line, and answers printed behind it.
 use crate::fault::RunFault;
-use std::str::SplitWhitespace;
 
-/// The next word.
-pub(crate) fn word<'a>(words: &mut SplitWhitespace<'a>) -> Result<&'a str, RunFault> {
-    words.next().ok_or(RunFault::BadLine)
+/// How many words a line has behind its first one at most.
+const WORDS: usize = 10;
+
+/// A line's words.
+#[derive(Clone, Copy)]
+pub(crate) struct Line<'a> {
+    /// The first word: what the line is about.
+    pub(crate) name: &'a str,
+    /// Those behind it, empty ones behind the last. The first of them mostly says what is asked for.
+    pub(crate) words: [&'a str; WORDS],
+    /// Each of these as a number, 0 where it is none.
+    pub(crate) numbers: [u64; WORDS],
 }
 
-/// The next word as a number.
-pub(crate) fn number(words: &mut SplitWhitespace<'_>) -> Result<u64, RunFault> {
-    word(words)?.parse::<u64>().ok().ok_or(RunFault::BadLine)
-}
-
-/// The next words as numbers.
-pub(crate) fn numbers<const N: usize>(
-    words: &mut SplitWhitespace<'_>,
-) -> Result<[u64; N], RunFault> {
-    let mut numbers = [0; N];
-    for place in &mut numbers {
-        *place = number(words)?;
+impl<'a> Line<'a> {
+    /// The words of a line.
+    pub(crate) fn read(text: &'a str) -> Line<'a> {
+        let mut rest = text.split_whitespace();
+        let name = rest.next().unwrap_or("");
+        let mut words = [""; WORDS];
+        let mut numbers = [0; WORDS];
+        for k in 0..WORDS {
+            words[k] = rest.next().unwrap_or("");
+            numbers[k] = words[k].parse::<u64>().unwrap_or(0);
+        }
+        Line {
+            name,
+            words,
+            numbers,
+        }
     }
-    Ok(numbers)
-}
 
-/// The next word as a number, 0 where there is none.
-pub(crate) fn number_or_zero(words: &mut SplitWhitespace<'_>) -> Result<u64, RunFault> {
-    match words.next() {
-        Some(word) => word.parse::<u64>().ok().ok_or(RunFault::BadLine),
-        None => Ok(0),
+    /// What is asked for.
+    pub(crate) fn asked(&self) -> &'a str {
+        self.words[0]
+    }
+
+    /// The number at this place behind the first word, from 0.
+    pub(crate) fn number(&self, place: usize) -> u64 {
+        self.numbers.get(place).copied().unwrap_or(0)
     }
 }
 
-/// The next word as a page's number.
-pub(crate) fn page(words: &mut SplitWhitespace<'_>) -> Result<u32, RunFault> {
-    word(words)?.parse::<u32>().ok().ok_or(RunFault::BadLine)
+/// A number as a page's, or as how many of anything; the greatest where it is greater.
+pub(crate) fn to_u32(number: u64) -> u32 {
+    u32::try_from(number).unwrap_or(u32::MAX)
 }
 
-/// The next word as a page's level.
-pub(crate) fn level(words: &mut SplitWhitespace<'_>) -> Result<u16, RunFault> {
-    word(words)?.parse::<u16>().ok().ok_or(RunFault::BadLine)
+/// A number as an index, or a length.
+pub(crate) fn to_usize(number: u64) -> usize {
+    usize::try_from(number).unwrap_or(usize::MAX)
 }
 
-/// The next word as a place of the log.
-pub(crate) fn place(words: &mut SplitWhitespace<'_>) -> Result<u8, RunFault> {
-    word(words)?.parse::<u8>().ok().ok_or(RunFault::BadLine)
-}
-
-/// The next word as a count.
-pub(crate) fn count(words: &mut SplitWhitespace<'_>) -> Result<usize, RunFault> {
-    word(words)?.parse::<usize>().ok().ok_or(RunFault::BadLine)
-}
-
-/// A byte of two hexadecimal digits.
-pub(crate) fn byte(word: &str) -> Result<u8, RunFault> {
-    u8::from_str_radix(word, 16).ok().ok_or(RunFault::BadLine)
+/// A byte of two hexadecimal digits, 0 where the word is none.
+pub(crate) fn byte(word: &str) -> u8 {
+    u8::from_str_radix(word, 16).unwrap_or(0)
 }
 
 /// A part of an answer.

@@ -1,14 +1,12 @@
 pub mod Area
 pub mod Beginning
 pub mod Bodies
-pub mod BoxKeys
 pub mod Calls
 pub mod ClassLaws
 pub mod Classes
 pub mod Fitting
 pub mod GoingOn
 pub mod Head
-pub mod IntervalKeys
 pub mod Joining
 pub mod Laws
 pub mod Legal
@@ -16,7 +14,6 @@ pub mod Opening
 pub mod Pages
 pub mod PoolLaws
 pub mod Small
-pub mod SolidKeys
 pub mod Spelled
 pub mod Stamps
 pub mod Standing

@@ -4,8 +4,9 @@ ghost use Rattle.gx_durable.specs.Legal.{ReadsUsed};
 ghost use Rattle.gx_durable.specs.Classes.{known_at, reading_by};
 ghost use Rattle.gx_durable.specs.ClassLaws.{KeysAreRead, OnlyKeysAreEntries, NodesAreRead, WhatStandsIsLegalThere};
 
+use crate::OfClass;
 use crate::laws::a_crash_leaves_a_kept_set;
-use crate::{OfClass, ReadKeys};
+use gx_class::ReadKeys;
 use gx_node::laws::{inners, leaves};
 
 /// A key's bytes are read as that key, which is one of the class, and no other bytes are read as one.

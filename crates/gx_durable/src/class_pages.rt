@@ -3,8 +3,8 @@ ghost use Rattle.gx_node.specs.Reading.{format_of};
 ghost use Rattle.gx_index_laws.specs.Classes.{known_of};
 ghost use Rattle.gx_durable.specs.Classes.{class_of, reading_of};
 
-use crate::{ReadKeys, Spelled};
-use gx_class::KeyClass;
+use crate::Spelled;
+use gx_class::{KeyClass, ReadKeys};
 use gx_machine::Entry;
 use gx_page::Page;
 use gx_recovery::Meaning;

@@ -15,13 +15,11 @@ use gx_recovery::Meaning;
 pub mod calls;
 pub mod class_laws;
 mod class_pages;
-mod keys;
 pub mod laws;
 pub mod pages;
 pub mod turn;
 
 pub use class_pages::{NodePage, OfClass};
-pub use keys::ReadKeys;
 
 /// Entries and pages that are spelled in bytes: how a key is read as an entry, and an image as a page's content.
 pub trait Spelled: Meaning {

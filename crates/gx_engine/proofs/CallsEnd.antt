@@ -1,6 +1,7 @@
 -- A session's call comes to its end.
 use Rattle.std.proofs.Common.{◌≡◌, ◌⊎◌, inl, inr, ℕ, ◌+◌, ◌<◌, ◌≤◌, Bool, true, false, None, List, [], ◌∷◌, length, refl, sym, ◌∙◌, subst, arith}
 use Rattle.std.specs.Prelude.{◌-◌, ◌^◌}
+use Rattle.gx_class.specs.Traits.{traits_of}
 use Rattle.gx_class.specs.declared.class.KeyClass.{Ghosts}
 use Rattle.gx_geom.specs.declared.refusal.Refusal.{Refusal}
 use Rattle.gx_disk.specs.Device.{Device}
@@ -71,13 +72,13 @@ module _ {C B D : Type 0} (shape : Members B) (proper : B → Bool) (said : List
   left e i = moves.left c (reading_of said (format_of class)) (format_of class) (is_node (format_of class)) s e i
 
   abbrev makes : Parts B D → Event B → Outcome B → Parts B D → Type 0
-  makes = Makes shape proper said class state
+  makes = Makes shape (traits_of proper said class) state
 
   -- An engine holds an index, of which the session's call has so much left; and there is so much to flush.
   record At (w h : ℕ) (e : Parts B D) : Type 0 where
     bodies : List (List (Record (Entry B) (Page B)))
     is : index.State B
-    holds : HoldsIndex shape proper said class state l e bodies is
+    holds : HoldsIndex shape (traits_of proper said class) state l e bodies is
     work : left e is ≡ w
     flush : backlog e ≡ h
 
@@ -155,27 +156,27 @@ module _ {C B D : Type 0} (shape : Members B) (proper : B → Bool) (said : List
     (lawful : 4 ≤ l.most → IsLawful (class_of shape proper l))
     (bounded : (c : Class B) → IsLawful c → (old : index.State B) → IsWhole c old → c.pages ≤ MAX_PAGES → c.rules.most ≤ 100 → (s : ℕ) → work_left c old s < 2 ^ 39) where
   few_from : (old new : Parts B D) (s : ℕ) (due : Event B) (steps : List (Event B × Outcome B)) (bodies : List (List (Record (Entry B) (Page B)))) (i : index.State B)
-      → HoldsIndex shape proper said class state l old bodies i → AreDriven s (Run (Move s)) steps (Run due)
-      → AreMade (Makes shape proper said class state) old steps new → IsOrderly old → length steps < 2 ^ 55
+      → HoldsIndex shape (traits_of proper said class) state l old bodies i → AreDriven s (Run (Move s)) steps (Run due)
+      → AreMade (Makes shape (traits_of proper said class) state) old steps new → IsOrderly old → length steps < 2 ^ 55
   few_from old new s due steps bodies i holds driven made order =
       let small : l.pages ≤ MAX_PAGES = subst (λ n. n ≤ MAX_PAGES) (sym holds.keeps.pages) order.pages in
       let most : l.most ≤ 100 = subst (λ n. n ≤ 100) holds.most order.most in
       let work = bounded (class_of shape proper l) (lawful holds.some) i holds.whole small most s in
       let left_few = left_by_few (phase_at (s - 1) old.sessions.phases) (work_left (class_of shape proper l) i s) work in
       let flush_few = few_left old (few_orderly old order) in
-      let all = few_driven (Makes shape proper said class state) s (At shape proper said class state short l s) HasWork (goes_on shape proper said class state short l s)
+      let all = few_driven (Makes shape (traits_of proper said class) state) s (At shape proper said class state short l s) HasWork (goes_on shape proper said class state short l s)
       (waits shape proper said class state short l s) (never_idle shape proper said class state short l s) (helped shape proper said class state short l s) steps old new due made None
       (left shape proper said class state short l s old i) (backlog old) (record { bodies = bodies; is = i; holds = holds; work = refl; flush = refl }) tt driven in
       omega (arith, all, left_few, flush_few)
 
   few_steps : (old new : Parts B D) (s : ℕ) (due : Event B) (steps : List (Event B × Outcome B)) (bodies : List (List (Record (Entry B) (Page B)))) (i : index.State B)
-      → HoldsIndex shape proper said class state l old bodies i → AreDriven s (Run (Move s)) steps (Run due)
-      → AreMade (Makes shape proper said class state) old steps new → length steps < 2 ^ 55
+      → HoldsIndex shape (traits_of proper said class) state l old bodies i → AreDriven s (Run (Move s)) steps (Run due)
+      → AreMade (Makes shape (traits_of proper said class) state) old steps new → length steps < 2 ^ 55
   few_steps old new s due [] bodies i holds driven made = omega arith
   few_steps old new s due (step ∷ steps) bodies i holds driven made =
       few_from old new s due (step ∷ steps) bodies i holds driven made made.1.order.0
 
-  pub call_ends : CallEnds shape proper said class state l
+  pub call_ends : CallEnds shape (traits_of proper said class) state l
   call_ends old new s count due bodies i holds way =
       let few = few_steps old new s due way.steps bodies i holds way.driven way.made in
       let many = way.many in
@@ -183,16 +184,16 @@ module _ {C B D : Type 0} (shape : Members B) (proper : B → Bool) (said : List
 
   -- from an ask on
   few_asked : (old new : Parts B D) (s : ℕ) (call : Call B) (due : Event B) (steps : List (Event B × Outcome B)) (bodies : List (List (Record (Entry B) (Page B)))) (i : index.State B)
-      → HoldsIndex shape proper said class state l old bodies i → AreDriven s (Run (Ask s call)) steps (Run due)
-      → AreMade (Makes shape proper said class state) old steps new → length steps < 2 ^ 56
+      → HoldsIndex shape (traits_of proper said class) state l old bodies i → AreDriven s (Run (Ask s call)) steps (Run due)
+      → AreMade (Makes shape (traits_of proper said class) state) old steps new → length steps < 2 ^ 56
   few_asked old new s call due [] bodies i holds driven made = omega arith
   few_asked old new s call due (step ∷ steps) bodies i holds driven made =
       let event : step.0 ≡ Ask s call = (let same = driven.0 in cc) in
-      let few = few_after step.1 steps made.0 (subst (λ (x : Event B). Makes shape proper said class state old x step.1 made.0) event made.1) driven.1 made.2 in
+      let few = few_after step.1 steps made.0 (subst (λ (x : Event B). Makes shape (traits_of proper said class) state old x step.1 made.0) event made.1) driven.1 made.2 in
       omega (arith, few)
     where
-      few_after : (given : Outcome B) (rest : List (Event B × Outcome B)) (middle : Parts B D) → Makes shape proper said class state old (Ask s call) given middle
-          → AreDriven s (next_of s given) rest (Run due) → AreMade (Makes shape proper said class state) middle rest new → 1 + length rest < 2 ^ 56
+      few_after : (given : Outcome B) (rest : List (Event B × Outcome B)) (middle : Parts B D) → Makes shape (traits_of proper said class) state old (Ask s call) given middle
+          → AreDriven s (next_of s given) rest (Run due) → AreMade (Makes shape (traits_of proper said class) state) middle rest new → 1 + length rest < 2 ^ 56
       few_after (Replied reply) rest middle one driven made = absurd (done_rests s reply rest due driven)
       few_after More rest middle one driven made =
           let led = (one.steps l bodies i holds).led in
@@ -202,7 +203,7 @@ module _ {C B D : Type 0} (shape : Members B) (proper : B → Bool) (said : List
 
   -- so a call from its first event on
   pub starts_end : (old new : Parts B D) (s count : ℕ) (first due : Event B) (bodies : List (List (Record (Entry B) (Page B)))) (i : index.State B)
-      → HoldsIndex shape proper said class state l old bodies i → StartsCall s first → IsUnderWay (Makes shape proper said class state) s first old count due new → count < 2 ^ 56
+      → HoldsIndex shape (traits_of proper said class) state l old bodies i → StartsCall s first → IsUnderWay (Makes shape (traits_of proper said class) state) s first old count due new → count < 2 ^ 56
   starts_end old new s count (Ask t call) due bodies i holds starts way =
       let driven = subst (λ n. AreDriven s (Run (Ask n call)) way.steps (Run due)) starts way.driven in
       let few = few_asked old new s call due way.steps bodies i holds driven way.made in

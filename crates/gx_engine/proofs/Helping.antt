@@ -1,6 +1,7 @@
 -- An event that has work to do does it, or is refused.
 use Rattle.std.proofs.Common.{◌≡◌, ◌⊎◌, inl, inr, ℕ, ◌<◌, ◌≤◌, Bool, true, false, List, refl, ap, sym, ◌∙◌, subst, arith}
 use Rattle.std.specs.Prelude.{nat_le, ◌||◌, Result, Ok, Err, IfOk}
+use Rattle.gx_class.specs.Traits.{traits_of}
 use Rattle.gx_class.specs.declared.class.KeyClass.{Ghosts}
 use Rattle.gx_geom.specs.declared.refusal.Refusal.{Refusal}
 use Rattle.gx_disk.specs.Device.{Device}
@@ -117,7 +118,7 @@ module _ {B D : Type 0} where
       work_by old new given (λ on. checkpoint_less d e old new old.sessions.failed given on comes) (checkpoint_did d e old new old.sessions.failed given work comes)
 
 module _ {C B D : Type 0} (shape : Members B) (proper : B → Bool) (said : List ℕ → B) (class : Ghosts C B) (state : D → Device) where
-  pub helps : (old new : Parts B D) (n : Need) (given : Outcome B) → HasWork n old → Makes shape proper said class state old (event_of n) given new → DoesWork given old new
+  pub helps : (old new : Parts B D) (n : Need) (given : Outcome B) → HasWork n old → Makes shape (traits_of proper said class) state old (event_of n) given new → DoesWork given old new
   helps old new need.Log given work made = helps_by _ _ old new need.Log given work made.comes
   helps old new (need.Write page) given work made = helps_by _ _ old new (need.Write page) given work made.comes
   helps old new need.Checkpoint given work made = helps_by _ _ old new need.Checkpoint given work made.comes

@@ -3,6 +3,7 @@ use Rattle.std.proofs.Common.{◌≡◌, inl, inr, ℕ, ◌+◌, ◌<◌, ◌≤
 use Rattle.std.specs.Prelude.{nat_le, Result, Ok, Err}
 use Rattle.std.proofs.lemmas.Bool.{leb-true, le-leb}
 use Rattle.gx_geom.specs.declared.refusal.Refusal.{Refusal}
+use Rattle.gx_class.specs.Traits.{traits_of}
 use Rattle.gx_class.specs.declared.class.KeyClass.{Ghosts}
 use Rattle.gx_machine.specs.Keys.{Members}
 use Rattle.gx_disk.specs.Device.{Device}
@@ -297,7 +298,7 @@ few_orderly e order =
 
 module _ {C B D : Type 0} (shape : Members B) (proper : B → Bool) (said : List ℕ → B) (class : Ghosts C B) (state : D → Device) where
   abbrev makes : Parts B D → Event B → Outcome B → Parts B D → Type 0
-  makes = Makes shape proper said class state
+  makes = Makes shape (traits_of proper said class) state
 
   one_less : (event : Event B) (old new : Parts B D) (given : Outcome B) → IsFlushing event → GoesOn given → makes old event given new → backlog new < backlog old
   one_less LogStep old new given flushes on one =

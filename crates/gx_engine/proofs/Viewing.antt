@@ -2,6 +2,7 @@
 use Rattle.std.proofs.Common.{◌≡◌, Bool, List, ℕ, subst, sym, ◌∙◌, ap}
 use Rattle.std.specs.Prelude.{Result, Err}
 use Rattle.gx_machine.specs.Keys.{Members}
+use Rattle.gx_class.specs.Traits.{traits_of}
 use Rattle.gx_class.specs.declared.class.KeyClass.{Ghosts}
 use Rattle.gx_disk.specs.Device.{Device}
 use Rattle.gx_node.specs.Reading.{format_of, is_node}
@@ -29,7 +30,7 @@ module _ {C B D : Type 0} (shape : Members B) (proper : B → Bool) (said : List
   pub not_viewed : (given named : Outcome B) (why : NotLent) → given ≡ named → brought_as {B = B} (Err why) ≡ Err named → Comes (Err given)
       → Stays (IsSteady (state old.volume.shelf.disk) old.volume.shelf.frames) (store_of (format_of class) (state old.volume.shelf.disk).seen old.volume.shelf)
       (store_of (format_of class) (state new.volume.shelf.disk).seen new.volume.shelf) → LeadsOn (Err given) → IsOrderly old × IsOrderly new
-      → Views shape proper said class state page old new (Err why)
+      → Views shape (traits_of proper said class) state page old new (Err why)
   not_viewed given named why is told comes stays leads order =
       let same : Err given ≡ brought_as (Err why) = ap Err is ∙ sym told in
       record { comes = subst Comes same comes; stays = stays; leads = subst LeadsOn same leads; order = order; lent = tt }

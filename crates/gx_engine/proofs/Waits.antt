@@ -3,6 +3,7 @@ use Rattle.std.proofs.Common.{◌≡◌, ◌⊎◌, inl, inr, ℕ, zero, suc, �
 use Rattle.std.specs.Prelude.{◌-◌, ◌||◌, ◌&&◌, nat_le, nat_lt}
 use Rattle.std.proofs.lemmas.Bool.{leb-false, le-leb, lt-ltb}
 use Rattle.std.proofs.lemmas.List.{append-nil}
+use Rattle.gx_class.specs.Traits.{traits_of}
 use Rattle.gx_class.specs.declared.class.KeyClass.{Ghosts}
 use Rattle.gx_disk.specs.Device.{Device}
 use Rattle.gx_glog.specs.declared.stage.Stage.{Stage}
@@ -423,18 +424,18 @@ no_more old new checkpoint log stamps was are =
 -- ---- the laws
 
 module _ {C B D : Type 0} (shape : Members B) (proper : B → Bool) (said : List ℕ → B) (class : Ghosts C B) (state : D → Device) (short : write_record class.KEY ≤ BODY_ROOM) (l : Limits) where
-  pub waits_made : (old new : Parts B D) (s : ℕ) (n : Need) → StandsIn old.checkpoint old.volume → Makes shape proper said class state old (Move s) (Help n) new → Waits s old new n
+  pub waits_made : (old new : Parts B D) (s : ℕ) (n : Need) → StandsIn old.checkpoint old.volume → Makes shape (traits_of proper said class) state old (Move s) (Help n) new → Waits s old new n
   waits_made old new s n stands made =
       move_waits (keys_of shape) (known_at shape proper) (reading_of said (format_of class)) (format_of class) (is_node (format_of class)) class.is_key class.spelling class.KEY short
       (state old.volume.shelf.disk) (state new.volume.shelf.disk) s old new n stands made.comes
 
-  pub names_work : NamesWork shape proper said class state l
+  pub names_work : NamesWork shape (traits_of proper said class) state l
   names_work old new s n bodies i holds made =
       let stepped = made.steps l bodies i holds in
       work_by (class_of shape proper l) (reading_of said (format_of class)) (format_of class) (is_node (format_of class)) (state new.volume.shelf.disk) s old new n
       (waits_made old new s n made.order.0.stands made) (made.order.0.sealed (s - 1)) made.order.1.frames stepped.led.bodies stepped.led.index stepped.led.holds
 
-  pub waiting_leaves : WaitingLeavesAll shape proper said class state l
+  pub waiting_leaves : WaitingLeavesAll shape (traits_of proper said class) state l
   waiting_leaves old new s n bodies i holds made =
       let stepped = made.steps l bodies i holds in
       let none : stepped.events ≡ [] = stepped.are.1 in
@@ -445,13 +446,13 @@ module _ {C B D : Type 0} (shape : Members B) (proper : B → Bool) (said : List
       ∙ ap (λ (j : index.State B). left_by (phase_at (a - 1) old.sessions.phases) (work_left (class_of shape proper l) j a)) same
 
   -- nor is there more to flush
-  pub waiting_flushes : (old new : Parts B D) (s : ℕ) (n : Need) → Makes shape proper said class state old (Move s) (Help n) new → backlog new ≤ backlog old
+  pub waiting_flushes : (old new : Parts B D) (s : ℕ) (n : Need) → Makes shape (traits_of proper said class) state old (Move s) (Help n) new → backlog new ≤ backlog old
   waiting_flushes old new s n made =
       let waits = waits_made old new s n made.order.0.stands made in
       no_more old new waits.checkpoint waits.log waits.stamps made.order.0 made.order.1
 
   -- so of a page that is to be brought
-  pub page_names_work : PageNamesWork shape proper said class state l
+  pub page_names_work : PageNamesWork shape (traits_of proper said class) state l
   page_names_work old new n bodies i holds was are comes =
       let waits = brings 0 old new n comes.1 comes.0.stamps (why_brought (is_node (format_of class)) (state old.volume.shelf.disk) (state new.volume.shelf.disk) 0 old new n comes.0) in (
         helped_work (class_of shape proper l) (reading_of said (format_of class)) (format_of class) (is_node (format_of class)) (state new.volume.shelf.disk) old new n waits.checkpoint waits.log

@@ -1,7 +1,7 @@
 -- The event that a move waits for.
-use Rattle.std.specs.Prelude.{ℕ, ◌≡◌, ◌⊎◌, ◌<◌, ◌≤◌, ◌^◌, Bool, true, false, List, Err}
+use Rattle.std.specs.Prelude.{ℕ, ◌≡◌, ◌⊎◌, ◌<◌, ◌≤◌, ◌^◌, true, false, List, Err}
 use Rattle.gx_geom.specs.declared.refusal.Refusal.{Refusal}
-use Rattle.gx_class.specs.declared.class.KeyClass.{Ghosts}
+use Rattle.gx_class.specs.Traits.{Traits, own}
 use Rattle.gx_disk.specs.Device.{Device}
 use Rattle.gx_machine.specs.declared.call.Call.{Call}
 use Rattle.gx_machine.specs.declared.entry.Entry.{Entry}
@@ -58,10 +58,10 @@ StartsCall s (Ask t call) = t ≡ s
 StartsCall s (Move t) = t ≡ s
 StartsCall s event = ⊥
 
-module _ {C B D : Type 0} (shape : Members B) (proper : B → Bool) (said : List ℕ → B) (class : Ghosts C B) (state : D → Device) (l : Limits) where
+module _ {B D : Type 0} (shape : Members B) (traits : Traits B) (state : D → Device) (l : Limits) where
   -- an engine holds an index of the class over its device
   abbrev pub HoldsIndex : Parts B D → List (List (Record (Entry B) (Page B))) → index.State B → Type 0
-  HoldsIndex e bodies i = Holds (class_of shape proper l) (reading_of said (format_of class)) (format_of class) (is_node (format_of class)) (state e.volume.shelf.disk) e bodies i
+  HoldsIndex e bodies i = Holds (class_of shape traits.is_proper l) (reading_of traits.said (format_of (own traits))) (format_of (own traits)) (is_node (format_of (own traits))) (state e.volume.shelf.disk) e bodies i
 
   -- where an engine holds an index of the class, and this event starts or goes on with a session's call, that is so
   abbrev pub WhereHeld : Parts B D → ℕ → Event B → Type 0 → Type 0
@@ -70,25 +70,25 @@ module _ {C B D : Type 0} (shape : Members B) (proper : B → Bool) (said : List
   -- What a move waits for has work to do.
   abbrev pub NamesWork : Type 0
   NamesWork = (old new : Parts B D) (s : ℕ) (n : Need) (bodies : List (List (Record (Entry B) (Page B)))) (i : index.State B) → HoldsIndex old bodies i
-      → Makes shape proper said class state old (Move s) (Help n) new → HasWork n new
+      → Makes shape traits state old (Move s) (Help n) new → HasWork n new
 
   -- What a page that is to be brought waits for has work to do, and there is no more to flush than there was.
   abbrev pub PageNamesWork : Type 0
   PageNamesWork = (old new : Parts B D) (n : Need) (bodies : List (List (Record (Entry B) (Page B)))) (i : index.State B) → HoldsIndex new bodies i → IsOrderly old → IsOrderly new
-      → BringComes {A = Unit {0}} (is_node (format_of class)) (state old.volume.shelf.disk) (state new.volume.shelf.disk) old new (Err (Help n)) → HasWork n new × (backlog new ≤ backlog old)
+      → BringComes {A = Unit {0}} (is_node (format_of (own traits))) (state old.volume.shelf.disk) (state new.volume.shelf.disk) old new (Err (Help n)) → HasWork n new × (backlog new ≤ backlog old)
 
   -- A move that waits leaves each session's call as much to do as it had.
   abbrev pub WaitingLeavesAll : Type 0
   WaitingLeavesAll = (old new : Parts B D) (s : ℕ) (n : Need) (bodies : List (List (Record (Entry B) (Page B)))) (i : index.State B) (holds : HoldsIndex old bodies i)
-      → (made : Makes shape proper said class state old (Move s) (Help n) new)
-      → LeavesAll (class_of shape proper l) (reading_of said (format_of class)) (format_of class) (is_node (format_of class)) old new i (made.steps l bodies i holds).led.index
+      → (made : Makes shape traits state old (Move s) (Help n) new)
+      → LeavesAll (class_of shape traits.is_proper l) (reading_of traits.said (format_of (own traits))) (format_of (own traits)) (is_node (format_of (own traits))) old new i (made.steps l bodies i holds).led.index
 
   -- A session's move and the events that its driver names after it are fewer than 2^55 before the call ends.
   abbrev pub CallEnds : Type 0
   CallEnds = (old new : Parts B D) (s count : ℕ) (due : Event B) (bodies : List (List (Record (Entry B) (Page B)))) (i : index.State B) → HoldsIndex old bodies i
-      → IsUnderWay (Makes shape proper said class state) s (Move s) old count due new → count < 2 ^ 55
+      → IsUnderWay (Makes shape traits state) s (Move s) old count due new → count < 2 ^ 55
 
   -- A call that is asked is not given up.
   abbrev pub AskedEnds : Type 0
   AskedEnds = (old new : Parts B D) (s : ℕ) (call : Call B) (bodies : List (List (Record (Entry B) (Page B)))) (i : index.State B) → HoldsIndex old bodies i
-      → IsGivenUp (Makes shape proper said class state) s (Ask s call) old new → ⊥
+      → IsGivenUp (Makes shape traits state) s (Ask s call) old new → ⊥

@@ -1,6 +1,6 @@
 -- Events that an engine makes one after another.
-use Rattle.std.specs.Prelude.{ℕ, ◌≡◌, Bool, List, [], ◌∷◌}
-use Rattle.gx_class.specs.declared.class.KeyClass.{Ghosts}
+use Rattle.std.specs.Prelude.{◌≡◌, List, [], ◌∷◌}
+use Rattle.gx_class.specs.Traits.{Traits}
 use Rattle.gx_disk.specs.Device.{Device}
 use Rattle.gx_machine.specs.Keys.{Members}
 use Rattle.gx_events.specs.declared.event.Event.{Event}
@@ -11,10 +11,10 @@ use Rattle.gx_engine.specs.Setting.{StepComesAs, StepsAs}
 
 -- An event with its outcome, as the contract of an engine's step has them, over a class of keys and devices that are seen so. The engine
 -- stands in order before and after it.
-pub record Makes {C B D : Type 0} (shape : Members B) (proper : B → Bool) (said : List ℕ → B) (class : Ghosts C B) (state : D → Device)
+pub record Makes {B D : Type 0} (shape : Members B) (traits : Traits B) (state : D → Device)
     (old : Parts B D) (event : Event B) (outcome : Outcome B) (new : Parts B D) : Type 0 where
-  pub comes : StepComesAs shape proper said class state event old new outcome
-  pub steps : StepsAs shape proper said class state event old new outcome
+  pub comes : StepComesAs shape traits state event old new outcome
+  pub steps : StepsAs shape traits state event old new outcome
   pub calls : MakesCalls state event old new
   pub told : TellsAs state old new outcome
   pub order : IsOrderly old × IsOrderly new

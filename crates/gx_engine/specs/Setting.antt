@@ -6,6 +6,7 @@ use Rattle.gx_machine.specs.declared.call.Call.{Call}
 use Rattle.gx_machine.specs.declared.entry.Entry.{Entry}
 use Rattle.gx_machine.specs.declared.query.Query.{Query}
 use Rattle.gx_machine.specs.Keys.{Keys, Members, keys_of}
+use Rattle.gx_class.specs.Traits.{Traits, own}
 use Rattle.gx_class.specs.declared.class.KeyClass.{Ghosts}
 use Rattle.gx_disk.specs.Device.{Device}
 use Rattle.gx_page.specs.Contents.{Contents}
@@ -104,24 +105,24 @@ module _ {C B D : Type 0} (shape : Members B) (class : Ghosts C B) (state : D �
       IsUnsought (format_of class) class.is_key (keys_of shape) (is_node (format_of class)) (state v.shelf.disk)
       (state w.shelf.disk) v w leaf fault
 
-module _ {C B D : Type 0} (shape : Members B) (proper : B → Bool) (said : List ℕ → B) (traits : Ghosts C B)
+module _ {B D : Type 0} (shape : Members B) (traits : Traits B)
     (state : D → Device) where
   -- the class and what is known of it, its keys, readings and format, which pages are nodes, and the device as
   -- engines and volumes have it
   abbrev class : Limits → Class B
-  class = class_of shape proper
+  class = class_of shape traits.is_proper
 
   abbrev known : Limits → Known (Entry B) (Page B)
-  known = known_at shape proper
+  known = known_at shape traits.is_proper
 
   abbrev keys : Keys B
   keys = keys_of shape
 
   abbrev form : Format B
-  form = format_of traits
+  form = format_of (own traits)
 
   abbrev reading : Reading (Entry B) (Page B)
-  reading = reading_of said form
+  reading = reading_of traits.said form
 
   abbrev passes : ℕ → Contents → Bool
   passes = is_node form

@@ -3,6 +3,7 @@ use Rattle.std.specs.Prelude.{ℕ, ⊤, Bool, List, Result, Ok, Err, IfOk}
 use Rattle.std.specs.Borrow.{Bor, Fml, MutBor, RattleType, follows_so}
 use mathlib.Core.Option.{none}
 use Rattle.gx_machine.specs.Keys.{Members}
+use Rattle.gx_class.specs.Traits.{Traits, own, traits_of}
 use Rattle.gx_class.specs.declared.class.KeyClass.{Ghosts}
 use Rattle.gx_disk.specs.Device.{Device}
 use Rattle.gx_disk.specs.declared.device.SectorDisk as disks
@@ -24,13 +25,13 @@ brought_as (Err (not_lent.Help named)) = Err (Help named)
 brought_as (Err (not_lent.Refused why)) = Err (Refused why)
 
 -- a page was brought, with this result, and is lent as it stands
-pub record Views {C B D : Type 0} (shape : Members B) (proper : B → Bool) (said : List ℕ → B) (class : Ghosts C B) (state : D → Device) (page : ℕ) (old new : Parts B D)
+pub record Views {B D : Type 0} (shape : Members B) (traits : Traits B) (state : D → Device) (page : ℕ) (old new : Parts B D)
     (result : Result (Bor Contents) NotLent) : Type 0 where
-  pub comes : BringPageComesAs class state old new old.sessions.failed (brought_as result)
-  pub stays : StaysAs class state old.volume.shelf new.volume.shelf
-  pub leads : LeadsAs shape proper said class state old new (bring_events (brought_as result))
+  pub comes : BringPageComesAs (own traits) state old new old.sessions.failed (brought_as result)
+  pub stays : StaysAs (own traits) state old.volume.shelf new.volume.shelf
+  pub leads : LeadsAs shape traits state old new (bring_events (brought_as result))
   pub order : IsOrderly old × IsOrderly new
-  pub lent : IfOk result (λ r. IsLentAs class state page new r.now)
+  pub lent : IfOk result (λ r. IsLentAs (own traits) state page new r.now)
 
 module _ (D C B : RattleType) (disk : disks.Ghosts D.Denot) (class : Ghosts C.Denot B.Denot) (said : List ℕ → B.Denot) (proper : B.Denot → Bool) (shape : Members B.Denot)
     (e : MutBor (Parts B.Denot D.Denot)) (page : ℕ) where
@@ -41,4 +42,4 @@ module _ (D C B : RattleType) (disk : disks.Ghosts D.Denot) (class : Ghosts C.De
 
   -- what the engine ends as once the page isn't read any more
   abbrev pub lends_page : Result (Bor Contents) NotLent → Fml
-  lends_page r = follows_so row row e.ghost_name none (λ _ _. ⊤) (λ n. Views shape proper said class disk.state page e.now n r)
+  lends_page r = follows_so row row e.ghost_name none (λ _ _. ⊤) (λ n. Views shape (traits_of proper said class) disk.state page e.now n r)

@@ -7,8 +7,8 @@ ghost use Rattle.gx_engine.specs.Setting.{LeadsAs};
 use crate::Engine;
 use crate::laws::a_class_is_lawful;
 use crate::work::Work;
+use gx_class::ReadKeys;
 use gx_disk::SectorDisk;
-use gx_durable::ReadKeys;
 use gx_events::Outcome;
 use gx_machine::{Asked, Call};
 
@@ -30,7 +30,7 @@ impl<D: SectorDisk, K: ReadKeys> Engine<D, K> {
     /// `Busy`, `ClaimsFull` or `PredicatesFull`, as `Sessions::ask` says. A refused call changes nothing.
     pub(crate) fn ask(&mut self, session: u8, call: Call<K::Key>) -> Outcome<K::Key>
         ensures comes { AskComes (keys_of K.Key.Shape) session call self.old result self.new }
-        ensures leads { LeadsAs K.Key.Shape K.is_proper K.said K.KeyClass D.state self.old self.new
+        ensures leads { LeadsAs K.Key.Shape K.ReadKeys D.state self.old self.new
             (ask_events session call self.old.sessions result) }
     {
         a_class_is_lawful::<K>();

@@ -3,8 +3,8 @@ ghost use Rattle.std.specs.Prelude.{◌≡◌, true};
 ghost use Rattle.gx_engine.specs.States.{is_due, runs};
 
 use crate::Engine;
+use gx_class::ReadKeys;
 use gx_disk::SectorDisk;
-use gx_durable::ReadKeys;
 use gx_index_laws::CHECKPOINT_AT;
 
 /// How far a checkpoint is.

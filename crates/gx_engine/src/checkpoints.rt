@@ -13,8 +13,8 @@ use crate::Engine;
 use crate::checkpoint::Checkpoint;
 use crate::heads::put_head;
 use crate::laws::a_class_is_lawful;
+use gx_class::ReadKeys;
 use gx_disk::SectorDisk;
-use gx_durable::ReadKeys;
 use gx_events::Outcome;
 use gx_geom::Refusal;
 use gx_glog::Turn;
@@ -38,8 +38,7 @@ impl<D: SectorDisk, K: ReadKeys> Engine<D, K> {
         requires running { self.old.checkpoint ≡ Running }
         requires busy { IsQuiet self.old.volume → ⊥ }
         ensures gates { Between D.state GatesNext self.old self.new result }
-        ensures leads { SparesSoAs K.Key.Shape K.is_proper K.said K.KeyClass D.state self.old self.new
-            (IsSync false result) }
+        ensures leads { SparesSoAs K.Key.Shape K.ReadKeys D.state self.old self.new (IsSync false result) }
     {
         a_class_is_lawful::<K>();
         self.sessions.stands();
@@ -55,8 +54,7 @@ impl<D: SectorDisk, K: ReadKeys> Engine<D, K> {
         requires quiet { IsQuiet self.old.volume }
         requires dirty { NoneDirty self.old.volume.shelf.frames → ⊥ }
         ensures writes { Between D.state WritesDirty self.old self.new result }
-        ensures leads { SparesSoAs K.Key.Shape K.is_proper K.said K.KeyClass D.state self.old self.new
-            (IsSync false result) }
+        ensures leads { SparesSoAs K.Key.Shape K.ReadKeys D.state self.old self.new (IsSync false result) }
     {
         match self.storage.dirty() {
             Some(page) => self.write_page(page),
@@ -69,8 +67,7 @@ impl<D: SectorDisk, K: ReadKeys> Engine<D, K> {
         requires works { self.old.sessions.failed ≡ false }
         requires turning { self.old.checkpoint ≡ Turning }
         ensures turns { Between D.state TurnsNext self.old self.new result }
-        ensures leads { SparesSoAs K.Key.Shape K.is_proper K.said K.KeyClass D.state self.old self.new
-            (IsSync false result) }
+        ensures leads { SparesSoAs K.Key.Shape K.ReadKeys D.state self.old self.new (IsSync false result) }
     {
         a_class_is_lawful::<K>();
         match self.storage.turn_step() {
@@ -89,8 +86,7 @@ impl<D: SectorDisk, K: ReadKeys> Engine<D, K> {
         requires quiet { IsQuiet self.old.volume }
         requires clean { NoneDirty self.old.volume.shelf.frames }
         ensures begins { Between D.state BeginsTurn self.old self.new result }
-        ensures leads { SparesSoAs K.Key.Shape K.is_proper K.said K.KeyClass D.state self.old self.new
-            (IsSync false result) }
+        ensures leads { SparesSoAs K.Key.Shape K.ReadKeys D.state self.old self.new (IsSync false result) }
     {
         a_class_is_lawful::<K>();
         self.sessions.stands();
@@ -111,8 +107,7 @@ impl<D: SectorDisk, K: ReadKeys> Engine<D, K> {
         requires works { self.old.sessions.failed ≡ false }
         requires running { self.old.checkpoint ≡ Running }
         ensures runs { Between D.state RunsOn self.old self.new result }
-        ensures leads { SparesSoAs K.Key.Shape K.is_proper K.said K.KeyClass D.state self.old self.new
-            (IsSync false result) }
+        ensures leads { SparesSoAs K.Key.Shape K.ReadKeys D.state self.old self.new (IsSync false result) }
     {
         if !self.storage.is_idle() {
             return self.gate_next();
@@ -129,8 +124,7 @@ impl<D: SectorDisk, K: ReadKeys> Engine<D, K> {
         requires off { self.old.checkpoint ≡ Off }
         ensures steps { Between D.state StepsOff self.old self.new (nat_le CHECKPOINT_AT self.old.volume.log.used)
             result }
-        ensures leads { SparesSoAs K.Key.Shape K.is_proper K.said K.KeyClass D.state self.old self.new
-            (IsSync false result) }
+        ensures leads { SparesSoAs K.Key.Shape K.ReadKeys D.state self.old self.new (IsSync false result) }
     {
         if self.storage.places() < CHECKPOINT_AT {
             return Outcome::Nothing;
@@ -150,7 +144,7 @@ impl<D: SectorDisk, K: ReadKeys> Engine<D, K> {
     /// engine has failed then. It takes no memory.
     pub fn checkpoint_step(&mut self) -> Outcome<K::Key>
         ensures steps { Between D.state CheckpointSteps self.old self.new self.old.sessions.failed result }
-        ensures leads { SparesSoAs K.Key.Shape K.is_proper K.said K.KeyClass D.state self.old self.new
+        ensures leads { SparesSoAs K.Key.Shape K.ReadKeys D.state self.old self.new
             (IsSync self.old.sessions.failed result) }
     {
         if self.sessions.has_failed() {

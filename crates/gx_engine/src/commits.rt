@@ -9,8 +9,8 @@ ghost use Rattle.gx_engine.specs.Setting.{LeadsAs, LeadsSoAs, phase_in};
 use crate::Engine;
 use crate::laws::a_class_is_lawful;
 use crate::refusals::log_need;
+use gx_class::ReadKeys;
 use gx_disk::SectorDisk;
-use gx_durable::ReadKeys;
 use gx_events::{Need, Outcome};
 use gx_machine::Reply;
 
@@ -36,7 +36,7 @@ impl<D: SectorDisk, K: ReadKeys> Engine<D, K> {
         requires commit { asks_commit (phase_in session self.old) ≡ true }
         requires works { self.old.sessions.failed ≡ false }
         ensures comes { SealComes session self.old self.new result }
-        ensures leads { LeadsSoAs K.Key.Shape K.is_proper K.said K.KeyClass D.state self.old self.new
+        ensures leads { LeadsSoAs K.Key.Shape K.ReadKeys D.state self.old self.new
             (AreSealing session (self.old.sessions.latest + 1) result) }
     {
         a_class_is_lawful::<K>();
@@ -64,8 +64,7 @@ impl<D: SectorDisk, K: ReadKeys> Engine<D, K> {
         ensures comes { (number : ℕ) → phase_in session self.old ≡ Waiting number
             → AcknowledgeComes session number self.old self.new result }
         ensures leads { (number : ℕ) → phase_in session self.old ≡ Waiting number
-            → LeadsAs K.Key.Shape K.is_proper K.said K.KeyClass D.state self.old self.new
-            (acknowledge_events session result) }
+            → LeadsAs K.Key.Shape K.ReadKeys D.state self.old self.new (acknowledge_events session result) }
     {
         a_class_is_lawful::<K>();
         self.sessions.stands();

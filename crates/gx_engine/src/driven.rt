@@ -8,9 +8,8 @@ ghost use Rattle.gx_engine.specs.Made.{Makes};
 
 use crate::engine::Engine;
 use crate::laws::a_class_is_lawful;
-use gx_class::Probing;
+use gx_class::{Probing, ReadKeys};
 use gx_disk::SectorDisk;
-use gx_durable::ReadKeys;
 use gx_events::{Driver, Event, Next, Outcome};
 use gx_index_laws::measures::what_a_call_has_left_is_bounded;
 use gx_machine::Reply;
@@ -30,13 +29,11 @@ pub fn drive<D: SectorDisk, K: ReadKeys + Probing>(
     first: Event<K::Key>,
 ) -> Option<Reply<K::Key>>
     ensures made { MatchOption result
-        (IsGivenUp (Makes K.Key.Shape K.is_proper K.said K.KeyClass D.state) session first engine.old engine.new)
-        (λ reply. IsDriven (Makes K.Key.Shape K.is_proper K.said K.KeyClass D.state) session first engine.old reply
-        engine.new) }
+        (IsGivenUp (Makes K.Key.Shape K.ReadKeys D.state) session first engine.old engine.new)
+        (λ reply. IsDriven (Makes K.Key.Shape K.ReadKeys D.state) session first engine.old reply engine.new) }
     ensures told { MatchOption result (TellsAs D.state engine.old engine.new Outcome.More)
         (λ reply. TellsAs D.state engine.old engine.new (Outcome.Replied reply)) }
-    ensures ends { (l : Limits)
-        → WhereHeld K.Key.Shape K.is_proper K.said K.KeyClass D.state l engine.old session first (IsSome result) }
+    ensures ends { (l : Limits) → WhereHeld K.Key.Shape K.ReadKeys D.state l engine.old session first (IsSome result) }
 {
     a_class_is_lawful::<K>();
     what_a_call_has_left_is_bounded::<K::Key>();

@@ -5,8 +5,8 @@ ghost use Rattle.gx_node.specs.declared.items.TheConstants.{MAX_ENTRIES};
 
 use crate::checkpoint::Checkpoint;
 use crate::work::Work;
+use gx_class::ReadKeys;
 use gx_disk::SectorDisk;
-use gx_durable::ReadKeys;
 use gx_events::Outcome;
 use gx_geom::Refusal;
 use gx_phases::Sessions;

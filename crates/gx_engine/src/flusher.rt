@@ -6,8 +6,8 @@ ghost use Rattle.gx_engine.specs.Setting.{Between, SparesAs};
 
 use crate::Engine;
 use crate::laws::a_class_is_lawful;
+use gx_class::ReadKeys;
 use gx_disk::SectorDisk;
-use gx_durable::ReadKeys;
 use gx_events::Outcome;
 use gx_geom::Refusal;
 use gx_glog::Stage;
@@ -43,7 +43,7 @@ impl<D: SectorDisk, K: ReadKeys> Engine<D, K> {
     pub fn log_step(&mut self) -> Outcome<K::Key>
         ensures steps { Between D.state LogSteps self.old self.new self.old.sessions.failed (runs self.old.checkpoint)
             result }
-        ensures leads { SparesAs K.Key.Shape K.is_proper K.said K.KeyClass D.state self.old self.new
+        ensures leads { SparesAs K.Key.Shape K.ReadKeys D.state self.old self.new
             (log_events self.old.volume.log.stage self.old.in_flight result) }
     {
         a_class_is_lawful::<K>();
@@ -64,8 +64,7 @@ impl<D: SectorDisk, K: ReadKeys> Engine<D, K> {
     /// device failed; the engine has failed then. It takes no memory.
     pub fn write_page(&mut self, page: u32) -> Outcome<K::Key>
         ensures writes { Between D.state (PageIsWritten page) self.old self.new self.old.sessions.failed result }
-        ensures leads { SparesAs K.Key.Shape K.is_proper K.said K.KeyClass D.state self.old self.new
-            (page_events result) }
+        ensures leads { SparesAs K.Key.Shape K.ReadKeys D.state self.old self.new (page_events result) }
     {
         a_class_is_lawful::<K>();
         if self.sessions.has_failed() {

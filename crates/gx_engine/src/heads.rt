@@ -11,9 +11,8 @@ ghost use Rattle.gx_engine.specs.Heads.{is_less, note_record};
 ghost use Rattle.gx_engine.specs.Noted.{has_transaction, touch_by};
 
 use crate::work::Work;
-use gx_class::KeyClass;
+use gx_class::{KeyClass, ReadKeys};
 use gx_disk::SectorDisk;
-use gx_durable::ReadKeys;
 use gx_geom::Shape;
 use gx_phases::{Phase, Sessions};
 use gx_record::Record;

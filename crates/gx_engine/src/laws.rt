@@ -23,8 +23,8 @@ ghost use Rattle.gx_engine.specs.States.{Parts};
 
 pub mod progress;
 
+use gx_class::ReadKeys;
 use gx_disk::SectorDisk;
-use gx_durable::ReadKeys;
 
 /// Where a node may have four entries, a class of keys is as the laws of the whole index want it.
 pub fn a_class_is_lawful<K: ReadKeys>()

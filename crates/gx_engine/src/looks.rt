@@ -19,9 +19,8 @@ ghost use Rattle.gx_engine.specs.Setting.{MovesAs, StopComesAs, phase_in};
 use crate::Engine;
 use crate::laws::a_class_is_lawful;
 use crate::work::Work;
-use gx_class::Probing;
+use gx_class::{Probing, ReadKeys};
 use gx_disk::SectorDisk;
-use gx_durable::ReadKeys;
 use gx_events::Outcome;
 use gx_geom::{Refusal, Shape};
 use gx_storage::laws::a_volume_shows_the_logs_tree;
@@ -61,7 +60,7 @@ impl<D: SectorDisk, K: ReadKeys + Probing> Engine<D, K> {
         requires works { self.old.sessions.failed ≡ false }
         requires more { 0 < length look.stack.items }
         requires first { IsFirstUnless begun self.old look }
-        ensures unlogged { OnOk result (UnloggedAs K.Key.Shape K.is_proper K.said K.KeyClass D.state
+        ensures unlogged { OnOk result (UnloggedAs K.Key.Shape K.ReadKeys D.state
             (bringing self.old.volume) self.old.volume self.new.volume) }
         ensures rest { OnOk result (self.new ≡ brought self.old self.new) }
         ensures stays { OnOk result (StaysAs K.KeyClass D.state self.old.volume.shelf self.new.volume.shelf) }
@@ -73,7 +72,7 @@ impl<D: SectorDisk, K: ReadKeys + Probing> Engine<D, K> {
             outcome) }
         ensures moves { IfErr result (λ outcome. (call : Call K.Key) → phase_in session self.old ≡ Open call Rests
             → MayHaveFound call []
-            → MovesAs K.Key.Shape K.is_proper K.said K.KeyClass D.state session
+            → MovesAs K.Key.Shape K.ReadKeys D.state session
             (calling session call (work_before begun look) self.old) self.new outcome
             (look_events session call outcome)) }
         ensures device { IsRead D.state self.old self.new }

@@ -12,8 +12,8 @@ ghost use Rattle.gx_engine.specs.Setting.{BringComesAs, BringPageComesAs, IsLent
 
 use crate::Engine;
 use crate::laws::a_class_is_lawful;
+use gx_class::ReadKeys;
 use gx_disk::SectorDisk;
-use gx_durable::ReadKeys;
 use gx_events::{Need, Outcome};
 use gx_geom::Refusal;
 use gx_page::Page;
@@ -34,13 +34,12 @@ impl<D: SectorDisk, K: ReadKeys> Engine<D, K> {
         requires from { 1 ≤ page }
         requires to { page ≤ self.old.volume.shelf.used }
         requires works { self.old.sessions.failed ≡ false }
-        ensures unlogged { UnloggedAs K.Key.Shape K.is_proper K.said K.KeyClass D.state (bringing self.old.volume)
+        ensures unlogged { UnloggedAs K.Key.Shape K.ReadKeys D.state (bringing self.old.volume)
             self.old.volume self.new.volume }
         ensures stays { StaysAs K.KeyClass D.state self.old.volume.shelf self.new.volume.shelf }
         ensures held { OnOk result (IsHeld self.new.volume.shelf page) }
         ensures comes { BringComesAs K.KeyClass D.state self.old self.new result }
-        ensures leads { LeadsAs K.Key.Shape K.is_proper K.said K.KeyClass D.state self.old self.new
-            (bring_events result) }
+        ensures leads { LeadsAs K.Key.Shape K.ReadKeys D.state self.old self.new (bring_events result) }
         ensures device { IsRead D.state self.old self.new }
         ensures told { TellsWhere D.state self.old self.new result }
     {
@@ -63,8 +62,7 @@ impl<D: SectorDisk, K: ReadKeys> Engine<D, K> {
         ensures stays { StaysAs K.KeyClass D.state self.old.volume.shelf self.new.volume.shelf }
         ensures held { OnOk result (IsHeld self.new.volume.shelf page) }
         ensures comes { BringPageComesAs K.KeyClass D.state self.old self.new self.old.sessions.failed result }
-        ensures leads { LeadsAs K.Key.Shape K.is_proper K.said K.KeyClass D.state self.old self.new
-            (bring_events result) }
+        ensures leads { LeadsAs K.Key.Shape K.ReadKeys D.state self.old self.new (bring_events result) }
         ensures order { IsOrderly self.old × IsOrderly self.new }
         ensures device { IsRead D.state self.old self.new }
         ensures told { TellsWhere D.state self.old self.new result }

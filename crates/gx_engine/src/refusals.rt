@@ -8,8 +8,8 @@ ghost use Rattle.gx_engine.specs.Refusals.{IsRefused, IsTurnedAway, log_need, ne
 ghost use Rattle.gx_engine.specs.Setting.{phase_in};
 
 use crate::Engine;
+use gx_class::ReadKeys;
 use gx_disk::SectorDisk;
-use gx_durable::ReadKeys;
 use gx_events::{Need, Outcome};
 use gx_geom::Refusal;
 use gx_machine::Reply;

@@ -6,9 +6,8 @@ ghost use Rattle.gx_engine.specs.Repeated.{IsFlushing, IsGoingOn, IsRepeated, la
 
 use crate::driven::EVENTS;
 use crate::engine::Engine;
-use gx_class::Probing;
+use gx_class::{Probing, ReadKeys};
 use gx_disk::SectorDisk;
-use gx_durable::ReadKeys;
 use gx_events::{Event, Outcome};
 use gx_geom::Refusal;
 
@@ -21,9 +20,8 @@ pub fn repeat<D: SectorDisk, K: ReadKeys + Probing>(
     event: Event<K::Key>,
 ) -> Option<Result<(), Refusal>>
     ensures made { MatchOption result
-        (IsGoingOn (Makes K.Key.Shape K.is_proper K.said K.KeyClass D.state) event engine.old EVENTS engine.new)
-        (λ ends. IsRepeated (Makes K.Key.Shape K.is_proper K.said K.KeyClass D.state) event engine.old (last_of ends)
-        engine.new) }
+        (IsGoingOn (Makes K.Key.Shape K.ReadKeys D.state) event engine.old EVENTS engine.new)
+        (λ ends. IsRepeated (Makes K.Key.Shape K.ReadKeys D.state) event engine.old (last_of ends) engine.new) }
     ensures ends { IsFlushing event → IsSome result }
     ensures memory { IsFlushing event → IfSome result (λ ends. ends ≢ Err Refusal.Memory) }
 {

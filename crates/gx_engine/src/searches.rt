@@ -19,9 +19,8 @@ ghost use Rattle.gx_engine.specs.Setting.{MovesAs, MovesOnAs, MovesSoAs, Reaches
 use crate::Engine;
 use crate::laws::a_class_is_lawful;
 use crate::work::Work;
-use gx_class::Probing;
+use gx_class::{Probing, ReadKeys};
 use gx_disk::SectorDisk;
-use gx_durable::ReadKeys;
 use gx_events::Outcome;
 use gx_geom::{Refusal, Shape};
 use gx_machine::{Entries, Entry, Query, Reply};
@@ -53,7 +52,7 @@ impl<D: SectorDisk, K: ReadKeys + Probing> Engine<D, K> {
         requires works { self.old.sessions.failed ≡ false }
         requires done { length look.stack.items ≡ 0 }
         ensures comes { FindComes session self.old self.new result }
-        ensures moves { MovesAs K.Key.Shape K.is_proper K.said K.KeyClass D.state session
+        ensures moves { MovesAs K.Key.Shape K.ReadKeys D.state session
             (calling session (Search query) (Looks look) self.old) self.new result
             (search_events session query result) }
         ensures device { IsRead D.state self.old self.new }
@@ -86,12 +85,12 @@ impl<D: SectorDisk, K: ReadKeys + Probing> Engine<D, K> {
         requires first { IsFirstUnless begun self.old look }
         ensures done { IfOk result (λ after. length after.stack.items ≡ 0) }
         ensures rest { OnOk result (self.new ≡ brought self.old self.new) }
-        ensures goes_on { IfOk result (λ after. MovesOnAs K.Key.Shape K.is_proper K.said K.KeyClass D.state session
+        ensures goes_on { IfOk result (λ after. MovesOnAs K.Key.Shape K.ReadKeys D.state session
             (calling session (Search query.now) (work_before begun look) self.old)
             (calling session (Search query.now) (Looks after) self.new)) }
         ensures comes { IfErr result (SearchComesAs K.KeyClass D.state session query.now
             (calling session (Search query.now) (work_before begun look) self.old) self.new) }
-        ensures moves { IfErr result (λ outcome. MovesAs K.Key.Shape K.is_proper K.said K.KeyClass D.state session
+        ensures moves { IfErr result (λ outcome. MovesAs K.Key.Shape K.ReadKeys D.state session
             (calling session (Search query.now) (work_before begun look) self.old) self.new outcome
             (search_events session query.now outcome)) }
         ensures device { IsRead D.state self.old self.new }
@@ -126,10 +125,10 @@ impl<D: SectorDisk, K: ReadKeys + Probing> Engine<D, K> {
         ensures done { IfOk result (λ look. length look.stack.items ≡ 0) }
         ensures phase { OnOk result (phase_in session self.new ≡ Open (Search query.now) Rests) }
         ensures rest { OnOk result (self.new ≡ calling session (Search query.now) Rests (brought self.old self.new)) }
-        ensures reaches { IfOk result (λ look. ReachesAs K.Key.Shape K.is_proper K.said K.KeyClass D.state session
+        ensures reaches { IfOk result (λ look. ReachesAs K.Key.Shape K.ReadKeys D.state session
             self.old (calling session (Search query.now) (Looks look) self.new)) }
         ensures comes { IfErr result (SearchComesAs K.KeyClass D.state session query.now self.old self.new) }
-        ensures moves { IfErr result (λ outcome. MovesAs K.Key.Shape K.is_proper K.said K.KeyClass D.state session
+        ensures moves { IfErr result (λ outcome. MovesAs K.Key.Shape K.ReadKeys D.state session
             self.old self.new outcome (search_events session query.now outcome)) }
         ensures device { IsRead D.state self.old self.new }
         ensures told { TellsWhere D.state self.old self.new result }
@@ -168,7 +167,7 @@ impl<D: SectorDisk, K: ReadKeys + Probing> Engine<D, K> {
         requires works { self.old.sessions.failed ≡ false }
         ensures comes { SearchComesAs K.KeyClass D.state session query self.old self.new result }
         ensures reads { OnlyReads self.old self.new }
-        ensures moves { MovesSoAs K.Key.Shape K.is_proper K.said K.KeyClass D.state session self.old self.new result
+        ensures moves { MovesSoAs K.Key.Shape K.ReadKeys D.state session self.old self.new result
             (AreSearching session query result) }
         ensures device { IsRead D.state self.old self.new }
         ensures told { TellsAs D.state self.old self.new result }

@@ -13,9 +13,8 @@ use crate::checkpoint::Checkpoint;
 use crate::laws::a_class_is_lawful;
 use crate::losers::{Loser, hold_losers};
 use crate::work::Work;
-use gx_class::KeyClass;
+use gx_class::{KeyClass, ReadKeys};
 use gx_disk::SectorDisk;
-use gx_durable::ReadKeys;
 use gx_geom::{Refusal, Shape};
 use gx_glog::{Extent, Glog};
 use gx_node::MAX_ENTRIES;
@@ -196,8 +195,7 @@ impl<D: SectorDisk, K: ReadKeys> Engine<D, K> {
         requires frames { (16 ≤ start.frames) × (start.frames ≤ FRAMES) }
         ensures started { IfOk result (Started (keys_of K.Key.Shape) start disk) }
         ensures refused { IfErr result (λ n. (n.disk ≡ disk) × WhyNot (keys_of K.Key.Shape) start n.why) }
-        ensures holds { (l : Limits)
-            → IfOk result (HoldsFromAs K.Key.Shape K.is_proper K.said K.KeyClass D.state l disk start) }
+        ensures holds { (l : Limits) → IfOk result (HoldsFromAs K.Key.Shape K.ReadKeys D.state l disk start) }
     {
         a_class_is_lawful::<K>();
         let log = match Glog::start(alloc, start.extent, start.bodies) {

@@ -12,9 +12,8 @@ ghost use Rattle.gx_engine.specs.Setting.{CallMovesAs, MoveComesAs, StepComesAs,
 use crate::Engine;
 use crate::laws::a_class_is_lawful;
 use crate::work::Work;
-use gx_class::Probing;
+use gx_class::{Probing, ReadKeys};
 use gx_disk::SectorDisk;
-use gx_durable::ReadKeys;
 use gx_events::{Event, Outcome};
 use gx_geom::{Refusal, Shape};
 use gx_machine::{Call, Reply};
@@ -43,10 +42,8 @@ impl<D: SectorDisk, K: ReadKeys + Probing> Engine<D, K> {
         requires session { is_session session ≡ true }
         requires open { (work : work.Work K.Key) × (phase_in session self.old ≡ phase.Open call work) }
         requires works { self.old.sessions.failed ≡ false }
-        ensures comes { CallMovesAs K.Key.Shape K.is_proper K.said K.KeyClass D.state session self.old self.new call
-            result }
-        ensures steps { StepsAs K.Key.Shape K.is_proper K.said K.KeyClass D.state (Event.Move session) self.old self.new
-            result }
+        ensures comes { CallMovesAs K.Key.Shape K.ReadKeys D.state session self.old self.new call result }
+        ensures steps { StepsAs K.Key.Shape K.ReadKeys D.state (Event.Move session) self.old self.new result }
         ensures device { IsRead D.state self.old self.new }
         ensures told { TellsAs D.state self.old self.new result }
     {
@@ -66,9 +63,8 @@ impl<D: SectorDisk, K: ReadKeys + Probing> Engine<D, K> {
 
     // A session's move.
     fn move_on(&mut self, session: u8) -> Outcome<K::Key>
-        ensures comes { MoveComesAs K.Key.Shape K.is_proper K.said K.KeyClass D.state session self.old self.new result }
-        ensures steps { StepsAs K.Key.Shape K.is_proper K.said K.KeyClass D.state (Event.Move session) self.old self.new
-            result }
+        ensures comes { MoveComesAs K.Key.Shape K.ReadKeys D.state session self.old self.new result }
+        ensures steps { StepsAs K.Key.Shape K.ReadKeys D.state (Event.Move session) self.old self.new result }
         ensures device { IsRead D.state self.old self.new }
         ensures told { TellsAs D.state self.old self.new result }
     {
@@ -97,8 +93,8 @@ impl<D: SectorDisk, K: ReadKeys + Probing> Engine<D, K> {
 
     // An event of a session, of the flusher, or a sweep.
     fn make(&mut self, event: Event<K::Key>) -> Outcome<K::Key>
-        ensures comes { StepComesAs K.Key.Shape K.is_proper K.said K.KeyClass D.state event self.old self.new result }
-        ensures steps { StepsAs K.Key.Shape K.is_proper K.said K.KeyClass D.state event self.old self.new result }
+        ensures comes { StepComesAs K.Key.Shape K.ReadKeys D.state event self.old self.new result }
+        ensures steps { StepsAs K.Key.Shape K.ReadKeys D.state event self.old self.new result }
         ensures calls { MakesCalls D.state event self.old self.new }
         ensures told { TellsAs D.state self.old self.new result }
     {
@@ -129,8 +125,8 @@ impl<D: SectorDisk, K: ReadKeys + Probing> Engine<D, K> {
     /// nothing to do.
     #[tactic(auto, using(crate::proofs::Lacking::step_lacks))]
     pub fn step(&mut self, event: Event<K::Key>) -> Outcome<K::Key>
-        ensures comes { StepComesAs K.Key.Shape K.is_proper K.said K.KeyClass D.state event self.old self.new result }
-        ensures steps { StepsAs K.Key.Shape K.is_proper K.said K.KeyClass D.state event self.old self.new result }
+        ensures comes { StepComesAs K.Key.Shape K.ReadKeys D.state event self.old self.new result }
+        ensures steps { StepsAs K.Key.Shape K.ReadKeys D.state event self.old self.new result }
         ensures calls { MakesCalls D.state event self.old self.new }
         ensures told { TellsAs D.state self.old self.new result }
         ensures memory { LacksOnlyThere event self.old result }

@@ -9,8 +9,8 @@ ghost use Rattle.gx_engine.specs.Setting.{LeadsAs, SweepComesAs, SweepsPageAs, m
 
 use crate::Engine;
 use crate::laws::a_class_is_lawful;
+use gx_class::ReadKeys;
 use gx_disk::SectorDisk;
-use gx_durable::ReadKeys;
 use gx_events::{Need, Outcome};
 use gx_geom::Refusal;
 use gx_node::laws::small_removals;
@@ -41,9 +41,8 @@ impl<D: SectorDisk, K: ReadKeys> Engine<D, K> {
         requires some { may_sweep K.Key.Shape K.KeyClass D.state page self.old ≡ true }
         requires early { is_due self.old ≡ false }
         requires works { self.old.sessions.failed ≡ false }
-        ensures sweeps { SweepsPageAs K.Key.Shape K.is_proper K.said K.KeyClass D.state page self.old self.new result }
-        ensures leads { LeadsAs K.Key.Shape K.is_proper K.said K.KeyClass D.state self.old self.new
-            (sweep_events result) }
+        ensures sweeps { SweepsPageAs K.Key.Shape K.ReadKeys D.state page self.old self.new result }
+        ensures leads { LeadsAs K.Key.Shape K.ReadKeys D.state self.old self.new (sweep_events result) }
         ensures device { IsRead D.state self.old self.new }
         ensures told { TellsAs D.state self.old self.new result }
     {
@@ -68,9 +67,8 @@ impl<D: SectorDisk, K: ReadKeys> Engine<D, K> {
     fn sweep_held(&mut self, page: u32) -> Outcome<K::Key>
         requires held { IsHeld self.old.volume.shelf page }
         requires works { self.old.sessions.failed ≡ false }
-        ensures sweeps { SweepsPageAs K.Key.Shape K.is_proper K.said K.KeyClass D.state page self.old self.new result }
-        ensures leads { LeadsAs K.Key.Shape K.is_proper K.said K.KeyClass D.state self.old self.new
-            (sweep_events result) }
+        ensures sweeps { SweepsPageAs K.Key.Shape K.ReadKeys D.state page self.old self.new result }
+        ensures leads { LeadsAs K.Key.Shape K.ReadKeys D.state self.old self.new (sweep_events result) }
         ensures device { IsRead D.state self.old self.new }
         ensures told { TellsAs D.state self.old self.new result }
     {
@@ -92,10 +90,9 @@ impl<D: SectorDisk, K: ReadKeys> Engine<D, K> {
     /// has failed then. Whatever else comes of it, pages may have been brought and nothing else has changed. It takes
     /// no memory.
     pub(crate) fn sweep(&mut self, page: u32) -> Outcome<K::Key>
-        ensures sweeps { SweepComesAs K.Key.Shape K.is_proper K.said K.KeyClass D.state page self.old self.new
+        ensures sweeps { SweepComesAs K.Key.Shape K.ReadKeys D.state page self.old self.new
             self.old.sessions.failed result }
-        ensures leads { LeadsAs K.Key.Shape K.is_proper K.said K.KeyClass D.state self.old self.new
-            (sweep_events result) }
+        ensures leads { LeadsAs K.Key.Shape K.ReadKeys D.state self.old self.new (sweep_events result) }
         ensures device { IsRead D.state self.old self.new }
         ensures told { TellsAs D.state self.old self.new result }
     {

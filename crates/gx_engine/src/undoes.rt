@@ -14,9 +14,8 @@ ghost use Rattle.gx_engine.specs.Setting.{MovesSoAs, RestoreComesAs, SeekingAs, 
 use crate::Engine;
 use crate::laws::a_class_is_lawful;
 use crate::work::Work;
-use gx_class::Probing;
+use gx_class::{Probing, ReadKeys};
 use gx_disk::SectorDisk;
-use gx_durable::ReadKeys;
 use gx_events::{Need, Outcome};
 use gx_geom::{Refusal, Shape};
 use gx_machine::Reply;
@@ -47,7 +46,7 @@ impl<D: SectorDisk, K: ReadKeys> Engine<D, K> {
         requires early { is_due self.old ≡ false }
         requires none { next_of session self.old.sessions ≡ None }
         ensures comes { EndComes session self.old self.new result }
-        ensures moves { MovesSoAs K.Key.Shape K.is_proper K.said K.KeyClass D.state session self.old self.new result
+        ensures moves { MovesSoAs K.Key.Shape K.ReadKeys D.state session self.old self.new result
             (AreUndoing session self.old.sessions result) }
     {
         a_class_is_lawful::<K>();
@@ -74,7 +73,7 @@ impl<D: SectorDisk, K: ReadKeys + Probing> Engine<D, K> {
     ) -> Result<Sought, StepFault<StoreFault>>
         requires session { is_session session ≡ true }
         requires early { is_due self.old ≡ false }
-        ensures sought { SeekingAs K.Key.Shape K.is_proper K.said K.KeyClass D.state self.old.volume self.new.volume
+        ensures sought { SeekingAs K.Key.Shape K.ReadKeys D.state self.old.volume self.new.volume
             (transaction_of session self.old.sessions) note.now leaf result }
         ensures only { self.new ≡ record self.old { volume = self.new.volume } }
         ensures told { ToldAs D.state (step_fails store_fails) self.old.volume.shelf self.new.volume.shelf result }
@@ -113,9 +112,8 @@ impl<D: SectorDisk, K: ReadKeys + Probing> Engine<D, K> {
         requires next { IsNext session self.old.sessions note }
         requires leaf { leaf ≡ next_leaf session self.old.sessions note }
         ensures comes { (restored : ℕ) → next_of session self.old.sessions ≡ Some restored
-            → RestoreComesAs K.Key.Shape K.is_proper K.said K.KeyClass D.state session restored note leaf self.old
-            self.new result }
-        ensures moves { MovesSoAs K.Key.Shape K.is_proper K.said K.KeyClass D.state session self.old self.new result
+            → RestoreComesAs K.Key.Shape K.ReadKeys D.state session restored note leaf self.old self.new result }
+        ensures moves { MovesSoAs K.Key.Shape K.ReadKeys D.state session self.old self.new result
             (AreUndoing session self.old.sessions result) }
         ensures told { TellsAs D.state self.old self.new result }
     {
@@ -147,8 +145,8 @@ impl<D: SectorDisk, K: ReadKeys + Probing> Engine<D, K> {
         requires session { is_session session ≡ true }
         requires undoes { is_undoing (phase_in session self.old) ≡ true }
         requires works { self.old.sessions.failed ≡ false }
-        ensures comes { UndoComesAs K.Key.Shape K.is_proper K.said K.KeyClass D.state session self.old self.new result }
-        ensures moves { MovesSoAs K.Key.Shape K.is_proper K.said K.KeyClass D.state session self.old self.new result
+        ensures comes { UndoComesAs K.Key.Shape K.ReadKeys D.state session self.old self.new result }
+        ensures moves { MovesSoAs K.Key.Shape K.ReadKeys D.state session self.old self.new result
             (AreUndoing session self.old.sessions result) }
         ensures told { TellsAs D.state self.old self.new result }
     {

@@ -19,9 +19,8 @@ mod seeks;
 
 use crate::Engine;
 use crate::work::Work;
-use gx_class::Probing;
+use gx_class::{Probing, ReadKeys};
 use gx_disk::SectorDisk;
-use gx_durable::ReadKeys;
 use gx_events::Outcome;
 use gx_geom::{Refusal, Shape};
 use gx_machine::Entry;
@@ -96,7 +95,7 @@ impl<D: SectorDisk, K: ReadKeys + Probing> Engine<D, K> {
         requires inserts { (work : declared.Work K.Key) × (phase_in session self.old ≡ Open (Insert entry) work) }
         requires works { self.old.sessions.failed ≡ false }
         ensures comes { WritesAs K.Key.Shape K.KeyClass D.state session (Insert entry) self.old self.new result }
-        ensures moves { MovesSoAs K.Key.Shape K.is_proper K.said K.KeyClass D.state session self.old self.new result
+        ensures moves { MovesSoAs K.Key.Shape K.ReadKeys D.state session self.old self.new result
             (AreWriting session (Insert entry) result) }
         ensures device { IsRead D.state self.old self.new }
         ensures told { TellsAs D.state self.old self.new result }
@@ -128,7 +127,7 @@ impl<D: SectorDisk, K: ReadKeys + Probing> Engine<D, K> {
         requires deletes { (work : declared.Work K.Key) × (phase_in session self.old ≡ Open (Delete entry) work) }
         requires works { self.old.sessions.failed ≡ false }
         ensures comes { WritesAs K.Key.Shape K.KeyClass D.state session (Delete entry) self.old self.new result }
-        ensures moves { MovesSoAs K.Key.Shape K.is_proper K.said K.KeyClass D.state session self.old self.new result
+        ensures moves { MovesSoAs K.Key.Shape K.ReadKeys D.state session self.old self.new result
             (AreWriting session (Delete entry) result) }
         ensures device { IsRead D.state self.old self.new }
         ensures told { TellsAs D.state self.old self.new result }

@@ -1,5 +1,6 @@
 -- What a crash leaves within a hold.
 use Rattle.std.proofs.Common.{◌≡◌, ap, sym, subst, ℕ, ◌≤◌, Bool, List}
+use Rattle.gx_class.specs.Traits.{traits_of}
 use Rattle.gx_class.specs.declared.class.KeyClass.{Ghosts}
 use Rattle.gx_machine.specs.declared.item.Item.{Item}
 use Rattle.gx_machine.specs.Keys.{Members}
@@ -23,11 +24,11 @@ use Rattle.gx_engine_events.proofs.Crashes.{step_leaves}
 module _ {C B D : Type 0} (shape : Members B) (proper : B → Bool) (said : List ℕ → B) (class : Ghosts C B) (state : D → Device)
     (lawful : (l : Limits) → 4 ≤ l.most → IsLawful (class_of shape proper l)) where
   pub event_leaves : (old new : Parts B D) (event : Event B) (outcome : Outcome B) (m : Machine B) → Sees shape proper said (format_of class) state old m
-      → Makes shape proper said class state old event outcome new → LeavesSets shape proper said (format_of class) state m old new
+      → Makes shape (traits_of proper said class) state old event outcome new → LeavesSets shape proper said (format_of class) state m old new
   event_leaves old new event outcome m seen made = step_leaves shape proper said (format_of class) state lawful old new event outcome made.steps m seen
 
   pub hold_leaves : (old new : Parts B D × List (Item B)) (event : Event B) (outcome : Outcome B) (m : Machine B) → Sees shape proper said (format_of class) state old.0 m
-      → IsMade (Makes shape proper said class state) old event outcome new → LeavesSets shape proper said (format_of class) state m old.0 new.0
+      → IsMade (Makes shape (traits_of proper said class) state) old event outcome new → LeavesSets shape proper said (format_of class) state m old.0 new.0
   hold_leaves old new event outcome m seen (is_made given made told recorded) = event_leaves old.0 new.0 event given m seen made
   hold_leaves old new event outcome m seen (is_turned_away why same) =
       subst (λ (x : Parts B D × List (Item B)). LeavesSets shape proper said (format_of class) state m old.0 x.0) (sym same)

@@ -3,3 +3,4 @@ pub mod One
 pub mod Crashes
 pub mod Books
 pub mod New
+pub mod Setting

@@ -3,7 +3,6 @@ ghost use Rattle.std.specs.Prelude.{◌≡◌, ◌⊎◌, ◌≤◌, ◌↔◌, 
 ghost use Rattle.gx_machine.specs.Machine.{fresh_machine};
 ghost use Rattle.gx_disk.specs.Device.{IsSettled};
 ghost use Rattle.gx_page.specs.Format.{IsWellFormed};
-ghost use Rattle.gx_node.specs.Reading.{format_of};
 ghost use Rattle.gx_node.specs.declared.items.TheConstants.{MAX_ENTRIES};
 ghost use Rattle.gx_pool.specs.State.{IsEmpty};
 ghost use Rattle.gx_format.specs.Formatting.{AreInRange, sectors_of};
@@ -11,13 +10,12 @@ ghost use Rattle.gx_format.specs.Fresh.{IsFresh, fresh_root};
 ghost use Rattle.gx_durable.specs.Beginning.{first_glog};
 ghost use Rattle.gx_phases.specs.States.{fresh_state};
 ghost use Rattle.gx_engine.specs.declared.work.Work as work;
-ghost use Rattle.gx_engine_events.specs.Seen.{Sees};
+ghost use Rattle.gx_engine_events.specs.Setting.{SeesAs};
 ghost use Rattle.gx_engine_events.specs.New.{IsFrames, IsNew, WhyNone, new_parts};
 
 use crate::engine::EngineEvents;
-use gx_class::KeyClass;
+use gx_class::{KeyClass, ReadKeys};
 use gx_disk::SectorDisk;
-use gx_durable::ReadKeys;
 use gx_engine::laws::a_class_is_lawful;
 use gx_engine::{Engine, NotOpened, Work};
 use gx_format::format;
@@ -157,7 +155,7 @@ pub fn new_index<D: SectorDisk, K: ReadKeys>(
 ) -> Result<EngineEvents<D, K>, NotOpened<D>>
     ensures new { IfOk result (λ e. IsFrames frames × AreInRange pages most × IsNew pages most frames e) }
     ensures seen { (D.state disk).honest ≡ true
-        → IfOk result (λ e. Sees K.Key.Shape K.is_proper K.said (format_of K.KeyClass) D.state e fresh_machine) }
+        → IfOk result (λ e. SeesAs K.Key.Shape K.ReadKeys D.state e fresh_machine) }
     ensures refused { IfErr result (λ n. WhyNone D.state (record { pages = pages; most = most; class = K.CLASS })
         (fresh_root K.spelling K.start_key) frames disk n.disk n.why) }
 {

@@ -1,13 +1,11 @@
 //! A book over the engine, and crashes.
 ghost use Rattle.std.specs.Prelude.{◌≡◌, true};
-ghost use Rattle.gx_node.specs.Reading.{format_of};
-ghost use Rattle.gx_engine_events.specs.Books.{Outlives};
+ghost use Rattle.gx_engine_events.specs.Setting.{OutlivesAs};
 
 use crate::EngineEvents;
 use crate::laws::a_crash_leaves_a_set_of_the_machine;
-use gx_class::Probing;
+use gx_class::{Probing, ReadKeys};
 use gx_disk::SectorDisk;
-use gx_durable::ReadKeys;
 use gx_shared::{Book, Run};
 
 /// What a book over the engine keeps, whenever it is looked at, where devices of its kind keep what they acknowledge:
@@ -18,7 +16,7 @@ pub fn outlives_a_crash<D: SectorDisk, K: ReadKeys + Probing, R: Run<K::Key>>(
     book: &Book<K::Key, EngineEvents<D, K>, R>,
 )
     ensures { ((d : D) → (D.state d).honest ≡ true)
-        → Outlives K.Key.Shape K.is_proper K.said (format_of K.KeyClass) D.state R.starts book.now.0 book.now.1 }
+        → OutlivesAs K.Key.Shape K.ReadKeys D.state R.starts book.now.0 book.now.1 }
 {
     a_crash_leaves_a_set_of_the_machine::<D, K>();
     book.stands();

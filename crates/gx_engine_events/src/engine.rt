@@ -1,9 +1,8 @@
 //! The engine as an engine of events.
 ghost use Rattle.std.specs.Prelude.{◌≡◌};
 
-use gx_class::Probing;
+use gx_class::{Probing, ReadKeys};
 use gx_disk::SectorDisk;
-use gx_durable::ReadKeys;
 use gx_engine::Engine;
 use gx_engine::laws::a_class_is_lawful;
 use gx_events::{Event, Events, Outcome};
@@ -28,7 +27,6 @@ impl<D: SectorDisk, K: ReadKeys> EngineEvents<D, K> {
     ghost use Rattle.gx_machine.specs.declared.entry.Entry.{Entry};
     ghost use Rattle.gx_machine.specs.Keys.{keys_of};
     ghost use Rattle.gx_machine.specs.Machine.{Machine};
-    ghost use Rattle.gx_node.specs.Reading.{format_of};
     ghost use Rattle.gx_events.specs.Engines.{SeenAs};
     ghost use Rattle.gx_recovery.specs.Known.{Limits};
     ghost use Rattle.gx_recovery.specs.Records.{Record};
@@ -37,16 +35,16 @@ impl<D: SectorDisk, K: ReadKeys> EngineEvents<D, K> {
     ghost use Rattle.gx_index_laws.specs.States.{engine_of};
     ghost use Rattle.gx_durable.specs.Classes.{class_of};
     ghost use Rattle.gx_engine.specs.Helping.{HoldsIndex};
-    ghost use Rattle.gx_engine_events.specs.Seen.{Sees};
+    ghost use Rattle.gx_engine_events.specs.Setting.{SeesAs};
 
     /// An engine, to be run by events. Where it holds an index that is seen as a machine, it is seen as that machine.
     pub fn new(engine: Engine<D, K>) -> Self
         ensures same { result ≡ engine }
         ensures seen { (l : Limits) (bodies : List (List (Record (Entry K.Key) (Page K.Key)))) (i : index.State K.Key)
             (m : Machine K.Key)
-            → HoldsIndex K.Key.Shape K.is_proper K.said K.KeyClass D.state l engine bodies i
+            → HoldsIndex K.Key.Shape K.ReadKeys D.state l engine bodies i
             → SeenAs (keys_of K.Key.Shape) (engine_of (class_of K.Key.Shape K.is_proper l) i) m
-            → Sees K.Key.Shape K.is_proper K.said (format_of K.KeyClass) D.state result m }
+            → SeesAs K.Key.Shape K.ReadKeys D.state result m }
     {
         EngineEvents { engine }
     }
@@ -63,22 +61,20 @@ impl<D: SectorDisk, K: ReadKeys + Probing> Events<K::Key> for EngineEvents<D, K>
     ghost use Rattle.std.specs.Prelude.{◌≡◌, max, true};
     ghost use Rattle.gx_machine.specs.Keys.{keys_of};
     ghost use Rattle.gx_machine.specs.Machine.{Machine, newest};
-    ghost use Rattle.gx_node.specs.Reading.{format_of};
     ghost use Rattle.gx_storage.specs.Flushing.{IsLeastWritable};
     ghost use Rattle.gx_events.specs.Happens.{Happens};
     ghost use Rattle.gx_events.specs.Work.{is_work, replied};
     ghost use Rattle.gx_engine.specs.Made.{Makes};
-    ghost use Rattle.gx_engine_events.specs.Crashes.{LeavesSets};
-    ghost use Rattle.gx_engine_events.specs.Seen.{Sees};
+    ghost use Rattle.gx_engine_events.specs.Setting.{LeavesSetsAs, SeesAs};
     ghost use Rattle.gx_engine_events.specs.One.{one_seen};
 
     // devices of its kind keep what they acknowledge
     ghost granted = { (d : D) → (D.state d).honest ≡ true };
 
-    ghost sees = { λ e m. Sees K.Key.Shape K.is_proper K.said (format_of K.KeyClass) D.state e m };
+    ghost sees = { λ e m. SeesAs K.Key.Shape K.ReadKeys D.state e m };
 
     ghost makes = { λ old event outcome new.
-        Makes K.Key.Shape K.is_proper K.said K.KeyClass D.state old event outcome new };
+        Makes K.Key.Shape K.ReadKeys D.state old event outcome new };
 
     ghost uses = { λ e. max 1 e.volume.shelf.used };
 
@@ -88,14 +84,14 @@ impl<D: SectorDisk, K: ReadKeys + Probing> Events<K::Key> for EngineEvents<D, K>
     /// machine of before it keeps: one from the last durable commit's to the last one's.
     fn step(&mut self, event: Event<K::Key>) -> Outcome<K::Key>
         ensures happens { (m : Machine K.Key)
-            → Sees K.Key.Shape K.is_proper K.said (format_of K.KeyClass) D.state self.old m
+            → SeesAs K.Key.Shape K.ReadKeys D.state self.old m
             → (n : Machine K.Key) × Happens (keys_of K.Key.Shape) m event result n
-            × Sees K.Key.Shape K.is_proper K.said (format_of K.KeyClass) D.state self.new n }
-        ensures made { Makes K.Key.Shape K.is_proper K.said K.KeyClass D.state self.old event result self.new }
+            × SeesAs K.Key.Shape K.ReadKeys D.state self.new n }
+        ensures made { Makes K.Key.Shape K.ReadKeys D.state self.old event result self.new }
         ensures quiet { is_work event ≡ true → replied result ≡ 0 }
         ensures leaves { (m : Machine K.Key)
-            → Sees K.Key.Shape K.is_proper K.said (format_of K.KeyClass) D.state self.old m
-            → LeavesSets K.Key.Shape K.is_proper K.said (format_of K.KeyClass) D.state m self.old self.new }
+            → SeesAs K.Key.Shape K.ReadKeys D.state self.old m
+            → LeavesSetsAs K.Key.Shape K.ReadKeys D.state m self.old self.new }
     {
         a_class_is_lawful::<K>();
         self.engine.step(event)
@@ -103,8 +99,7 @@ impl<D: SectorDisk, K: ReadKeys + Probing> Events<K::Key> for EngineEvents<D, K>
 
     fn commits(&self) -> u64
         ensures number { result ≡ self.now.sessions.latest }
-        ensures seen { (m : Machine K.Key)
-            → Sees K.Key.Shape K.is_proper K.said (format_of K.KeyClass) D.state self.now m → result ≡ newest m }
+        ensures seen { (m : Machine K.Key) → SeesAs K.Key.Shape K.ReadKeys D.state self.now m → result ≡ newest m }
     {
         a_class_is_lawful::<K>();
         self.engine.commits()

@@ -11,13 +11,13 @@ ghost use Rattle.gx_machine.specs.Keys.{keys_of};
 ghost use Rattle.gx_shared.specs.Books.{IsMade, Stands};
 ghost use Rattle.gx_engine.specs.Made.{Makes};
 ghost use Rattle.gx_engine.specs.States.{Parts};
-ghost use Rattle.gx_engine_events.specs.Crashes.{LeavesSets, StandsForSet};
-ghost use Rattle.gx_engine_events.specs.Seen.{Sees, class_in};
+ghost use Rattle.gx_engine_events.specs.Crashes.{StandsForSet};
+ghost use Rattle.gx_engine_events.specs.Seen.{class_in};
+ghost use Rattle.gx_engine_events.specs.Setting.{LeavesSetsAs, SeesAs};
 
 use crate::EngineEvents;
-use gx_class::Probing;
+use gx_class::{Probing, ReadKeys};
 use gx_disk::{MemDisk, RamDisk, SectorDisk};
-use gx_durable::ReadKeys;
 use gx_engine::laws::a_class_is_lawful;
 use gx_events::Events;
 use gx_shared::{Book, Run};
@@ -27,7 +27,7 @@ use gx_shared::{Book, Run};
 /// whenever the engine is looked at.
 pub fn a_crash_leaves_a_set_of_the_machine<D: SectorDisk, K: ReadKeys>()
     ensures { (e : Parts K.Key D) (m : Machine K.Key)
-        → Sees K.Key.Shape K.is_proper K.said (format_of K.KeyClass) D.state e m → (image : List ℕ)
+        → SeesAs K.Key.Shape K.ReadKeys D.state e m → (image : List ℕ)
         → MayLeave (D.state e.volume.shelf.disk) image
         → StandsForSet (class_in K.Key.Shape K.is_proper D.state e) (reading_of K.said (format_of K.KeyClass)) m image }
 {
@@ -39,13 +39,13 @@ pub fn a_crash_leaves_a_set_of_the_machine<D: SectorDisk, K: ReadKeys>()
 /// the last durable commit's to the last one's.
 pub fn a_hold_leaves_sets_of_the_machine<D: SectorDisk, K: ReadKeys>()
     ensures event { (old new : Parts K.Key D) (e : event.Event K.Key) (o : outcome.Outcome K.Key) (m : Machine K.Key)
-        → Sees K.Key.Shape K.is_proper K.said (format_of K.KeyClass) D.state old m
-        → Makes K.Key.Shape K.is_proper K.said K.KeyClass D.state old e o new
-        → LeavesSets K.Key.Shape K.is_proper K.said (format_of K.KeyClass) D.state m old new }
+        → SeesAs K.Key.Shape K.ReadKeys D.state old m
+        → Makes K.Key.Shape K.ReadKeys D.state old e o new
+        → LeavesSetsAs K.Key.Shape K.ReadKeys D.state m old new }
     ensures hold { (old new : Parts K.Key D × List (Item K.Key)) (e : event.Event K.Key) (o : outcome.Outcome K.Key)
-        (m : Machine K.Key) → Sees K.Key.Shape K.is_proper K.said (format_of K.KeyClass) D.state old.0 m
-        → IsMade (Makes K.Key.Shape K.is_proper K.said K.KeyClass D.state) old e o new
-        → LeavesSets K.Key.Shape K.is_proper K.said (format_of K.KeyClass) D.state m old.0 new.0 }
+        (m : Machine K.Key) → SeesAs K.Key.Shape K.ReadKeys D.state old.0 m
+        → IsMade (Makes K.Key.Shape K.ReadKeys D.state) old e o new
+        → LeavesSetsAs K.Key.Shape K.ReadKeys D.state m old.0 new.0 }
 {
     a_class_is_lawful::<K>();
 }

@@ -1,6 +1,5 @@
 //! Random keys, of both classes.
-use gx_class::{Box2Class, IntervalClass, KeyClass, Probing};
-use gx_durable::ReadKeys;
+use gx_class::{Box2Class, IntervalClass, KeyClass, Probing, ReadKeys};
 use gx_geom::{Box2, Interval};
 use gx_plain_reader::Key;
 use rand_core::utils::NextWord;

@@ -10,9 +10,9 @@ ghost use Rattle.gx_found_log.specs.Faults.{refusing};
 ghost use Rattle.gx_found_log.specs.Shown.{LogShows};
 
 use crate::{FoundLog, LogFault, LogRoom, Readable, Small, examine_log, read_log};
-use gx_class::KeyClass;
+use gx_class::{KeyClass, ReadKeys};
 use gx_disk::SectorDisk;
-use gx_durable::{OfClass, ReadKeys};
+use gx_durable::OfClass;
 use gx_geom::Refusal;
 use gx_machine::Entry;
 use gx_node::small::{add_pair, mark_pair, remove_slots, set_key};

@@ -4,6 +4,7 @@ use Rattle.std.specs.Prelude.{MatchResult}
 use Rattle.std.proofs.Math.Nat.{mul-le-mul_left}
 use Rattle.clap.specs.Words.{Row, Text, subcommand_of}
 use Rattle.gx_geom.specs.Rectangles.{Rectangle}
+use Rattle.gx_geom.specs.Solids.{Solid}
 use Rattle.gx_geom.specs.declared.refusal.Refusal.{Refusal}
 use Rattle.gx_geom.specs.declared.refusal.Refusal.TheVariants as refusal
 use Rattle.gx_commands.specs.Refusing.{Refuses}
@@ -44,26 +45,26 @@ few_calls storm is =
 module _ {X F : Type 0} (text : X → List Text) (storm : Storm) (from between : World F) where
   -- what is awaited before any threads is small
   pub awaits_small : (words : Result X WordsFault) → MatchResult words (λ given. AwaitsStorm (text given) storm from between) (λ fault. ⊥) → IsSmall storm
-  awaits_small (Ok given) awaits = small (subcommand_of gist_app (text given)) storm awaits.asks
+  awaits_small (Ok given) awaits = small (subcommand_of (gist_app awaits.asks.classes) (text given)) storm awaits.asks.asks
   awaits_small (Err fault) none = absurd none
 
-  module _ {C : Type 0} (shape : Members Rectangle) (class : Ghosts C Rectangle) (state : FileDisk → Device) (events : MemoryEvents) where
+  module _ {C E : Type 0} (plane : Members Rectangle) (plane_class : Ghosts C Rectangle) (space : Members Solid) (space_class : Ghosts E Solid) (state : FileDisk → Device)
+      (events : MemoryEvents) where
     -- what the storm leaves, which changes the outputs alone
     abbrev after : Outputs → World F
     after to = record between { outputs = to }
 
     -- and once it ended, so does the program
     pub stormed : (words : Result X WordsFault) (to : Outputs) (status : ℕ) → MatchResult words (λ given. AwaitsStorm (text given) storm from between) (λ fault. ⊥)
-        → EndsStormed (keys_of shape) events storm between.outputs to status
-        → MatchResult words (λ given. EndsOnWords shape class state events (text given) from (after to) status) (λ fault. EndsUnread fault from (after to) status)
+        → EndsStormed (keys_of plane) events storm between.outputs to status
+        → MatchResult words (λ given. EndsOnWords plane plane_class space space_class state events (text given) from (after to) status) (λ fault. EndsUnread fault from (after to) status)
     stormed (Ok given) to status awaits ends =
         inr (inr (record {
-          right = awaits.right;
           asked = command.Storm storm.seed storm.sessions storm.calls;
           asks = awaits.asks;
           ends = (
             record { unopened = ap (λ (w : World F). w.opener) awaits.untouched; unread = ap (λ (w : World F). w.input) awaits.untouched },
-            subst (λ (w : World F). EndsStormed (keys_of shape) events storm w.outputs to status) awaits.untouched ends,
+            subst (λ (w : World F). EndsStormed (keys_of plane) events storm w.outputs to status) awaits.untouched ends,
           );
         }))
     stormed (Err fault) to status none ends = absurd none

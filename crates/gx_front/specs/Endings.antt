@@ -1,21 +1,25 @@
 -- How the program ends: its status, which file it has opened, what it has read, and what it has written.
 use Rattle.std.specs.Prelude.{ℕ, ◌≡◌, ◌≢◌, ◌⊎◌, List, [], ◌++◌, codes, decimal}
-use Rattle.clap.specs.Words.{Text, fault_of}
+use Rattle.clap.specs.Words.{Text}
 use Rattle.gx_geom.specs.Rectangles.{Rectangle}
+use Rattle.gx_geom.specs.Solids.{Solid}
 use Rattle.gx_machine.specs.Keys.{Members, keys_of}
 use Rattle.gx_class.specs.declared.class.KeyClass.{Ghosts}
 use Rattle.gx_disk.specs.Device.{Device}
 use Rattle.gx_disk.specs.declared.file.FileDisk.{FileDisk}
 use Rattle.gx_commands.specs.Files.{EndsDump, EndsFormat, EndsRun, EndsVerify}
 use Rattle.gx_commands.specs.Scripts.{EndsScript, LacksMemory}
-use Rattle.gx_commands.specs.Streams.{Prints}
+use Rattle.gx_commands.specs.Streams.{Outputs, Prints}
+use Rattle.gx_commands.specs.declared.opener.Opener.{Opener}
 use Rattle.gx_front.specs.Storms.{EndsStormed, MemoryEvents}
 use Rattle.gx_front.specs.World.{IsUntouched, World}
+use Rattle.gx_script.specs.Corners.{rectangle_grammar, solid_grammar}
 use Rattle.gx_storm.specs.declared.threads.Storm.{Storm}
-use Rattle.gx_words.specs.Asking.{WordsAsk}
-use Rattle.gx_words.specs.Program.{gist_app}
+use Rattle.gx_words.specs.Asking.{AreWrong, WordsAsk}
 use Rattle.gx_words.specs.declared.asking.AskedCommand.{AskedCommand}
 use Rattle.gx_words.specs.declared.asking.AskedCommand.TheVariants as command
+use Rattle.gx_words.specs.declared.asking.Dimensions.{Dimensions}
+use Rattle.gx_words.specs.declared.asking.Dimensions.TheVariants.{Two, Three}
 use Rattle.gx_words.specs.declared.source.WordsFault.{WordsFault}
 use Rattle.gx_words.specs.declared.source.WordsFault.TheVariants.{NotText, Memory}
 
@@ -37,24 +41,33 @@ pub record LacksAll {F : Type 0} (from to : World F) (status : ℕ) : Type 0 whe
   pub unopened : to.opener ≡ from.opener
   pub lacks : LacksMemory from.input to.input from.outputs to.outputs status
 
-module _ {C F : Type 0} (shape : Members Rectangle) (class : Ghosts C Rectangle) (state : FileDisk → Device) (events : MemoryEvents) where
+-- a format of a file for boxes of so many dimensions ended so
+abbrev pub FormatsBoxes : {C E F : Type 0} → Ghosts C Rectangle → Ghosts E Solid → (FileDisk → Device) → Dimensions → List ℕ → Opener F → Opener F → ℕ → ℕ
+    → Outputs → Outputs → ℕ → Type 0
+FormatsBoxes plane space state Two file old new pages most from to status = EndsFormat plane 1 state file old new pages most from to status
+FormatsBoxes plane space state Three file old new pages most from to status = EndsFormat space 3 state file old new pages most from to status
+
+module _ {C E F : Type 0} (plane : Members Rectangle) (plane_class : Ghosts C Rectangle) (space : Members Solid) (space_class : Ghosts E Solid) (state : FileDisk → Device)
+    (events : MemoryEvents) where
   -- how what was asked for may end: of files it opens the one that is named, and no other
   abbrev pub EndsAsked : AskedCommand → World F → World F → ℕ → Type 0
-  EndsAsked command.Plain from to status = (to.opener ≡ from.opener) × EndsScript from.input to.input from.outputs to.outputs status
-  EndsAsked (command.Format file pages most) from to status =
-      (to.input ≡ from.input) × EndsFormat class state file.now from.opener to.opener pages most from.outputs to.outputs status
+  EndsAsked (command.Plain Two) from to status =
+      (to.opener ≡ from.opener) × EndsScript rectangle_grammar (keys_of plane) from.input to.input from.outputs to.outputs status
+  EndsAsked (command.Plain Three) from to status =
+      (to.opener ≡ from.opener) × EndsScript solid_grammar (keys_of space) from.input to.input from.outputs to.outputs status
+  EndsAsked (command.Format file pages most dimensions) from to status =
+      (to.input ≡ from.input) × FormatsBoxes plane_class space_class state dimensions file.now from.opener to.opener pages most from.outputs to.outputs status
   EndsAsked (command.Run file frames) from to status =
-      EndsRun shape class state file.now from.opener to.opener frames from.input to.input from.outputs to.outputs status
+      EndsRun plane plane_class space space_class state file.now from.opener to.opener frames from.input to.input from.outputs to.outputs status
   EndsAsked (command.Dump file) from to status =
-      (to.input ≡ from.input) × EndsDump shape class state file.now from.opener to.opener from.outputs to.outputs status
+      (to.input ≡ from.input) × EndsDump plane plane_class space space_class state file.now from.opener to.opener from.outputs to.outputs status
   EndsAsked (command.Verify file) from to status =
-      (to.input ≡ from.input) × EndsVerify shape class state file.now from.opener to.opener from.outputs to.outputs status
+      (to.input ≡ from.input) × EndsVerify plane plane_class space space_class state file.now from.opener to.opener from.outputs to.outputs status
   EndsAsked (command.Storm seed sessions calls) from to status =
-      IsUntouched from to × EndsStormed (keys_of shape) events (record { seed = seed; sessions = sessions; calls = calls }) from.outputs to.outputs status
+      IsUntouched from to × EndsStormed (keys_of plane) events (record { seed = seed; sessions = sessions; calls = calls }) from.outputs to.outputs status
 
   -- nothing is wrong with the words, and what they ask for ended so
   pub record EndsAsWanted (words : List Text) (from to : World F) (status : ℕ) : Type 0 where
-    pub right : fault_of gist_app words ≡ []
     pub asked : AskedCommand
     pub asks : WordsAsk words asked
     pub ends : EndsAsked asked from to status
@@ -63,7 +76,7 @@ module _ {C F : Type 0} (shape : Members Rectangle) (class : Ghosts C Rectangle)
   -- was done or refused
   abbrev pub EndsOnWords : List Text → World F → World F → ℕ → Type 0
   EndsOnWords words from to status =
-      ((fault_of gist_app words ≢ []) × HasWrongWords (λ text. text ≢ []) from to status)
+      (AreWrong words × HasWrongWords (λ text. text ≢ []) from to status)
       ⊎ (LacksAll from to status ⊎ EndsAsWanted words from to status)
 
 -- This storm is asked for, and no file was opened, and nothing read or written.
@@ -73,7 +86,6 @@ pub record WantsStorm {F : Type 0} (wanted : AskedCommand) (storm : Storm) (from
 
 -- Nothing is wrong with the words, and they ask for this storm.
 pub record AwaitsStorm {F : Type 0} (words : List Text) (storm : Storm) (from to : World F) : Type 0 where
-  pub right : fault_of gist_app words ≡ []
   pub asks : WordsAsk words (command.Storm storm.seed storm.sessions storm.calls)
   pub untouched : to ≡ from
 

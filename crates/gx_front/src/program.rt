@@ -1,22 +1,23 @@
 //! The whole program, as a function of what it is given.
 ghost use Rattle.std.specs.Prelude.{◌≡◌, ◌≢◌, ℕ, List, [], map, IfErr, IfOk, MatchResult};
-ghost use Rattle.gx_commands.specs.Streams.{Prints, stream_of};
-ghost use Rattle.gx_front.specs.Endings.{AwaitsStorm, EndsAsked, EndsOnWords, EndsUnread, WantsStorm, unread_text};
+ghost use Rattle.gx_commands.specs.Streams.{Prints, outputs_of, stream_of};
+ghost use Rattle.gx_front.specs.Endings.{AwaitsStorm, EndsAsked, EndsOnWords, EndsUnread, FormatsBoxes, WantsStorm};
+ghost use Rattle.gx_front.specs.Endings.{unread_text};
 ghost use Rattle.gx_front.specs.World.{world_of};
 
 use crate::storms::tell_storm;
 use arrayvec::ArrayString;
 use clap::error::ErrorKind;
-use gx_class::{Box2Class, KeyClass};
+use gx_class::{Box2Class, Box3Class, KeyClass};
 use gx_commands::{
     Noted, Opener, dump_file, format_file, print, refuse_memory, run_file, run_script, verify_file,
 };
 use gx_disk::{FileDisk, RamDisk, SectorDisk};
 use gx_engine_events::EngineEvents;
 use gx_events::Events;
-use gx_geom::{Box2, Shape};
+use gx_geom::{Box2, Box3, Shape};
 use gx_storm::Storm;
-use gx_words::{AskedCommand, WordsFault};
+use gx_words::{AskedCommand, Dimensions, WordsFault};
 use itoa::Buffer;
 use std::alloc::Global;
 use std::convert::AsStr;
@@ -34,13 +35,18 @@ const LONGEST: usize = 64;
 
 /// The program. It reads its words, the program's own name first, does what they ask, and returns its status.
 ///
-/// - `gist plain` reads a script from the reader and writes the replies of an index in memory to the writer.
-/// - `gist format FILE PAGES M` lays a new index down in a file, and writes `formatted pages PAGES fanout M`.
+/// - `gist plain [--class C]` reads a script from the reader and writes the replies of an index in memory to the
+///   writer.
+/// - `gist format FILE PAGES M [--class C]` lays a new index down in a file, and writes `formatted pages PAGES fanout
+///   M`.
 /// - `gist run FILE [--frames N]` reads a script from the reader and writes the replies of the index in a file.
 /// - `gist dump FILE` writes the text of the tree of the index in a file.
 /// - `gist verify FILE` tests the index in a file, and writes `ok commits N entries E used U`; the file stays as it is.
 /// - `gist storm SEED SESSIONS CALLS` runs sessions in threads on an index in memory, and writes whether a plain index
 ///   replies the same. No other command has threads or waits: `before_threads` is all that they do.
+///
+/// C is 1 for boxes of the plane, which it is by default, or 3 for boxes of space. The other commands read of which
+/// boxes the index is from the file; one of intervals is refused (`BadParameter`). Storms are of boxes of the plane.
 ///
 /// The status is 0 where all was done. It is 1 where a call outside of a script was refused, which writes `refused N
 /// text`, 11 for a file that can't be opened or is in use; where a reply to a script on a file was refused with 11, 12
@@ -69,7 +75,8 @@ pub fn gist<
     ensures { let from = world_of R.remaining W.contents E.contents opener.old reader.old writer.old faults.old in
         let to = world_of R.remaining W.contents E.contents opener.new reader.new writer.new faults.new in
         MatchResult words.entry
-        (λ given. EndsOnWords ⟦<Box2 as Shape>⟧ ⟦<Box2Class as KeyClass>⟧ ⟦<FileDisk as SectorDisk>⟧.state
+        (λ given. EndsOnWords ⟦<Box2 as Shape>⟧ ⟦<Box2Class as KeyClass>⟧
+        ⟦<Box3 as Shape>⟧ ⟦<Box3Class as KeyClass>⟧ ⟦<FileDisk as SectorDisk>⟧.state
         ⟦<EngineEvents<RamDisk, Box2Class> as Events<Box2>>⟧ (map S.text given.now) from to result)
         (λ fault. EndsUnread fault from to result) }
 {
@@ -92,7 +99,8 @@ pub fn before_threads<'w, F: Files<File = File>, S: AsStr, R: Read, W: Write, E:
     ensures ended { let from = world_of R.remaining W.contents E.contents opener.old reader.old writer.old faults.old in
         let to = world_of R.remaining W.contents E.contents opener.new reader.new writer.new faults.new in
         IfOk result (λ status. MatchResult words.entry
-        (λ given. EndsOnWords ⟦<Box2 as Shape>⟧ ⟦<Box2Class as KeyClass>⟧ ⟦<FileDisk as SectorDisk>⟧.state
+        (λ given. EndsOnWords ⟦<Box2 as Shape>⟧ ⟦<Box2Class as KeyClass>⟧
+        ⟦<Box3 as Shape>⟧ ⟦<Box3Class as KeyClass>⟧ ⟦<FileDisk as SectorDisk>⟧.state
         ⟦<EngineEvents<RamDisk, Box2Class> as Events<Box2>>⟧ (map S.text given.now) from to status)
         (λ fault. EndsUnread fault from to status)) }
     ensures storm { let from = world_of R.remaining W.contents E.contents opener.old reader.old writer.old faults.old in
@@ -123,15 +131,22 @@ fn carry_out<'w, F: Files<File = File>, R: Read, W: Write, E: Write>(
     ensures { let from = world_of R.remaining W.contents E.contents opener.old reader.old writer.old faults.old in
         let to = world_of R.remaining W.contents E.contents opener.new reader.new writer.new faults.new in
         MatchResult result
-        (λ status. EndsAsked ⟦<Box2 as Shape>⟧ ⟦<Box2Class as KeyClass>⟧ ⟦<FileDisk as SectorDisk>⟧.state
+        (λ status. EndsAsked ⟦<Box2 as Shape>⟧ ⟦<Box2Class as KeyClass>⟧
+        ⟦<Box3 as Shape>⟧ ⟦<Box3Class as KeyClass>⟧ ⟦<FileDisk as SectorDisk>⟧.state
         ⟦<EngineEvents<RamDisk, Box2Class> as Events<Box2>>⟧ asked.entry from to status)
         (λ storm. WantsStorm asked.entry storm from to) }
 {
     match asked {
-        AskedCommand::Plain => Ok(run_script(alloc, reader, writer, faults)),
-        AskedCommand::Format { file, pages, most } => Ok(format_file(
-            opener, alloc, file, pages, most, writer, faults,
-        )),
+        AskedCommand::Plain { dimensions } => Ok(match dimensions {
+            Dimensions::Two => run_script::<Box2, R, W, E>(alloc, reader, writer, faults),
+            Dimensions::Three => run_script::<Box3, R, W, E>(alloc, reader, writer, faults),
+        }),
+        AskedCommand::Format {
+            file,
+            pages,
+            most,
+            dimensions,
+        } => Ok(format_boxes(opener, alloc, dimensions, file, pages, most, writer, faults)),
         AskedCommand::Run { file, frames } => Ok(run_file(
             opener, alloc, file, frames, reader, writer, faults,
         )),
@@ -146,6 +161,31 @@ fn carry_out<'w, F: Files<File = File>, R: Read, W: Write, E: Write>(
             sessions,
             calls,
         }),
+    }
+}
+
+// Lays a new index of boxes of so many dimensions down in a file.
+fn format_boxes<'w, F: Files<File = File>, W: Write, E: Write>(
+    opener: &mut Opener<'w, F>,
+    alloc: Global,
+    dimensions: Dimensions,
+    file: &'w str,
+    pages: u32,
+    most: u16,
+    writer: &mut Noted<W>,
+    faults: &mut Noted<E>,
+) -> u8
+    ensures { FormatsBoxes ⟦<Box2Class as KeyClass>⟧ ⟦<Box3Class as KeyClass>⟧ ⟦<FileDisk as SectorDisk>⟧.state
+        dimensions file.now opener.old opener.new pages most (outputs_of W.contents E.contents writer.old faults.old)
+        (outputs_of W.contents E.contents writer.new faults.new) result }
+{
+    match dimensions {
+        Dimensions::Two => format_file::<Box2Class, F, W, E>(
+            opener, alloc, file, pages, most, writer, faults,
+        ),
+        Dimensions::Three => format_file::<Box3Class, F, W, E>(
+            opener, alloc, file, pages, most, writer, faults,
+        ),
     }
 }
 

@@ -1,98 +1,16 @@
 //! The program's words and statuses.
 
+mod asked;
+mod space;
 mod words;
 
 use super::*;
 use gx_disk::FileDisk;
-use gx_words::{AskedCommand, WordsFault, read};
+use gx_words::WordsFault;
 use std::fs::{self, File, Files};
 use std::process::Abort;
 use std::sync::Wait;
 use std::thread::Threads;
-
-// What asks for nothing the program knows, and calls for help.
-const WRONG: [&[&str]; 28] = [
-    &["gist"],
-    &["gist", "plane"],
-    &["gist", "PLAIN"],
-    &["gist", "plain", "x"],
-    &["gist", "plain", "--frames", "16"],
-    &["gist", "format", "f", "7", "4"],
-    &["gist", "format", "f", "65537", "4"],
-    &["gist", "format", "f", "8", "3"],
-    &["gist", "format", "f", "8", "101"],
-    &["gist", "format", "f", "8"],
-    &["gist", "format", "8", "4"],
-    &["gist", "run"],
-    &["gist", "run", "f", "--frames", "15"],
-    &["gist", "run", "f", "--frames", "4097"],
-    &["gist", "run", "f", "16"],
-    &["gist", "dump"],
-    &["gist", "dump", "f", "g"],
-    &["gist", "dump", "f", "--frames", "64"],
-    &["gist", "verify"],
-    &["gist", "verify", "f", "--frames", "64"],
-    &["gist", "storm", "1", "9", "200"],
-    &["gist", "storm", "1", "4", "2001"],
-    &["gist", "storm", "4294967296", "4", "200"],
-    &["gist", "--help"],
-    &["gist", "help"],
-    &["gist", "plain", "-h"],
-    &["gist", "help", "run"],
-    &[],
-];
-
-// What asks for something, and what it asks for.
-const RIGHT: [(&[&str], AskedCommand); 9] = [
-    (&["gist", "plain"], AskedCommand::Plain),
-    (
-        &["gist", "format", "f", "8", "100"],
-        AskedCommand::Format {
-            file: "f",
-            pages: 8,
-            most: 100,
-        },
-    ),
-    (
-        &["gist", "format", "a b", "65536", "+4"],
-        AskedCommand::Format {
-            file: "a b",
-            pages: 65536,
-            most: 4,
-        },
-    ),
-    (
-        &["gist", "run", "plain"],
-        AskedCommand::Run {
-            file: "plain",
-            frames: 64,
-        },
-    ),
-    (
-        &["gist", "run", "--frames", "0016", "f"],
-        AskedCommand::Run {
-            file: "f",
-            frames: 16,
-        },
-    ),
-    (
-        &["gist", "run", "--frames=4096", "--", "--frames"],
-        AskedCommand::Run {
-            file: "--frames",
-            frames: 4096,
-        },
-    ),
-    (&["gist", "dump", "f"], AskedCommand::Dump { file: "f" }),
-    (&["gist", "verify", "f"], AskedCommand::Verify { file: "f" }),
-    (
-        &["gist", "storm", "4294967295", "8", "2000"],
-        AskedCommand::Storm {
-            seed: 4294967295,
-            sessions: 8,
-            calls: 2000,
-        },
-    ),
-];
 
 // With these words a script of one line ends with this status, writes this, and a text about the words or none.
 fn ends<T: Abort + AllocGlobal + Files<File = File> + Threads + Wait + Sync>(
@@ -118,29 +36,6 @@ fn ends<T: Abort + AllocGlobal + Files<File = File> + Threads + Wait + Sync>(
         &mut faults,
     );
     assert!(rt; given == status && room.starts_with(replies) && is_told == (text != [0]));
-}
-
-#[test]
-fn words_and_statuses(rt: HostRuntime) {
-    for words in WRONG {
-        ends(&rt, Ok(words), 2, b"\0", true);
-    }
-    ends(&rt, Ok(["gist", "plain"].as_slice()), 0, b"1 ok\n\0", false);
-    ends(&rt, Err(WordsFault::NotText(2)), 2, b"\0", true);
-    ends(
-        &rt,
-        Err(WordsFault::Memory),
-        1,
-        b"refused 10 memory\n\0",
-        false,
-    );
-}
-
-#[test]
-fn what_words_ask_for(rt: HostRuntime) {
-    for (words, wanted) in RIGHT {
-        assert!(rt; matches!(read(rt.alloc(), words), Ok(asked) if asked == wanted));
-    }
 }
 
 #[test]

@@ -67,7 +67,7 @@ fn run<D: SectorDisk + Drop>(alloc: Global, disk: D, frames: usize, script: &[u8
     let mut reader = Noted::new(script);
     let mut writer = Noted::new(Vec::new(alloc));
     let mut faults = Noted::new(Vec::new(alloc));
-    let (disk, status) = run_over::<D, Box2Class, _, _, _>(
+    let (disk, status) = run_over::<D, _, Box2Class, _, _, _>(
         alloc,
         disk,
         frames,
@@ -108,7 +108,7 @@ fn format(alloc: Global, disk: &mut MemDisk, pages: u32, most: u16) -> Ended {
 fn dump(alloc: Global, disk: MemDisk) -> (MemDisk, Ended) {
     let mut writer = Noted::new(Vec::new(alloc));
     let mut faults = Noted::new(Vec::new(alloc));
-    let (disk, status) = dump_over::<MemDisk, Box2Class, _, _>(
+    let (disk, status) = dump_over::<MemDisk, _, Box2Class, _, _>(
         alloc,
         disk,
         16,
@@ -282,7 +282,7 @@ fn dumps_that_end_early(rt: HostRuntime) {
     let mut told = [0u8; 1];
     let mut writer = Noted::new(room.as_mut_slice());
     let mut faults = Noted::new(told.as_mut_slice());
-    let (_, status) = dump_over::<MemDisk, Box2Class, _, _>(
+    let (_, status) = dump_over::<MemDisk, _, Box2Class, _, _>(
         rt.alloc(),
         disk,
         16,

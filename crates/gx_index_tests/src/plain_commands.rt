@@ -1,6 +1,7 @@
 //! The plain command: scripts from a reader to a writer: the status, the replies, and the messages.
 
 use gx_commands::{Noted, run_script};
+use gx_geom::Box2;
 use std::alloc::Global;
 use std::io::{self, ErrorKind, Read, Write};
 use std::process::Abort;
@@ -12,7 +13,7 @@ fn run(alloc: Global, script: &[u8]) -> (u8, [u8; 64], bool) {
     let mut reader = Noted::new(script);
     let mut writer = Noted::new(replies.as_mut_slice());
     let mut faults = Noted::new(told.as_mut_slice());
-    let status = run_script(alloc, &mut reader, &mut writer, &mut faults);
+    let status = run_script::<Box2, _, _, _>(alloc, &mut reader, &mut writer, &mut faults);
     (status, replies, told != [0])
 }
 
@@ -64,7 +65,7 @@ fn stops<T: Abort + AllocGlobal, R: Read + Drop, W: Write + Drop>(
 ) {
     let mut told = [0u8; 64];
     let mut faults = Noted::new(told.as_mut_slice());
-    let status = run_script(
+    let status = run_script::<Box2, _, _, _>(
         rt.alloc(),
         &mut Noted::new(reader),
         &mut Noted::new(writer),

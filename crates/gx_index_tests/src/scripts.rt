@@ -1,6 +1,7 @@
 //! Scripts over a device in memory: the same replies as the plain index.
 use crate::devices::fresh;
 use gx_events::Outcome;
+use gx_geom::Box2;
 use gx_plain::{PlainIndex, run_plain};
 use gx_restart::{Noted, run_script};
 use std::alloc::Global;
@@ -20,7 +21,7 @@ fn answers(alloc: Global, script: &[u8], mut replies: &mut [u8]) -> Option<bool>
 
 // Whether a script on a plain index ends well; writes the replies.
 fn answers_plainly(alloc: Global, script: &[u8], mut replies: &mut [u8]) -> Option<bool> {
-    let mut plain = PlainIndex::new(alloc).ok()?;
+    let mut plain = PlainIndex::<Box2>::new(alloc).ok()?;
     Some(
         run_plain(
             &mut Noted::new(script),

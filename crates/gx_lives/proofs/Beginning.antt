@@ -3,6 +3,7 @@ use Rattle.std.proofs.Common.{◌≡◌, ℕ, ◌≤◌, Bool, true, List, [], r
 use Rattle.std.specs.Prelude.{OnOk, Result, Ok, Err, replicate, ◌++◌}
 use Rattle.std.proofs.lemmas.List.{take_at}
 use Rattle.gx_geom.specs.declared.refusal.Refusal.{Refusal}
+use Rattle.gx_class.specs.Traits.{traits_of}
 use Rattle.gx_class.specs.declared.class.KeyClass.{Ghosts}
 use Rattle.gx_disk.specs.Device.{Device, IsSettled}
 use Rattle.gx_disk.specs.Sectors.{sector_of}
@@ -57,7 +58,7 @@ module _ {C B D : Type 0} (shape : Members B) (proper : B → Bool) (said : List
     (start_is : class.is_key start) (lawful : (l : Limits) → 4 ≤ l.most → IsLawful (class_of shape proper l)) (p : Parameters) (old new : D) (honest : (state old).honest ≡ true) where
   -- an engine that could begin there is seen as the machine with nothing committed
   bears_nothing : Formats state p (fresh_root class.spelling start) old new (Ok tt) → IsWellFormed (fresh_root class.spelling start) → IsFresh p (fresh_root class.spelling start) (state new).seen
-      → IsSettled (state new) → HasSets shape proper said class state p fresh_machine (state new)
+      → IsSettled (state new) → HasSets shape (traits_of proper said class) state p fresh_machine (state new)
   bears_nothing formats formed fresh settled =
       let e : Parts B D = new_parts p.pages p.most no_frames new in
       let is_new : new_index.IsNew p.pages p.most 0 e = record { parts = refl; empty = none_in } in
@@ -77,7 +78,7 @@ module _ {C B D : Type 0} (shape : Members B) (proper : B → Bool) (said : List
       })
 
   pub begins : (result : Result (Unit {0}) Refusal) → Formats state p (fresh_root class.spelling start) old new result → OnOk result (IsWellFormed (fresh_root class.spelling start))
-      → OnOk result (IsFresh p (fresh_root class.spelling start) (state new).seen × IsSettled (state new)) → OnOk result (Bears shape proper said class state p fresh_machine (Lies new))
+      → OnOk result (IsFresh p (fresh_root class.spelling start) (state new).seen × IsSettled (state new)) → OnOk result (Bears shape (traits_of proper said class) state p fresh_machine (Lies new))
   begins (Ok done) formats formed fresh = bears_nothing formats formed fresh.0 fresh.1
   begins (Err why) formats formed fresh = tt
 

@@ -3,6 +3,7 @@ use Rattle.std.proofs.Common.{◌≡◌, refl, ap, sym, subst, inl, inr, ℕ, Bo
 use Rattle.std.specs.Prelude.{Result, Ok, Err}
 use Rattle.gx_geom.specs.declared.refusal.Refusal.{Refusal}
 use Rattle.gx_geom.specs.declared.refusal.Refusal.TheVariants as refusal
+use Rattle.gx_class.specs.Traits.{traits_of}
 use Rattle.gx_class.specs.declared.class.KeyClass.{Ghosts}
 use Rattle.gx_disk.specs.Device.{Device}
 use Rattle.gx_engine.specs.States.{Parts}
@@ -65,32 +66,32 @@ module _ {B : Type 0} where
   reads_joined (life.Reads ∷ one) other first next = reads_joined one other first next
   reads_joined (turn ∷ one) other first next = absurd first
 
-module _ {C B D : Type 0} (shape : Members B) (proper : B → Bool) (said : List ℕ → B) (class : Ghosts C B) (code : ℕ) (state : D → Device) where
+module _ {C B D : Type 0} (shape : Members B) (proper : B → Bool) (said : List ℕ → B) (class : Ghosts C B) (state : D → Device) where
   -- a life and then another are one
-  pub lives_joined : (one other : List (Turn B)) (old middle new : Stage B D) → Lives shape proper said class code state old one middle → Lives shape proper said class code state middle other new
-      → Lives shape proper said class code state old (one ++ other) new
-  lives_joined [] other old middle new same next = subst (λ (x : Stage B D). Lives shape proper said class code state x other new) same next
+  pub lives_joined : (one other : List (Turn B)) (old middle new : Stage B D) → Lives shape (traits_of proper said class) state old one middle → Lives shape (traits_of proper said class) state middle other new
+      → Lives shape (traits_of proper said class) state old (one ++ other) new
+  lives_joined [] other old middle new same next = subst (λ (x : Stage B D). Lives shape (traits_of proper said class) state x other new) same next
   lives_joined (turn ∷ one) other old middle new (first, on, rest) next = (first, on, lives_joined one other first middle new rest next)
 
   abbrev Reading : Parts B D → Parts B D → Type 0
-  Reading = LivesByReading shape proper said class code state
+  Reading = LivesByReading shape (traits_of proper said class) state
 
   abbrev brings : ℕ → Parts B D → Result (Unit {0}) (Outcome B) → Parts B D → Type 0
-  brings page old result new = Brings shape proper said class state page old result new
+  brings page old result new = Brings shape (traits_of proper said class) state page old result new
 
   abbrev helps : Need → Parts B D → Outcome B → Parts B D → Type 0
-  helps = Helps shape proper said class state
+  helps = Helps shape (traits_of proper said class) state
 
   -- a page that is brought, and an event that gives one a frame, are readings
   pub page_read : (page : ℕ) (old : Parts B D) (result : Result (Unit {0}) (Outcome B)) (new : Parts B D) → brings page old result new
-      → IsReading shape proper said class code state old new
+      → IsReading shape (traits_of proper said class) state old new
   page_read page old result new is l bodies i holds = (bring_events result, brought_upkeep result, is.leads l bodies i holds)
 
-  help_read : (named : Need) (old : Parts B D) (outcome : Outcome B) (new : Parts B D) → helps named old outcome new → IsReading shape proper said class code state old new
+  help_read : (named : Need) (old : Parts B D) (outcome : Outcome B) (new : Parts B D) → helps named old outcome new → IsReading shape (traits_of proper said class) state old new
   help_read named old outcome new is l bodies i holds =
       let one = is.spares l bodies i holds in (one.0, sync_upkeep old.sessions.failed outcome one.0 one.1, one.2.led)
 
-  one_reading : (old new : Parts B D) → IsReading shape proper said class code state old new → Reading old new
+  one_reading : (old new : Parts B D) → IsReading shape (traits_of proper said class) state old new → Reading old new
   one_reading old new reading = record { turns = life.Reads ∷ []; reads = tt; lives = (Works new, reading, refl) }
 
   no_reading : (old new : Parts B D) → new ≡ old → Reading old new

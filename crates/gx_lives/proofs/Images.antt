@@ -1,6 +1,7 @@
 -- What an image of a device has of a machine, along events, crashes and openings.
 use Rattle.std.proofs.Common.{◌≡◌, ⊎_elim, ℕ, ◌*◌, ◌≤◌, Bool, true, false, List, length, refl, ap, sym, ◌∙◌, subst, arith}
 use Rattle.std.proofs.lemmas.List.{take_all}
+use Rattle.gx_class.specs.Traits.{traits_of}
 use Rattle.gx_class.specs.declared.class.KeyClass.{Ghosts}
 use Rattle.gx_disk.specs.Device.{Device, IsImage, MayLeave}
 use Rattle.gx_disk.specs.Moments.{Leaves}
@@ -75,13 +76,13 @@ module _ {C B D : Type 0} (shape : Members B) (proper : B → Bool) (said : List
   at e = state e.volume.shelf.disk
 
   abbrev Has : Machine B → List ℕ → Type 0
-  Has = HasSet shape proper said class state p
+  Has = HasSet shape (traits_of proper said class) state p
 
   abbrev Seen : Machine B → Parts B D → Type 0
-  Seen = IsSeen shape proper said class state p
+  Seen = IsSeen shape (traits_of proper said class) state p
 
   abbrev Sets : Machine B → Device → Type 0
-  Sets = HasSets shape proper said class state p
+  Sets = HasSets shape (traits_of proper said class) state p
 
   -- an image that stands for a kept set of the index that an engine holds
   pub image_of_index : (m : Machine B) (e : Parts B D) (s : Seen m e) (image : List ℕ) → durable.Stands k r s.index.log image → Has m image
@@ -109,7 +110,7 @@ module _ {C B D : Type 0} (shape : Members B) (proper : B → Bool) (said : List
     pub seen : Seen machine new
     pub leaves : Leaves (Has m) (at old) (at new)
 
-  pub event_went : (m : Machine B) (old new : Parts B D) (event : Event B) (outcome : Outcome B) → Makes shape proper said class state old event outcome new → Seen m old
+  pub event_went : (m : Machine B) (old new : Parts B D) (event : Event B) (outcome : Outcome B) → Makes shape (traits_of proper said class) state old event outcome new → Seen m old
       → Went m old new event outcome
   event_went m old new event outcome made s =
       let one = made.steps (limits_of p) s.bodies s.index s.holds in
@@ -201,7 +202,7 @@ module _ {C B D : Type 0} (shape : Members B) (proper : B → Bool) (said : List
       says = head_says d.seen p own.head fit
 
       -- at each moment of an opening each image has a set of the machine
-      pub tried_leaves : (e : Device) → IsTried shape proper said class d e → Leaves (Has m) d e
+      pub tried_leaves : (e : Device) → IsTried shape (traits_of proper said class) d e → Leaves (Has m) d e
       tried_leaves e tried =
           leaves_weaker _ (Has m) d e (λ image. ⊎_elim (sets.sets image) (found_has image)) (tried.keeps p magic says pages_good)
 
@@ -217,23 +218,23 @@ module _ {C B D : Type 0} (shape : Members B) (proper : B → Bool) (said : List
   module _ (counts_now : (d : D) (t : ℕ) (image : List ℕ) → (state d).honest ≡ true → t ≤ (state d).moment → MayLeave (state d) image → (state d).left_since t image)
       (only_now : (d : D) (image : List ℕ) → (state d).honest ≡ true → (state d).left_since (state d).moment image → MayLeave (state d) image) where
     -- each image since the start of an event, and of an opening
-    pub since_event : (m : Machine B) (old new : Parts B D) (event : Event B) (outcome : Outcome B) → Makes shape proper said class state old event outcome new → Seen m old
+    pub since_event : (m : Machine B) (old new : Parts B D) (event : Event B) (outcome : Outcome B) → Makes shape (traits_of proper said class) state old event outcome new → Seen m old
         → (image : List ℕ) → (at new).left_since (at old).moment image → Has m image
     since_event m old new event outcome made s =
         each_has (Has m) (at old) (at new) (event_went m old new event outcome made s).leaves
         (λ image left. left_of_engine m old s image (only_now old.volume.shelf.disk image s.holds.keeps.steady.honest left))
 
     module _ (fit : Fit p) where
-      tried_so : (m : Machine B) (old new : D) → Sets m (state old) → IsTried shape proper said class (state old) (state new) → Leaves (Has m) (state old) (state new)
+      tried_so : (m : Machine B) (old new : D) → Sets m (state old) → IsTried shape (traits_of proper said class) (state old) (state new) → Leaves (Has m) (state old) (state new)
       tried_so m old new sets tried = tried_leaves m (state old) sets fit (state new) tried
 
-      pub since_opening : (m : Machine B) (old new : D) → Sets m (state old) → IsTried shape proper said class (state old) (state new)
+      pub since_opening : (m : Machine B) (old new : D) → Sets m (state old) → IsTried shape (traits_of proper said class) (state old) (state new)
           → (image : List ℕ) → (state new).left_since (state old).moment image → Has m image
       since_opening m old new sets tried =
           each_has (Has m) (state old) (state new) (tried_so m old new sets tried) (λ image left. sets.sets image (only_now old image sets.honest left))
 
       -- what an opening that was refused leaves of the device
-      pub refused_sets : (m : Machine B) (old new : D) → Sets m (state old) → IsTried shape proper said class (state old) (state new) → Sets m (state new)
+      pub refused_sets : (m : Machine B) (old new : D) → Sets m (state old) → IsTried shape (traits_of proper said class) (state old) (state new) → Sets m (state new)
       refused_sets m old new sets tried =
           let honest : (state new).honest ≡ true = tried.same.1 ∙ sets.honest in
           let later = (tried_so m old new sets tried).later in

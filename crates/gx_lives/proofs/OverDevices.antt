@@ -1,6 +1,7 @@
 -- Commands over a device are lives of its index.
 use Rattle.std.proofs.Common.{◌≡◌, refl, ap, sym, subst, ◌∙◌, inl, inr, ℕ, ◌≤◌, Bool, true, false, List, [], ◌∷◌, ◌++◌}
 use Rattle.std.specs.Prelude.{Result, Ok, Err, OnOk}
+use Rattle.gx_class.specs.Traits.{traits_of}
 use Rattle.gx_class.specs.declared.class.KeyClass.{Ghosts}
 use Rattle.gx_commands.specs.Dumping.{DumpsIndex, index_over}
 use Rattle.gx_commands.specs.Endings.{AnswersWatched, EndsBy, FormatsOver, HasRun, RunsScript, TellsFormat, WasStopped, watched_over}
@@ -20,7 +21,6 @@ use Rattle.gx_events.specs.declared.event.Event.{Event}
 use Rattle.gx_events.specs.declared.outcome.Outcome.{Outcome}
 use Rattle.gx_format.specs.Formatting.{Formats}
 use Rattle.gx_format.specs.Fresh.{fresh_root}
-use Rattle.gx_geom.specs.Rectangles.{Rectangle}
 use Rattle.gx_geom.specs.declared.refusal.Refusal.{Refusal}
 use Rattle.gx_geom.specs.declared.refusal.Refusal.TheVariants.{BadParameter, Damaged}
 use Rattle.gx_glog.specs.declared.parameters.Parameters.{Parameters}
@@ -33,6 +33,7 @@ use Rattle.gx_restart.specs.Called.{CallsIndex}
 use Rattle.gx_restart.specs.Opened.{IsRefused}
 use Rattle.gx_restart.specs.States.{State}
 use Rattle.gx_script.specs.declared.line.Line.{Line}
+use Rattle.gx_script.specs.Corners.{Grammar}
 use Rattle.gx_script.specs.Scripts.{IsScript, asked}
 use Rattle.gx_lives.specs.Calling.{turns_of}
 use Rattle.gx_lives.specs.Commands.{AreGiven, AreOf, AreOfAll, AreOfDump, AreOfRun, Command, Dumps, FollowsBy, IsCutOff, IsGiven, IsTurnedAway, LivesSo, Runs, RunsLines, Verifies}
@@ -53,43 +54,43 @@ not_damage failed = elim failed [
   | inr memory ↦ (let no : ⊥ = cc in no)
 ]
 
-module _ {C D : Type 0} (shape : Members Rectangle) (proper : Rectangle → Bool) (said : List ℕ → Rectangle) (class : Ghosts C Rectangle) (code : ℕ) (state : D → Device) where
-  abbrev makes : Parts Rectangle D → Event Rectangle → Outcome Rectangle → Parts Rectangle D → Type 0
-  makes = Makes shape proper said class state
+module _ {B C D : Type 0} (grammar : Grammar B) (shape : Members B) (proper : B → Bool) (said : List ℕ → B) (class : Ghosts C B) (state : D → Device) where
+  abbrev makes : Parts B D → Event B → Outcome B → Parts B D → Type 0
+  makes = Makes shape (traits_of proper said class) state
 
-  abbrev Goes : D → Parts Rectangle D → Type 0
-  Goes disk engine = GoesOn shape proper said class code state (Lies disk) life.Opens (Works engine)
+  abbrev Goes : D → Parts B D → Type 0
+  Goes disk engine = GoesOn shape (traits_of proper said class) state (Lies disk) life.Opens (Works engine)
 
-  abbrev Living : Stage Rectangle D → List (Turn Rectangle) → Stage Rectangle D → Type 0
-  Living = Lives shape proper said class code state
+  abbrev Living : Stage B D → List (Turn B) → Stage B D → Type 0
+  Living = Lives shape (traits_of proper said class) state
 
-  abbrev Over : (List (Turn Rectangle) → Type 0) → D → D → Type 0
-  Over = LivesSo shape proper said class code state
+  abbrev Over : (List (Turn B) → Type 0) → D → D → Type 0
+  Over = LivesSo shape (traits_of proper said class) state
 
   -- an opening is the turn of its name
-  opening : (frames : ℕ) (disk : D) (engine : Parts Rectangle D) → (state disk).honest ≡ true → Opens shape proper said class state code frames disk (Ok engine) → Goes disk engine
+  opening : (frames : ℕ) (disk : D) (engine : Parts B D) → (state disk).honest ≡ true → Opens shape (traits_of proper said class) state class.CLASS frames disk (Ok engine) → Goes disk engine
   opening frames disk engine honest opens = (record { same = opens.device; keeps = opens.keeps honest }, opens.opened honest)
 
   -- events, after which the engine is given up
-  given_up : (steps : List (Event Rectangle × Outcome Rectangle)) (old new : Parts Rectangle D) (after : D) → AreMade makes old steps new → after ≡ new.volume.shelf.disk
+  given_up : (steps : List (Event B × Outcome B)) (old new : Parts B D) (after : D) → AreMade makes old steps new → after ≡ new.volume.shelf.disk
       → Living (Works old) (turns_of steps ++ life.GivesUp ∷ []) (Lies after)
-  given_up [] old new after same left = (Lies after, left ∙ ap (λ (e : Parts Rectangle D). e.volume.shelf.disk) same, refl)
+  given_up [] old new after same left = (Lies after, left ∙ ap (λ (e : Parts B D). e.volume.shelf.disk) same, refl)
   given_up (step ∷ steps) old new after made left = (Works made.0, made.1, given_up steps made.0 new after made.2 left)
 
-  abbrev watched : Parts Rectangle D → Watched (State Rectangle D)
-  watched engine = watched_over shape proper said class state engine
+  abbrev watched : Parts B D → Watched (State B D)
+  watched engine = watched_over shape (traits_of proper said class) state engine
 
-  abbrev Watching : Watched (State Rectangle D) → Watched (State Rectangle D) → List Line → List ℕ → Type 0
-  Watching old new lines text = IsScript (AnswersWatched shape proper said class state) 1 lines old text new
+  abbrev Watching : Watched (State B D) → Watched (State B D) → List (Line B) → List ℕ → Type 0
+  Watching old new lines text = IsScript grammar (AnswersWatched shape (traits_of proper said class) state) 1 lines old text new
 
   -- lines, and what followed them
-  script_lives : (disk after : D) (engine : Parts Rectangle D) (lines : List Line) (text : List ℕ) (new : Watched (State Rectangle D)) → Goes disk engine
-      → Watching (watched engine) new lines text → (Follows : Bool → List (Event Rectangle × Outcome Rectangle) → Type 0)
-      → (steps : List (Event Rectangle × Outcome Rectangle)) × (last : Parts Rectangle D) × Follows new.index.ended steps × AreMade makes new.index.engine steps last × (after ≡ last.volume.shelf.disk)
-      → Over (RunsLines lines text Follows) disk after
+  script_lives : (disk after : D) (engine : Parts B D) (lines : List (Line B)) (text : List ℕ) (new : Watched (State B D)) → Goes disk engine
+      → Watching (watched engine) new lines text → (Follows : Bool → List (Event B × Outcome B) → Type 0)
+      → (steps : List (Event B × Outcome B)) × (last : Parts B D) × Follows new.index.ended steps × AreMade makes new.index.engine steps last × (after ≡ last.volume.shelf.disk)
+      → Over (RunsLines grammar lines text Follows) disk after
   script_lives disk after engine lines text new opens ran Follows (steps, last, follows, made, left) =
-      let calls = lines_so shape proper said class code state 1 lines (record { engine = engine; ended = false }) new.index text
-      (script_forgets (CallsIndex makes) 1 lines (watched engine) new text ran) in
+      let calls = lines_so grammar shape proper said class state 1 lines (record { engine = engine; ended = false }) new.index text
+      (script_forgets grammar (CallsIndex makes) 1 lines (watched engine) new text ran) in
       record {
         turns = life.Opens ∷ (turns_of (calls.0 ++ steps) ++ life.GivesUp ∷ []);
         so = record { called = calls.0; ended = new.index.ended; are = calls.1; later = steps; follows = follows; is = refl };
@@ -97,17 +98,17 @@ module _ {C D : Type 0} (shape : Members Rectangle) (proper : Rectangle → Bool
       }
 
   -- what follows a script's end
-  ends : (met : Bool) (index : State Rectangle D) (after : D) (from to : Outputs) (status : ℕ) → EndsBy shape proper said class state met index after from to status
-      → (steps : List (Event Rectangle × Outcome Rectangle)) × (last : Parts Rectangle D) × FollowsBy met from to status index.ended steps × AreMade makes index.engine steps last × (after ≡ last.volume.shelf.disk)
+  ends : (met : Bool) (index : State B D) (after : D) (from to : Outputs) (status : ℕ) → EndsBy shape (traits_of proper said class) state met index after from to status
+      → (steps : List (Event B × Outcome B)) × (last : Parts B D) × FollowsBy met from to status index.ended steps × AreMade makes index.engine steps last × (after ≡ last.volume.shelf.disk)
   ends true index after from to status is = ([], index.engine, (refl, is.0), refl, is.1.1.1)
   ends false index after from to status is =
-      let settled = settle_so shape proper said class code state index.ended index is.result is.new is.settles in
+      let settled = settle_so shape proper said class state index.ended index is.result is.new is.settles in
       (settled.0, is.new.engine, (is.result, settled.1, is.told), settled.2, is.left)
 
-  ran_all : (frames : ℕ) (disk after : D) (engine : Parts Rectangle D) (had left : Stream) (from to : Outputs) (status : ℕ) → Goes disk engine
-      → HasRun shape proper said class state (watched engine) after had left from to status → Over (AreOfRun frames had left from to status) disk after
+  ran_all : (frames : ℕ) (disk after : D) (engine : Parts B D) (had left : Stream) (from to : Outputs) (status : ℕ) → Goes disk engine
+      → HasRun grammar shape (traits_of proper said class) state (watched engine) after had left from to status → Over (AreOfRun grammar frames had left from to status) disk after
   ran_all frames disk after engine had left from to status opens is =
-      let all = script_lives disk after engine (asked is.done.input) is.done.text is.new opens is.done.ran (FollowsBy is.new.met is.between to status)
+      let all = script_lives disk after engine (asked grammar is.done.input) is.done.text is.new opens is.done.ran (FollowsBy is.new.met is.between to status)
       (ends is.new.met is.new.index after is.between to status is.ends) in
       record {
         turns = all.turns;
@@ -124,11 +125,11 @@ module _ {C D : Type 0} (shape : Members Rectangle) (proper : Rectangle → Bool
         lives = all.lives;
       }
 
-  ran_some : (frames : ℕ) (disk after : D) (engine : Parts Rectangle D) (had left : Stream) (from to : Outputs) (status : ℕ) → Goes disk engine
-      → WasStopped shape proper said class state (watched engine) after had left from to status → Over (AreOfRun frames had left from to status) disk after
+  ran_some : (frames : ℕ) (disk after : D) (engine : Parts B D) (had left : Stream) (from to : Outputs) (status : ℕ) → Goes disk engine
+      → WasStopped grammar shape (traits_of proper said class) state (watched engine) after had left from to status → Over (AreOfRun grammar frames had left from to status) disk after
   ran_some frames disk after engine had left from to status opens is =
       let some =
-      did_some (AnswersWatched shape proper said class state) had.bytes left.bytes from.replies.bytes to.replies.bytes (watched engine) is.new is.fault is.stopped in
+      did_some grammar (AnswersWatched shape (traits_of proper said class) state) had.bytes left.bytes from.replies.bytes to.replies.bytes (watched engine) is.new is.fault is.stopped in
       let all = script_lives disk after engine some.lines some.text is.new opens some.ran (IsCutOff status) ([], is.new.index.engine, (refl, is.status_is), refl, is.left_is) in
       record {
         turns = all.turns;
@@ -136,28 +137,28 @@ module _ {C D : Type 0} (shape : Members Rectangle) (proper : Rectangle → Bool
         lives = all.lives;
       }
 
-  ran : (frames : ℕ) (disk after : D) (engine : Parts Rectangle D) (had left : Stream) (from to : Outputs) (status : ℕ) → Goes disk engine
-      → RunsScript shape proper said class state (watched engine) after had left from to status → Over (AreOfRun frames had left from to status) disk after
+  ran : (frames : ℕ) (disk after : D) (engine : Parts B D) (had left : Stream) (from to : Outputs) (status : ℕ) → Goes disk engine
+      → RunsScript grammar shape (traits_of proper said class) state (watched engine) after had left from to status → Over (AreOfRun grammar frames had left from to status) disk after
   ran frames disk after engine had left from to status opens (inl all) = ran_all frames disk after engine had left from to status opens all
   ran frames disk after engine had left from to status opens (inr some) = ran_some frames disk after engine had left from to status opens some
 
   -- a dump
-  dumped : (frames : ℕ) (disk after : D) (engine : Parts Rectangle D) (from to : Outputs) (status : ℕ) → Goes disk engine
-      → DumpsIndex shape proper said class state (index_over shape proper said class state engine) after from to status → Over (AreOfDump frames status) disk after
+  dumped : (frames : ℕ) (disk after : D) (engine : Parts B D) (from to : Outputs) (status : ℕ) → Goes disk engine
+      → DumpsIndex grammar shape (traits_of proper said class) state (index_over shape (traits_of proper said class) state engine) after from to status → Over (AreOfDump frames status) disk after
   dumped frames disk after engine from to status opens is =
-      let read = dump_so shape proper said class code state (index_over shape proper said class state engine) is.result is.new is.dumps in
+      let read = dump_so shape proper said class state (index_over shape (traits_of proper said class) state engine) is.result is.new is.dumps in
       record {
         turns = life.Opens ∷ (read.turns ++ life.GivesUp ∷ []);
         so = inr (read.turns, read.reads, refl);
         lives = (
           Works engine,
           opens,
-          lives_joined shape proper said class code state read.turns (life.GivesUp ∷ []) (Works engine) (Works is.new.engine) (Lies after) read.lives (Lies after, is.left, refl),
+          lives_joined shape proper said class state read.turns (life.GivesUp ∷ []) (Works engine) (Works is.new.engine) (Lies after) read.lives (Lies after, is.left, refl),
         );
       }
 
   -- verifying
-  verified : (frames : ℕ) (disk after : D) (from to : Outputs) (status : ℕ) → (state disk).honest ≡ true → VerifiesOver shape proper said class state code frames disk after from to status
+  verified : (frames : ℕ) (disk after : D) (from to : Outputs) (status : ℕ) → (state disk).honest ≡ true → VerifiesOver shape (traits_of proper said class) state class.CLASS frames disk after from to status
       → Over (λ turns. turns ≡ life.Reads ∷ []) disk after
   verified frames disk after from to status honest is =
       let counted = is.verifies.counted in
@@ -168,15 +169,15 @@ module _ {C D : Type 0} (shape : Members Rectangle) (proper : Rectangle → Bool
       }
 
   -- an opening that was refused, other than because of damage, is all
-  told_other : (why : Refusal) → (why ≡ Damaged → ⊥) → (disk after : D) (from to : Outputs) (status : ℕ) → TellsOpening shape proper said class state code why disk after from to status
+  told_other : (why : Refusal) → (why ≡ Damaged → ⊥) → (disk after : D) (from to : Outputs) (status : ℕ) → TellsOpening shape (traits_of proper said class) state class.CLASS why disk after from to status
       → (status ≡ 1) × (after ≡ disk)
   told_other Damaged other disk after from to status told = absurd (other refl)
   told_other why other disk after from to status told = (told.0.status_is, told.1)
 
   module _ (disk : D) (honest : (state disk).honest ≡ true) (large : MIN_SECTORS ≤ (state disk).sectors)
-      (undamaged : (left : D) (why : Refusal) → IsRefused shape proper said (format_of class) state code disk left why → HasFailed why) where
-    turned_away : (frames : ℕ) (after : D) (n : NotOpened D) (from to : Outputs) (status : ℕ) → Opens shape proper said class state code frames disk (Err n)
-        → TellsOpening shape proper said class state code n.why n.disk after from to status → Over (λ turns. IsTurnedAway frames turns status) disk after
+      (undamaged : (left : D) (why : Refusal) → IsRefused shape proper said (format_of class) state class.CLASS disk left why → HasFailed why) where
+    turned_away : (frames : ℕ) (after : D) (n : NotOpened D) (from to : Outputs) (status : ℕ) → Opens shape (traits_of proper said class) state class.CLASS frames disk (Err n)
+        → TellsOpening shape (traits_of proper said class) state class.CLASS n.why n.disk after from to status → Over (λ turns. IsTurnedAway frames turns status) disk after
     turned_away frames after n from to status opens told =
         let failed : 16 ≤ frames → frames ≤ 4096 → HasFailed n.why = λ low high. undamaged n.disk n.why (opens.refused honest low high large) in
         let other : n.why ≡ Damaged → ⊥ = λ is.
@@ -191,7 +192,7 @@ module _ {C D : Type 0} (shape : Members Rectangle) (proper : Rectangle → Bool
         }
 
     -- a command
-    pub given : (command : Command) (after : D) → IsGiven shape proper said class code state disk command after → Over (AreOf command) disk after
+    pub given : (command : Command) (after : D) → IsGiven grammar shape (traits_of proper said class) state disk command after → Over (AreOf grammar command) disk after
     given (Runs frames had left from to status) after (inl refused) =
         let away = turned_away frames after refused.refused from to status refused.opening refused.told in
         record { turns = away.turns; so = inl (refused.unread, away.so); lives = away.lives }
@@ -205,19 +206,19 @@ module _ {C D : Type 0} (shape : Members Rectangle) (proper : Rectangle → Bool
     given (Verifies frames from to status) after is = verified frames disk after from to status honest is
 
   -- commands, one after another, behind what led to their device
-  module _ (disk : D) (each : (before : List (Turn Rectangle)) (old new : D) (command : Command) → Living (Lies disk) before (Lies old)
-      → IsGiven shape proper said class code state old command new → Over (AreOf command) old new) where
-    pub all_given : (commands : List Command) (before : List (Turn Rectangle)) (old new : D) → Living (Lies disk) before (Lies old) → AreGiven shape proper said class code state old commands new
-        → Over (AreOfAll commands) old new
+  module _ (disk : D) (each : (before : List (Turn B)) (old new : D) (command : Command) → Living (Lies disk) before (Lies old)
+      → IsGiven grammar shape (traits_of proper said class) state old command new → Over (AreOf grammar command) old new) where
+    pub all_given : (commands : List Command) (before : List (Turn B)) (old new : D) → Living (Lies disk) before (Lies old) → AreGiven grammar shape (traits_of proper said class) state old commands new
+        → Over (AreOfAll grammar commands) old new
     all_given [] before old new lived same = record { turns = []; so = refl; lives = ap (λ (d : D). Lies d) same }
     all_given (command ∷ commands) before old new lived (middle, is, others) =
         let one = each before old middle command lived is in
-        let then = lives_joined shape proper said class code state before one.turns (Lies disk) (Lies old) (Lies middle) lived one.lives in
+        let then = lives_joined shape proper said class state before one.turns (Lies disk) (Lies old) (Lies middle) lived one.lives in
         let rest = all_given commands (before ++ one.turns) middle new then others in
         record {
           turns = one.turns ++ rest.turns;
           so = (one.turns, rest.turns, one.so, rest.so, refl);
-          lives = lives_joined shape proper said class code state one.turns rest.turns (Lies old) (Lies middle) (Lies new) one.lives rest.lives;
+          lives = lives_joined shape proper said class state one.turns rest.turns (Lies old) (Lies middle) (Lies new) one.lives rest.lives;
         }
 
 -- a format with status 0 leaves a new device

@@ -1,5 +1,6 @@
 -- What readings of pages, and of a device, leave of the sets of a machine.
 use Rattle.std.proofs.Common.{◌≡◌, ℕ, ◌≤◌, Bool, true, List, [], ◌∷◌, refl, sym, ◌∙◌, subst, arith}
+use Rattle.gx_class.specs.Traits.{traits_of}
 use Rattle.gx_class.specs.declared.class.KeyClass.{Ghosts}
 use Rattle.gx_disk.specs.Device.{Device, MayLeave}
 use Rattle.gx_disk.specs.Moments.{Leaves}
@@ -68,19 +69,19 @@ module _ {B : Type 0} (c : Class B) where
       }
   kept_up (other ∷ events) i j upkeep happening m seen = absurd upkeep
 
-module _ {C B D : Type 0} (shape : Members B) (proper : B → Bool) (said : List ℕ → B) (class : Ghosts C B) (code : ℕ) (state : D → Device) (p : Parameters)
+module _ {C B D : Type 0} (shape : Members B) (proper : B → Bool) (said : List ℕ → B) (class : Ghosts C B) (state : D → Device) (p : Parameters)
     (lawful : IsLawful (class_of shape proper (limits_of p))) where
   abbrev at : Parts B D → Device
   at e = state e.volume.shelf.disk
 
   abbrev Has : Machine B → List ℕ → Type 0
-  Has = HasSet shape proper said class state p
+  Has = HasSet shape (traits_of proper said class) state p
 
   abbrev Seen : Machine B → Parts B D → Type 0
-  Seen = IsSeen shape proper said class state p
+  Seen = IsSeen shape (traits_of proper said class) state p
 
   abbrev Sets : Machine B → Device → Type 0
-  Sets = HasSets shape proper said class state p
+  Sets = HasSets shape (traits_of proper said class) state p
 
   -- A reading leads to an engine that is seen as what upkeep does to the machine; at each moment of it each image has a set of the machine of before.
   pub record ReadsOn (m : Machine B) (old new : Parts B D) : Type 0 where
@@ -91,7 +92,7 @@ module _ {C B D : Type 0} (shape : Members B) (proper : B → Bool) (said : List
     pub seen : Seen machine new
     pub leaves : Leaves (Has m) (at old) (at new)
 
-  pub read_on : (m : Machine B) (old new : Parts B D) → IsReading shape proper said class code state old new → Seen m old → ReadsOn m old new
+  pub read_on : (m : Machine B) (old new : Parts B D) → IsReading shape (traits_of proper said class) state old new → Seen m old → ReadsOn m old new
   read_on m old new reading s =
       let one = reading (limits_of p) s.bodies s.index s.holds in
       let kept = kept_up (class_of shape proper (limits_of p)) one.0 s.index one.2.index one.1 one.2.happening m s.seen in
@@ -117,7 +118,7 @@ module _ {C B D : Type 0} (shape : Members B) (proper : B → Bool) (said : List
   module _ (counts_now : (d : D) (t : ℕ) (image : List ℕ) → (state d).honest ≡ true → t ≤ (state d).moment → MayLeave (state d) image → (state d).left_since t image)
       (only_now : (d : D) (image : List ℕ) → (state d).honest ≡ true → (state d).left_since (state d).moment image → MayLeave (state d) image) where
     -- each image since the start of a reading of pages, and of a device
-    pub since_reading : (m : Machine B) (old new : Parts B D) → IsReading shape proper said class code state old new → Seen m old
+    pub since_reading : (m : Machine B) (old new : Parts B D) → IsReading shape (traits_of proper said class) state old new → Seen m old
         → (image : List ℕ) → (at new).left_since (at old).moment image → Has m image
     since_reading m old new reading s =
         each_has (Has m) (at old) (at new) (read_on m old new reading s).leaves

@@ -3,6 +3,7 @@ use Rattle.std.proofs.Common.{◌≡◌, ◌⊎◌, inl, inr, refl, subst, ℕ, 
 use Rattle.std.specs.Prelude.{IfErr}
 use Rattle.gx_geom.specs.declared.refusal.Refusal.{Refusal}
 use Rattle.gx_geom.specs.declared.refusal.Refusal.TheVariants as refusal
+use Rattle.gx_class.specs.Traits.{traits_of}
 use Rattle.gx_class.specs.declared.class.KeyClass.{Ghosts}
 use Rattle.gx_disk.specs.Device.{Device}
 use Rattle.gx_durable.specs.Area.{area_of}
@@ -49,7 +50,7 @@ use Rattle.gx_lives.proofs.Images.{good_log, magic, own, says}
 use Rattle.gx_lives.proofs.Narrow.{each_weaker, narrow}
 
 module _ {C B D : Type 0} (shape : Members B) (proper : B → Bool) (said : List ℕ → B) (class : Ghosts C B) (state : D → Device) (p : Parameters)
-    (lawful : IsLawful (class_of shape proper (limits_of p))) (m : Machine B) (d : Device) (sets : HasSets shape proper said class state p m d) where
+    (lawful : IsLawful (class_of shape proper (limits_of p))) (m : Machine B) (d : Device) (sets : HasSets shape (traits_of proper said class) state p m d) where
   abbrev f : Format B
   f = format_of class
 

@@ -1,6 +1,6 @@
 -- What the stages of a life have of the set machine.
-use Rattle.std.specs.Prelude.{ℕ, ◌≡◌, ◌≤◌, Bool, true, List, [], ◌∷◌}
-use Rattle.gx_class.specs.declared.class.KeyClass.{Ghosts}
+use Rattle.std.specs.Prelude.{ℕ, ◌≡◌, ◌≤◌, true, List, [], ◌∷◌}
+use Rattle.gx_class.specs.Traits.{Traits, own}
 use Rattle.gx_disk.specs.Device.{Device, MayLeave}
 use Rattle.gx_durable.specs.Area.{area_of}
 use Rattle.gx_durable.specs.Fitting.{AreGood, HasSizes}
@@ -44,24 +44,24 @@ abbrev pub AreOf : {B : Type 0} → Keys B → Machine B → List (Turn B) → M
 AreOf k old [] new = new ≡ old
 AreOf {B} k old (turn ∷ turns) new = (middle : Machine B) × IsOf k old turn middle × AreOf k middle turns new
 
-module _ {C B D : Type 0} (shape : Members B) (proper : B → Bool) (said : List ℕ → B) (class : Ghosts C B) (state : D → Device) (p : Parameters) where
+module _ {B D : Type 0} (shape : Members B) (traits : Traits B) (state : D → Device) (p : Parameters) where
   -- the class of keys within the limits of a format
   abbrev pub class_for : Class B
-  class_for = class_of shape proper (limits_of p)
+  class_for = class_of shape traits.is_proper (limits_of p)
 
   -- An image says what it was formatted for, and stands for the set that a machine keeps under its log's number, over pages that are good for
   -- the log; and bodies and pages can be read.
   pub record HasSet (m : Machine B) (image : List ℕ) : Type 0 where
     pub head : head_in image ≡ head_of p
-    pub stands : StandsForSet class_for (reading_of said (format_of class)) m image
+    pub stands : StandsForSet class_for (reading_of traits.said (format_of (own traits))) m image
     pub sizes : HasSizes image
-    pub good : AreGood (known_of class_for) (reading_of said (format_of class)) (area_of (reading_of said (format_of class)) p.pages image) (records_of stands.bodies)
+    pub good : AreGood (known_of class_for) (reading_of traits.said (format_of (own traits))) (area_of (reading_of traits.said (format_of (own traits))) p.pages image) (records_of stands.bodies)
 
   -- An engine holds an index that is seen as a machine.
   pub record IsSeen (m : Machine B) (e : Parts B D) : Type 0 where
     pub bodies : List (List (Record (Entry B) (Page B)))
     pub index : index.State B
-    pub holds : Holds class_for (reading_of said (format_of class)) (format_of class) (is_node (format_of class)) (state e.volume.shelf.disk) e bodies index
+    pub holds : Holds class_for (reading_of traits.said (format_of (own traits))) (format_of (own traits)) (is_node (format_of (own traits))) (state e.volume.shelf.disk) e bodies index
     pub seen : SeenAs (keys_of shape) (engine_of class_for index) m
 
   -- A device has the sectors of its pages, and whatever a crash may leave of it has a set of a machine.

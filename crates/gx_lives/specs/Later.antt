@@ -1,7 +1,7 @@
 -- What a search finds after an opening, where nothing was inserted or deleted since.
 use Rattle.std.specs.Prelude.{ℕ, ◌≡◌, ◌≤◌, ◌==◌, ◌&&◌, Bool, true, false, List, ◌∷◌, ◌++◌}
 use Rattle.std.specs.List.{list_any}
-use Rattle.gx_class.specs.declared.class.KeyClass.{Ghosts}
+use Rattle.gx_class.specs.Traits.{Traits}
 use Rattle.gx_disk.specs.Device.{Device}
 use Rattle.gx_engine.specs.States.{Parts}
 use Rattle.gx_events.specs.declared.event.Event.TheVariants.{Ask, Move}
@@ -53,12 +53,12 @@ pub record AreMatching {B : Type 0} (k : Keys B) (query : Query B) (set entries 
 
 -- A device that turns led to was opened. The turns are one run, the opening has the set that the run's machine keeps under a number, and so each
 -- search of a life from there finds just what matches in that set, while nothing is inserted or deleted.
-pub record FindsOpened {C B D : Type 0} (shape : Members B) (proper : B → Bool) (said : List ℕ → B) (class : Ghosts C B) (code : ℕ) (state : D → Device) (p : Parameters)
+pub record FindsOpened {B D : Type 0} (shape : Members B) (traits : Traits B) (state : D → Device) (p : Parameters)
     (turns : List (Turn B)) (closed : D) (engine : Parts B D) : Type 0 where
-  pub run : IsOneRun shape proper said class code state p turns (Lies closed)
+  pub run : IsOneRun shape traits state p turns (Lies closed)
   pub number : ℕ
   pub at_least : run.machine.oldest ≤ number
   pub at_most : number ≤ newest run.machine
-  pub finds : (later : List (Turn B)) (now : Stage B D) → Lives shape proper said class code state (Works engine) later now
+  pub finds : (later : List (Turn B)) (now : Stage B D) → Lives shape traits state (Works engine) later now
       → (s : ℕ) (query : Query B) (entries : List (Entry B)) → IsSearched s query entries later
       → AreMatching (keys_of shape) query (set_of number run.machine) entries

@@ -1,9 +1,9 @@
 -- The life of an index on a device: events of an engine, readings, crashes at any moment, and openings, of which a crash or a fault may cut
 -- some off.
-use Rattle.std.specs.Prelude.{ℕ, ◌≡◌, ◌⊎◌, Bool, true, List, [], ◌∷◌}
+use Rattle.std.specs.Prelude.{ℕ, ◌≡◌, ◌⊎◌, true, List, [], ◌∷◌}
 use Rattle.gx_geom.specs.declared.refusal.Refusal.{Refusal}
 use Rattle.gx_geom.specs.declared.refusal.Refusal.TheVariants.{Damaged}
-use Rattle.gx_class.specs.declared.class.KeyClass.{Ghosts}
+use Rattle.gx_class.specs.Traits.{Traits}
 use Rattle.gx_disk.specs.Device.{Device, IsSettled, MayLeave}
 use Rattle.gx_engine.specs.States.{Parts}
 use Rattle.gx_engine.specs.Setting.{LeadsSoAs}
@@ -11,12 +11,10 @@ use Rattle.gx_events.specs.Events as laws
 use Rattle.gx_events.specs.declared.event.Event.{Event}
 use Rattle.gx_events.specs.declared.outcome.Outcome.{Outcome}
 use Rattle.gx_machine.specs.Keys.{Members}
-use Rattle.gx_node.specs.Reading.{format_of}
 use Rattle.gx_engine.specs.Made.{Makes}
 use Rattle.gx_opening.specs.Formatted.{OnlyRests}
 use Rattle.gx_restart.specs.Beginning.{HasFailed, IsSameDevice}
-use Rattle.gx_restart.specs.Keeping.{KeepsItsSet}
-use Rattle.gx_restart.specs.Opened.{IsOpened}
+use Rattle.gx_restart.specs.Setting.{IsOpenedAs, KeepsItsSetAs}
 
 -- What there is: an engine at work over its device, or a device alone.
 pub data Stage (B D : Type 0) : Type 0 where
@@ -54,25 +52,25 @@ pub record ComesUp (many : ℕ) (IsLeft : List ℕ → Type 0) (d : Device) : Ty
   pub left : IsLeft d.seen
   pub settled : IsSettled d
 
-module _ {C B : Type 0} (shape : Members B) (proper : B → Bool) (said : List ℕ → B) (class : Ghosts C B) where
+module _ {B : Type 0} (shape : Members B) (traits : Traits B) where
   -- What any opening does to a device: as `gx_restart::open` promises of whatever comes of it, a crash at each moment leaves what it could leave
   -- before, or what stands for the set that the log keeps.
   pub record IsTried (d e : Device) : Type 0 where
     pub same : IsSameDevice d e
-    pub keeps : KeepsItsSet shape proper said (format_of class) d e
+    pub keeps : KeepsItsSetAs shape traits d e
 
-module _ {C B D : Type 0} (shape : Members B) (proper : B → Bool) (said : List ℕ → B) (class : Ghosts C B) (code : ℕ) (state : D → Device) where
+module _ {B D : Type 0} (shape : Members B) (traits : Traits B) (state : D → Device) where
   abbrev pub IsTriedOn : D → D → Type 0
-  IsTriedOn old new = IsTried shape proper said class (state old) (state new)
+  IsTriedOn old new = IsTried shape traits (state old) (state new)
 
   -- A page was read, or what gives it a frame was done: whatever index the engine held, it holds what upkeep led to, and at each moment a crash
   -- leaves what stands for a set that this index keeps.
   abbrev pub IsReading : Parts B D → Parts B D → Type 0
-  IsReading old new = LeadsSoAs shape proper said class state old new AreUpkeep
+  IsReading old new = LeadsSoAs shape traits state old new AreUpkeep
 
   -- what may begin of an engine, an event or a reading; and of a device, an opening or a reading
   abbrev pub MayMake : Parts B D → Parts B D → Type 0
-  MayMake e new = ((event : Event B) × (outcome : Outcome B) × Makes shape proper said class state e event outcome new) ⊎ IsReading e new
+  MayMake e new = ((event : Event B) × (outcome : Outcome B) × Makes shape traits state e event outcome new) ⊎ IsReading e new
 
   abbrev pub MayTry : D → D → Type 0
   MayTry d new = IsTriedOn d new ⊎ IsRead (state d) (state new)
@@ -86,7 +84,7 @@ module _ {C B D : Type 0} (shape : Members B) (proper : B → Bool) (said : List
 
   -- how an engine at work goes on
   abbrev pub WorksOn : Parts B D → Turn B → Stage B D → Type 0
-  WorksOn e (Happens event outcome) (Works new) = Makes shape proper said class state e event outcome new
+  WorksOn e (Happens event outcome) (Works new) = Makes shape traits state e event outcome new
   WorksOn e Crashes (Lies d) = ComesUp (state e.volume.shelf.disk).sectors (MayBeLeft (Works e)) (state d)
   WorksOn e GivesUp (Lies d) = d ≡ e.volume.shelf.disk
   WorksOn e Reads (Works new) = IsReading e new
@@ -96,7 +94,7 @@ module _ {C B D : Type 0} (shape : Members B) (proper : B → Bool) (said : List
   abbrev pub LiesOn : D → Turn B → Stage B D → Type 0
   LiesOn d Crashes (Lies new) = ComesUp (state d).sectors (MayBeLeft (Lies d)) (state new)
   LiesOn d Opens (Works e) =
-      IsTriedOn d e.volume.shelf.disk × IsOpened shape proper said (format_of class) code (state d) (state e.volume.shelf.disk) e
+      IsTriedOn d e.volume.shelf.disk × IsOpenedAs shape traits (state d) (state e.volume.shelf.disk) e
   LiesOn d (Refuses why) (Lies new) = IsTriedOn d new
   LiesOn d Reads (Lies new) = IsRead (state d) (state new)
   LiesOn d other new = ⊥

@@ -1,5 +1,6 @@
 -- The headline as one statement: what an index that was formatted lives through is one run of the set machine.
-use Rattle.std.specs.Prelude.{ℕ, ◌≡◌, ◌≤◌, ◌⊎◌, Bool, true, List, [], ◌∷◌, Ok}
+use Rattle.std.specs.Prelude.{ℕ, ◌≡◌, ◌≤◌, ◌⊎◌, true, List, [], ◌∷◌, Ok}
+use Rattle.gx_class.specs.Traits.{Traits}
 use Rattle.gx_class.specs.declared.class.KeyClass.{Ghosts}
 use Rattle.gx_disk.specs.Device.{Device}
 use Rattle.gx_events.specs.declared.event.Event.TheVariants.{Move}
@@ -12,15 +13,14 @@ use Rattle.gx_machine.specs.declared.reply.Reply.TheVariants.{Committed}
 use Rattle.gx_machine.specs.Keys.{Members, keys_of}
 use Rattle.gx_machine.specs.Machine.{Machine, fresh_machine}
 use Rattle.gx_machine.specs.Runs.{IsRun, Step}
-use Rattle.gx_node.specs.Reading.{format_of}
 use Rattle.gx_page.specs.Format.{IsWellFormed}
 use Rattle.gx_restart.specs.Beginning.{HasFailed}
-use Rattle.gx_restart.specs.Opened.{IsRefused}
 use Rattle.gx_lives.specs.Bearing.{Bears, HasSet}
 use Rattle.gx_lives.specs.Lives.{Lies, MayBeLeft, Stage, Turn}
 use Rattle.gx_lives.specs.Lives as life
 use Rattle.gx_lives.specs.Serially.{AreSerial, FindExactly}
 use Rattle.gx_lives.specs.Told.{Tells}
+use Rattle.gx_restart.specs.Setting.{IsRefusedAs}
 
 -- A device is new: an honest one was formatted, which ended well, and the root that was laid down is a page.
 pub record IsNew {C B D : Type 0} (class : Ghosts C B) (start : B) (state : D → Device) (p : Parameters) (disk : D) : Type 0 where
@@ -35,7 +35,7 @@ IsAcknowledged number [] = ⊥
 IsAcknowledged number (turn ∷ turns) = ((s : ℕ) × (turn ≡ life.Happens (Move s) (Replied (Committed number)))) ⊎ IsAcknowledged number turns
 
 -- Turns that led to a stage are one run of the set machine, from nothing committed.
-pub record IsOneRun {C B D : Type 0} (shape : Members B) (proper : B → Bool) (said : List ℕ → B) (class : Ghosts C B) (code : ℕ) (state : D → Device) (p : Parameters) (turns : List (Turn B))
+pub record IsOneRun {B D : Type 0} (shape : Members B) (traits : Traits B) (state : D → Device) (p : Parameters) (turns : List (Turn B))
     (now : Stage B D) : Type 0 where
   -- a step for each ask and each reply, for commits that are sealed and durable, and a crash for each opening that ended well
   pub steps : List (Step B)
@@ -48,8 +48,8 @@ pub record IsOneRun {C B D : Type 0} (shape : Members B) (proper : B → Bool) (
   -- each commit that was answered is among those that every kept set has
   pub covers : (number : ℕ) → IsAcknowledged number turns → number ≤ machine.oldest
   -- the stage is seen as that machine
-  pub bears : Bears shape proper said class state p machine now
+  pub bears : Bears shape traits state p machine now
   -- whatever a crash may leave, now or within what begins now, has a set that the machine keeps
-  pub left : (image : List ℕ) → MayBeLeft shape proper said class code state now image → HasSet shape proper said class state p machine image
+  pub left : (image : List ℕ) → MayBeLeft shape traits state now image → HasSet shape traits state p machine image
   -- an opening is refused only where a call failed or memory was refused
-  pub opens : (disk new : D) (why : Refusal) → now ≡ Lies disk → IsRefused shape proper said (format_of class) state code disk new why → HasFailed why
+  pub opens : (disk new : D) (why : Refusal) → now ≡ Lies disk → IsRefusedAs shape traits state disk new why → HasFailed why

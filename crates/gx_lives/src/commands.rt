@@ -3,20 +3,19 @@ ghost use Rattle.std.specs.Prelude.{◌≡◌, List, true};
 ghost use Rattle.gx_commands.specs.Endings.{FormatsOver};
 ghost use Rattle.gx_commands.specs.Streams.{Outputs};
 ghost use Rattle.gx_format.specs.Fresh.{fresh_root};
-ghost use Rattle.gx_geom.specs.Rectangles.{Rectangle};
 ghost use Rattle.gx_glog.specs.declared.parameters.Parameters.{Parameters};
 ghost use Rattle.gx_machine.specs.Machine.{Machine};
 ghost use Rattle.gx_opening.specs.Formatted.{IsAllowed};
+ghost use Rattle.gx_script.specs.Corners.{grammar_of};
 ghost use Rattle.gx_lives.specs.Bearing.{Bears};
 ghost use Rattle.gx_lives.specs.Commands.{AreGiven, AreOf, AreOfAll, Command, IsGiven, LivesSo};
 ghost use Rattle.gx_lives.specs.Lives.{Lies};
 ghost use Rattle.gx_lives.specs.OneRun.{IsNew, IsOneRun};
 
 use crate::laws::{an_index_lives_as_one_run, an_opening_finds_no_damage};
-use gx_class::KeyClass;
+use gx_class::{KeyClass, ReadKeys};
 use gx_disk::SectorDisk;
-use gx_durable::ReadKeys;
-use gx_geom::{Box2, Shape};
+use gx_script::Corners;
 
 /// A command over a device that has an index is a life. A script (`gx_commands::run_over`) is an opening; the events
 /// of its lines' calls, one after another, each up to exactly the reply that the text says; those of a settling, whose
@@ -26,11 +25,11 @@ use gx_geom::{Box2, Shape};
 /// verifying (`gx_commands::verify_over`) is a reading of the device. An opening that is refused is all that comes, and
 /// with frames in range only because a call of the device failed or memory was refused: so no device of a life is
 /// examined for damage.
-pub fn commands_are_lives<D: SectorDisk, K: ReadKeys + KeyClass<Key = Box2>>()
-    ensures { (p : Parameters) → IsAllowed K.CLASS p → (m : Machine Rectangle) (disk after : D) (command : Command)
-        → Bears ⟦<Box2 as Shape>⟧ K.is_proper K.said K.KeyClass D.state p m (Lies disk)
-        → IsGiven ⟦<Box2 as Shape>⟧ K.is_proper K.said K.KeyClass K.CLASS D.state disk command after
-        → LivesSo ⟦<Box2 as Shape>⟧ K.is_proper K.said K.KeyClass K.CLASS D.state (AreOf command) disk after }
+pub fn commands_are_lives<D: SectorDisk, B: Corners, K: ReadKeys + KeyClass<Key = B>>()
+    ensures { (p : Parameters) → IsAllowed K.CLASS p → (m : Machine B) (disk after : D) (command : Command)
+        → Bears B.Shape K.ReadKeys D.state p m (Lies disk)
+        → IsGiven (grammar_of B.Corners) B.Shape K.ReadKeys D.state disk command after
+        → LivesSo B.Shape K.ReadKeys D.state (AreOf (grammar_of B.Corners) command) disk after }
 {
     an_opening_finds_no_damage::<D, K>();
 }
@@ -45,14 +44,13 @@ pub fn a_format_begins_a_life<D: SectorDisk, K: ReadKeys>()
 
 /// Commands over a device that was formatted, one after another, each over what the one before it left, are one life,
 /// and so one run of the set machine: whatever each of them answered, also where it was refused or cut off.
-pub fn commands_are_one_life<D: SectorDisk, K: ReadKeys + KeyClass<Key = Box2>>()
+pub fn commands_are_one_life<D: SectorDisk, B: Corners, K: ReadKeys + KeyClass<Key = B>>()
     ensures { (p : Parameters) → p.class ≡ K.CLASS → (disk after : D) (commands : List Command)
         → IsNew K.KeyClass K.start_key D.state p disk
-        → AreGiven ⟦<Box2 as Shape>⟧ K.is_proper K.said K.KeyClass K.CLASS D.state disk commands after
-        → (all : LivesSo ⟦<Box2 as Shape>⟧ K.is_proper K.said K.KeyClass K.CLASS D.state (AreOfAll commands)
-        disk after)
-        × IsOneRun ⟦<Box2 as Shape>⟧ K.is_proper K.said K.KeyClass K.CLASS D.state p all.turns (Lies after) }
+        → AreGiven (grammar_of B.Corners) B.Shape K.ReadKeys D.state disk commands after
+        → (all : LivesSo B.Shape K.ReadKeys D.state (AreOfAll (grammar_of B.Corners) commands) disk after)
+        × IsOneRun B.Shape K.ReadKeys D.state p all.turns (Lies after) }
 {
     an_index_lives_as_one_run::<D, K>();
-    commands_are_lives::<D, K>();
+    commands_are_lives::<D, B, K>();
 }

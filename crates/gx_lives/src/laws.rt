@@ -8,9 +8,8 @@ ghost use Rattle.gx_machine.specs.declared.reply.Reply.TheVariants.{Committed};
 ghost use Rattle.gx_machine.specs.Keys.{Keys, keys_of};
 ghost use Rattle.gx_machine.specs.Machine.{Machine, fresh_machine, newest, set_of};
 ghost use Rattle.gx_machine.specs.Runs.{Step, IsRun};
-ghost use Rattle.gx_node.specs.Reading.{format_of};
 ghost use Rattle.gx_restart.specs.Beginning.{HasFailed};
-ghost use Rattle.gx_restart.specs.Opened.{IsRefused};
+ghost use Rattle.gx_restart.specs.Setting.{IsRefusedAs};
 ghost use Rattle.gx_opening.specs.Formatted.{IsAllowed};
 ghost use Rattle.gx_lives.specs.Bearing.{AreOf, Bears, HasSet, IsOf};
 ghost use Rattle.gx_lives.specs.Later.{FindsOpened};
@@ -20,8 +19,8 @@ ghost use Rattle.gx_lives.specs.OneRun.{IsNew, IsOneRun};
 ghost use Rattle.gx_lives.specs.Serially.{AreSerial, FindExactly};
 ghost use Rattle.gx_lives.specs.Told.{Tells};
 
+use gx_class::ReadKeys;
 use gx_disk::SectorDisk;
-use gx_durable::ReadKeys;
 use gx_geom::{Refusal, Shape};
 use gx_node::laws::{inners, leaves};
 
@@ -40,10 +39,10 @@ fn is_class(_class: u16)
 pub fn every_life_is_the_machines<D: SectorDisk, K: ReadKeys>()
     ensures { (p : Parameters) → IsAllowed K.CLASS p
         → (turns : List (Turn K.Key)) (m : Machine K.Key) (old new : Stage K.Key D)
-        → Lives K.Key.Shape K.is_proper K.said K.KeyClass K.CLASS D.state old turns new
-        → Bears K.Key.Shape K.is_proper K.said K.KeyClass D.state p m old
+        → Lives K.Key.Shape K.ReadKeys D.state old turns new
+        → Bears K.Key.Shape K.ReadKeys D.state p m old
         → (n : Machine K.Key) × AreOf (keys_of K.Key.Shape) m turns n
-        × Bears K.Key.Shape K.is_proper K.said K.KeyClass D.state p n new }
+        × Bears K.Key.Shape K.ReadKeys D.state p n new }
 {
     gx_engine::laws::a_class_is_lawful::<K>();
     is_class(K::CLASS);
@@ -53,9 +52,9 @@ pub fn every_life_is_the_machines<D: SectorDisk, K: ReadKeys>()
 /// that the machine keeps under the number of the image's log: from the last durable commit's to the last one's.
 pub fn a_crash_leaves_a_set_of_the_machine<D: SectorDisk, K: ReadKeys>()
     ensures { (p : Parameters) → IsAllowed K.CLASS p → (m : Machine K.Key) (now : Stage K.Key D)
-        → Bears K.Key.Shape K.is_proper K.said K.KeyClass D.state p m now → (image : List ℕ)
-        → MayBeLeft K.Key.Shape K.is_proper K.said K.KeyClass K.CLASS D.state now image
-        → HasSet K.Key.Shape K.is_proper K.said K.KeyClass D.state p m image }
+        → Bears K.Key.Shape K.ReadKeys D.state p m now → (image : List ℕ)
+        → MayBeLeft K.Key.Shape K.ReadKeys D.state now image
+        → HasSet K.Key.Shape K.ReadKeys D.state p m image }
 {
     gx_engine::laws::a_class_is_lawful::<K>();
     is_class(K::CLASS);
@@ -66,8 +65,8 @@ pub fn a_crash_leaves_a_set_of_the_machine<D: SectorDisk, K: ReadKeys>()
 /// the undo of what it cut off comes to its end.
 pub fn an_opening_finds_no_damage<D: SectorDisk, K: ReadKeys>()
     ensures { (p : Parameters) → IsAllowed K.CLASS p → (m : Machine K.Key) (old new : D) (why : Refusal)
-        → Bears K.Key.Shape K.is_proper K.said K.KeyClass D.state p m (Lies old)
-        → IsRefused K.Key.Shape K.is_proper K.said (format_of K.KeyClass) D.state K.CLASS old new why
+        → Bears K.Key.Shape K.ReadKeys D.state p m (Lies old)
+        → IsRefusedAs K.Key.Shape K.ReadKeys D.state old new why
         → HasFailed why }
 {
     gx_engine::laws::a_class_is_lawful::<K>();
@@ -84,8 +83,8 @@ pub fn an_opening_finds_no_damage<D: SectorDisk, K: ReadKeys>()
 pub fn an_index_lives_as_one_run<D: SectorDisk, K: ReadKeys>()
     ensures { (p : Parameters) → p.class ≡ K.CLASS → (disk : D) → IsNew K.KeyClass K.start_key D.state p disk
         → (turns : List (Turn K.Key)) (now : Stage K.Key D)
-        → Lives K.Key.Shape K.is_proper K.said K.KeyClass K.CLASS D.state (Lies disk) turns now
-        → IsOneRun K.Key.Shape K.is_proper K.said K.KeyClass K.CLASS D.state p turns now }
+        → Lives K.Key.Shape K.ReadKeys D.state (Lies disk) turns now
+        → IsOneRun K.Key.Shape K.ReadKeys D.state p turns now }
 {
     gx_engine::laws::a_class_is_lawful::<K>();
     gx_format::laws::phases::<D>();
@@ -106,9 +105,9 @@ pub fn an_index_lives_as_one_run<D: SectorDisk, K: ReadKeys>()
 pub fn a_later_search_finds_what_was_opened<D: SectorDisk, K: ReadKeys>()
     ensures { (p : Parameters) → p.class ≡ K.CLASS → (disk : D) → IsNew K.KeyClass K.start_key D.state p disk
         → (turns : List (Turn K.Key)) (closed : D) (engine : Parts K.Key D)
-        → Lives K.Key.Shape K.is_proper K.said K.KeyClass K.CLASS D.state (Lies disk) turns (Lies closed)
-        → GoesOn K.Key.Shape K.is_proper K.said K.KeyClass K.CLASS D.state (Lies closed) life.Opens (Works engine)
-        → FindsOpened K.Key.Shape K.is_proper K.said K.KeyClass K.CLASS D.state p turns closed engine }
+        → Lives K.Key.Shape K.ReadKeys D.state (Lies disk) turns (Lies closed)
+        → GoesOn K.Key.Shape K.ReadKeys D.state (Lies closed) life.Opens (Works engine)
+        → FindsOpened K.Key.Shape K.ReadKeys D.state p turns closed engine }
 {
     an_index_lives_as_one_run::<D, K>();
     every_life_is_the_machines::<D, K>();

@@ -6,4 +6,4 @@ pub mod commands;
 pub mod laws;
 mod turns;
 
-pub use turns::{bring_page, format, open, step, verify};
+pub use turns::{bring_page, examine, format, open, step, verify};

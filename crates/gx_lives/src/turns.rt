@@ -7,29 +7,27 @@ ghost use Rattle.gx_format.specs.Fresh.{fresh_root};
 ghost use Rattle.gx_glog.specs.Parameters.{Fit};
 ghost use Rattle.gx_glog.specs.declared.parameters.Parameters.{Parameters};
 ghost use Rattle.gx_machine.specs.Machine.{Machine, fresh_machine};
-ghost use Rattle.gx_node.specs.Reading.{format_of};
 ghost use Rattle.gx_pool.specs.declared.frames.TheConstants.{FRAMES};
 ghost use Rattle.gx_restart.specs.Beginning.{CountsOpening, HasFailed};
-ghost use Rattle.gx_restart.specs.Opened.{IsRefused};
+ghost use Rattle.gx_restart.specs.Setting.{IsRefusedAs, IsVerifiedAs};
 ghost use Rattle.gx_restart.specs.Undoing.{BeganWith};
-ghost use Rattle.gx_restart.specs.Verified.{IsVerified};
 ghost use Rattle.gx_store.specs.State.{IsHeld};
 ghost use Rattle.gx_opening.specs.Formatted.{IsAllowed};
-ghost use Rattle.gx_opening.specs.Standing.{IsFormatted};
+ghost use Rattle.gx_opening.specs.Setting.{ExaminesAs, IsFormattedAs};
 ghost use Rattle.gx_lives.specs.Bearing.{Bears};
 ghost use Rattle.gx_lives.specs.Lives.{GoesOn, Lies, Works};
 ghost use Rattle.gx_lives.specs.Lives as life;
 ghost use Rattle.gx_lives.specs.OneRun.{IsNew};
 
 use crate::laws::an_opening_finds_no_damage;
-use gx_class::Probing;
+use gx_class::{Probing, ReadKeys};
 use gx_disk::SectorDisk;
-use gx_durable::ReadKeys;
 use gx_engine::laws::a_class_is_lawful;
 use gx_engine::{Engine, NotOpened};
 use gx_events::{Event, Outcome};
 use gx_geom::Refusal;
 use gx_node::laws::{inners, leaves};
+use gx_opening::Damage;
 use gx_restart::Report;
 use std::alloc::Global;
 
@@ -50,13 +48,13 @@ pub fn format<D: SectorDisk, K: ReadKeys>(
     ensures formats { Formats D.state (record { pages = pages; most = most; class = K.CLASS })
         (fresh_root K.spelling K.start_key) disk.old disk.new result }
     ensures begins { (D.state disk.old).honest ≡ true
-        → OnOk result (Bears K.Key.Shape K.is_proper K.said K.KeyClass D.state
+        → OnOk result (Bears K.Key.Shape K.ReadKeys D.state
         (record { pages = pages; most = most; class = K.CLASS }) fresh_machine (Lies disk.new)) }
     ensures new { (D.state disk.old).honest ≡ true
         → OnOk result (IsNew K.KeyClass K.start_key D.state
         (record { pages = pages; most = most; class = K.CLASS }) disk.new) }
     ensures formatted { (D.state disk.old).honest ≡ true
-        → OnOk result (IsFormatted K.Key.Shape K.is_proper K.said (format_of K.KeyClass) K.CLASS (D.state disk.new)
+        → OnOk result (IsFormattedAs K.Key.Shape K.ReadKeys (D.state disk.new)
         (record { pages = pages; most = most; class = K.CLASS })) }
 {
     a_class_is_lawful::<K>();
@@ -71,8 +69,7 @@ pub fn step<D: SectorDisk, K: ReadKeys + Probing>(
     engine: &mut Engine<D, K>,
     event: Event<K::Key>,
 ) -> Outcome<K::Key>
-    ensures { GoesOn K.Key.Shape K.is_proper K.said K.KeyClass K.CLASS D.state
-        (Works engine.old) (life.Happens event result) (Works engine.new) }
+    ensures { GoesOn K.Key.Shape K.ReadKeys D.state (Works engine.old) (life.Happens event result) (Works engine.new) }
 {
     engine.step(event)
 }
@@ -92,17 +89,14 @@ pub fn open<D: SectorDisk, K: ReadKeys + Probing>(
     ensures faults { CountsOpening D.state (D.state disk).faults result }
     ensures refused { (D.state disk).honest ≡ true → 16 ≤ frames → frames ≤ FRAMES
         → MIN_SECTORS ≤ (D.state disk).sectors
-        → IfErr result (λ n. IsRefused K.Key.Shape K.is_proper K.said (format_of K.KeyClass) D.state K.CLASS
-        disk n.disk n.why) }
-    ensures began { IfOk result (BeganWith (Makes K.Key.Shape K.is_proper K.said K.KeyClass D.state) frames) }
+        → IfErr result (λ n. IsRefusedAs K.Key.Shape K.ReadKeys D.state disk n.disk n.why) }
+    ensures began { IfOk result (BeganWith (Makes K.Key.Shape K.ReadKeys D.state) frames) }
     ensures undamaged { (p : Parameters) → IsAllowed K.CLASS p → (m : Machine K.Key)
-        → Bears K.Key.Shape K.is_proper K.said K.KeyClass D.state p m (Lies disk) → 16 ≤ frames → frames ≤ FRAMES
+        → Bears K.Key.Shape K.ReadKeys D.state p m (Lies disk) → 16 ≤ frames → frames ≤ FRAMES
         → IfErr result (λ n. HasFailed n.why) }
     ensures turn { (D.state disk).honest ≡ true → MatchResult result
-        (λ engine. GoesOn K.Key.Shape K.is_proper K.said K.KeyClass K.CLASS D.state
-        (Lies disk) life.Opens (Works engine))
-        (λ n. GoesOn K.Key.Shape K.is_proper K.said K.KeyClass K.CLASS D.state
-        (Lies disk) (life.Refuses n.why) (Lies n.disk)) }
+        (λ engine. GoesOn K.Key.Shape K.ReadKeys D.state (Lies disk) life.Opens (Works engine))
+        (λ n. GoesOn K.Key.Shape K.ReadKeys D.state (Lies disk) (life.Refuses n.why) (Lies n.disk)) }
 {
     an_opening_finds_no_damage::<D, K>();
     gx_restart::open(alloc, disk, frames)
@@ -116,8 +110,7 @@ pub fn bring_page<D: SectorDisk, K: ReadKeys>(
     requires from { 1 ≤ page }
     requires to { page ≤ engine.old.volume.shelf.used }
     ensures held { OnOk result (IsHeld engine.new.volume.shelf page) }
-    ensures turn { GoesOn K.Key.Shape K.is_proper K.said K.KeyClass K.CLASS D.state
-        (Works engine.old) life.Reads (Works engine.new) }
+    ensures turn { GoesOn K.Key.Shape K.ReadKeys D.state (Works engine.old) life.Reads (Works engine.new) }
 {
     engine.bring_page(page)
 }
@@ -129,10 +122,23 @@ pub fn verify<D: SectorDisk, K: ReadKeys + Probing>(
     frames: usize,
 ) -> Result<Report, Refusal>
     ensures verified { (D.state disk.old).honest ≡ true
-        → IfOk result (IsVerified K.Key.Shape K.is_proper K.said (format_of K.KeyClass) K.CLASS (D.state disk.old)) }
+        → IfOk result (IsVerifiedAs K.Key.Shape K.ReadKeys (D.state disk.old)) }
     ensures turn { (D.state disk.old).honest ≡ true
-        → GoesOn K.Key.Shape K.is_proper K.said K.KeyClass K.CLASS D.state
-        (Lies disk.old) life.Reads (Lies disk.new) }
+        → GoesOn K.Key.Shape K.ReadKeys D.state (Lies disk.old) life.Reads (Lies disk.new) }
 {
     gx_restart::verify::<D, K>(alloc, disk, frames)
+}
+
+/// Examines a device whose opening was refused as damaged (`gx_opening::examine`, with its refusals). Of an honest one
+/// that is a reading.
+pub fn examine<D: SectorDisk, K: ReadKeys>(
+    alloc: Global,
+    disk: D,
+) -> (D, Result<Option<Damage>, Refusal>)
+    ensures examined { (D.state disk).honest ≡ true → MIN_SECTORS ≤ (D.state disk).sectors
+        → ExaminesAs K.Key.Shape K.ReadKeys D.state disk result.0 result.1 }
+    ensures turn { (D.state disk).honest ≡ true
+        → GoesOn K.Key.Shape K.ReadKeys D.state (Lies disk) life.Reads (Lies result.0) }
+{
+    gx_opening::examine::<D, K>(alloc, disk)
 }

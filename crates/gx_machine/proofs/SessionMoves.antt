@@ -104,18 +104,26 @@ module _ {B : Type 0} (k : Keys B) (l : IsLawful k) where
   same_query_itself (query.Overlap b) = ap is_eq (tied_itself l.total b)
   same_query_itself (query.Within b) = ap is_eq (tied_itself l.total b)
   same_query_itself (query.Equal b) = ap is_eq (tied_itself l.total b)
+  same_query_itself (query.Covers b) = ap is_eq (tied_itself l.total b)
 
   -- queries that test as the same are the same
   pub same_query_is : (q p : Query B) → same_query k q p ≡ true → q ≡ p
   same_query_is (query.Overlap a) (query.Overlap b) h = ap query.Overlap (l.exact a b (equal_is (k.cmp a b) h))
   same_query_is (query.Within a) (query.Within b) h = ap query.Within (l.exact a b (equal_is (k.cmp a b) h))
   same_query_is (query.Equal a) (query.Equal b) h = ap query.Equal (l.exact a b (equal_is (k.cmp a b) h))
+  same_query_is (query.Covers a) (query.Covers b) h = ap query.Covers (l.exact a b (equal_is (k.cmp a b) h))
   same_query_is (query.Overlap a) (query.Within b) h = cc
   same_query_is (query.Overlap a) (query.Equal b) h = cc
+  same_query_is (query.Overlap a) (query.Covers b) h = cc
   same_query_is (query.Within a) (query.Overlap b) h = cc
   same_query_is (query.Within a) (query.Equal b) h = cc
+  same_query_is (query.Within a) (query.Covers b) h = cc
   same_query_is (query.Equal a) (query.Overlap b) h = cc
   same_query_is (query.Equal a) (query.Within b) h = cc
+  same_query_is (query.Equal a) (query.Covers b) h = cc
+  same_query_is (query.Covers a) (query.Overlap b) h = cc
+  same_query_is (query.Covers a) (query.Within b) h = cc
+  same_query_is (query.Covers a) (query.Equal b) h = cc
 
   pub has_included : (e : Entry B) (set : List (Entry B)) → has k e (including k e set) ≡ true
   has_included e set = has-including k l e e set ∙ or_first (same_entry k e e) (has k e set) (same_itself e)

@@ -6,7 +6,7 @@ use Rattle.std.specs.declared.cmp.Ordering.{Ordering}
 use Rattle.std.specs.Ordering.{is_eq, nat_cmp, ordering_then}
 use Rattle.gx_machine.specs.declared.entry.Entry.{Entry}
 use Rattle.gx_machine.specs.declared.query.Query.{Query}
-use Rattle.gx_machine.specs.declared.query.Query.TheVariants.{Overlap, Within, Equal}
+use Rattle.gx_machine.specs.declared.query.Query.TheVariants.{Overlap, Within, Equal, Covers}
 
 -- what is known of the keys: their order, whether two share a point, whether the first lies in the second
 pub record Keys (B : Type 0) : Type 0 where
@@ -36,6 +36,7 @@ abbrev pub key_matches : {B : Type 0} → Keys B → Query B → B → Bool
 key_matches k (Overlap q) key = k.overlaps key q
 key_matches k (Within q) key = k.within key q
 key_matches k (Equal q) key = is_eq (k.cmp key q)
+key_matches k (Covers q) key = k.within q key
 
 -- an entry matches where its key does
 abbrev pub matches : {B : Type 0} → Keys B → Query B → Entry B → Bool
@@ -54,4 +55,5 @@ abbrev pub same_query : {B : Type 0} → Keys B → Query B → Query B → Bool
 same_query k (Overlap a) (Overlap b) = is_eq (k.cmp a b)
 same_query k (Within a) (Within b) = is_eq (k.cmp a b)
 same_query k (Equal a) (Equal b) = is_eq (k.cmp a b)
+same_query k (Covers a) (Covers b) = is_eq (k.cmp a b)
 same_query k a b = false

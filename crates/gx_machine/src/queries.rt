@@ -14,6 +14,7 @@ fn key_matches<B: Shape>(query: &Query<B>, key: &B) -> bool
         Query::Overlap(q) => key.overlaps(q),
         Query::Within(q) => key.within(q),
         Query::Equal(q) => key.cmp(q) == Ordering::Equal,
+        Query::Covers(q) => q.within(key),
     }
 }
 
@@ -32,6 +33,7 @@ pub fn is_same_query<B: Shape>(a: &Query<B>, b: &Query<B>) -> bool
         (Query::Overlap(p), Query::Overlap(q)) => p.cmp(q) == Ordering::Equal,
         (Query::Within(p), Query::Within(q)) => p.cmp(q) == Ordering::Equal,
         (Query::Equal(p), Query::Equal(q)) => p.cmp(q) == Ordering::Equal,
+        (Query::Covers(p), Query::Covers(q)) => p.cmp(q) == Ordering::Equal,
         _ => false,
     }
 }

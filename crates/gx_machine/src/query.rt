@@ -9,4 +9,6 @@ pub enum Query<B> {
     Within(B),
     /// Those whose key is this one.
     Equal(B),
+    /// Those whose key covers this one.
+    Covers(B),
 }

@@ -1,7 +1,7 @@
 //! What a script is answered, line by line: by the plain index, and by an index whose device fails.
 use crate::fault::RunFault;
 use crate::ran::{End, Ran};
-use gx_geom::Refusal;
+use gx_geom::{Box2, Refusal};
 use gx_plain::PlainIndex;
 use gx_script::{Noted, run};
 use std::alloc::Global;
@@ -19,7 +19,7 @@ pub(crate) enum Answered {
 
 /// The replies of the plain index to each line of a script.
 pub(crate) fn replies_of(alloc: Global, script: &[u8]) -> Result<Vec<Vec<u8>>, RunFault> {
-    let mut plain = PlainIndex::new(alloc)?;
+    let mut plain = PlainIndex::<Box2>::new(alloc)?;
     let mut all = Vec::new(alloc);
     for line in script.split_inclusive(|byte| *byte == b'\n') {
         let mut replies = Vec::new(alloc);

@@ -1,6 +1,7 @@
 //! What a script is expected to do: the sets that it commits and its replies, by the plain index.
 use crate::fault::RunFault;
 use crate::replies::replies_of;
+use gx_geom::Box2;
 use gx_plain::PlainIndex;
 use gx_script::{Answers, Noted, run};
 use std::alloc::Global;
@@ -19,7 +20,7 @@ const ABORTS: &[u8] = b"1 ABORT\n2 ABORT\n3 ABORT\n4 ABORT\n5 ABORT\n6 ABORT\n7 
 const SEARCH: &[u8] = b"1 BEGIN\n1 OVERLAP -2147483648 -2147483648 2147483647 2147483647\n";
 
 /// The set of an index without a transaction, as a search for everything is answered.
-pub(crate) fn set_of<I: Answers>(alloc: Global, index: &mut I) -> Result<Vec<u8>, RunFault> {
+pub(crate) fn set_of<I: Answers<Box2>>(alloc: Global, index: &mut I) -> Result<Vec<u8>, RunFault> {
     let mut text = Vec::new(alloc);
     run(&mut Noted::new(SEARCH), &mut Noted::new(&mut text), index)?;
     Ok(text)
@@ -27,7 +28,7 @@ pub(crate) fn set_of<I: Answers>(alloc: Global, index: &mut I) -> Result<Vec<u8>
 
 // The set that the front of a script commits.
 fn set_after(alloc: Global, front: &[u8]) -> Result<Vec<u8>, RunFault> {
-    let mut plain = PlainIndex::new(alloc)?;
+    let mut plain = PlainIndex::<Box2>::new(alloc)?;
     let mut replies = Vec::new(alloc);
     run(
         &mut Noted::new(front),

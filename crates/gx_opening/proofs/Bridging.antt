@@ -26,7 +26,7 @@ use Rattle.gx_store.proofs.Listed.{node_there, nodes_long}
 use Rattle.gx_node.specs.Alike.{AgreeOnUsed}
 use Rattle.gx_node.specs.Trees.{Tree}
 use Rattle.gx_node.proofs.AlikeTrees.{agree_back, legal_too, seek_too}
-use Rattle.gx_opening.specs.Sound.{AllInPlace, AreSound, CanAllBeRead, IsSoundStore, IsSteadyStore, AreClean, Tells, shown_tree, tree_read}
+use Rattle.gx_opening.specs.Sound.{AllInPlace, AreSound, CanAllBeRead, IsShownSound, IsSoundStore, IsSteadyStore, AreClean, Tells, shown_tree, tree_read}
 use Rattle.gx_opening.proofs.Sounding.{tells_so}
 
 -- a page that isn't kept stands as the device has it
@@ -111,6 +111,15 @@ module _ {B D : Type 0} (shape : Members B) (is_key : B → Bool) (l : Limits) (
       (sound_here said f passes state (class_of shape is_key l) first a none refl refl (sym pages_are) fits)
       (subst (λ n. Tells {T = Unit {0}} (IsSoundStore f passes state (rules_of shape n) a.touched first) result) (sym most_is)
       (subst (λ (x : Shelf D). Tells {T = Unit {0}} (IsSoundStore f passes state (rules_of shape most) a.touched x) result) is told))
+
+  -- where they can be read, and its tree is legal with what was touched in its place, they are sound
+  pub first_sound : (s : Shelf D) → s ≡ first → CanAllBeRead (passes pages) a.used (state disk).seen → IsShownSound (rules_of shape most) a.touched (shown_tree f passes state s) → sound
+  first_sound s is can shown =
+      sound_there said f passes state (class_of shape is_key l) first a none refl refl (sym pages_are) fits (record {
+        read = can;
+        shown = subst (λ n. IsShownSound (rules_of shape n) a.touched (shown_tree f passes state first)) (sym most_is)
+            (subst (λ (x : Shelf D). IsShownSound (rules_of shape most) a.touched (shown_tree f passes state x)) is shown);
+      })
 
   -- more pages in use than there are aren't sound
   pub too_many : pages < a.used → (is : Refusal) → Tells {T = Unit {0}} sound (Err is)

@@ -31,7 +31,7 @@ use Rattle.gx_found_log.specs.declared.found.FoundLog.{FoundLog}
 use Rattle.gx_opening.specs.Laid.{HasFoundLog, IsLaid}
 use Rattle.gx_opening.specs.Sound.{AreSound, tree_read}
 
-bodies_are : (seen : List ℕ) → open_bodies seen ≡ bodies_in seen (selected_of seen) (open_run seen (selected_of seen) 0 PLACES)
+pub bodies_are : (seen : List ℕ) → open_bodies seen ≡ bodies_in seen (selected_of seen) (open_run seen (selected_of seen) 0 PLACES)
 unfolding open_bodies
 bodies_are seen = refl
 

@@ -81,7 +81,7 @@ module _ {E P : Type 0} (k : Known E P) (r : Reading E P) where
   read_refused a b why settled looks read = record {
     leaves = looks_keep a b looks;
     spares = look_spares (IsSpared k r a.seen) a b looks settled;
-    log = λ is. subst (λ (w : Refusal). LogRead {E = E} {P = P} k r a.seen (Err w)) is read;
+    log = λ is. (looks.rests.seen, subst (λ (w : Refusal). LogRead {E = E} {P = P} k r a.seen (Err w)) is read);
   }
 
   -- nothing was done
@@ -119,5 +119,5 @@ module _ {E P : Type 0} (k : Known E P) (r : Reading E P) where
         record {
           leaves = leaves_weaker (HasSamePages k r a.seen (records_of is.log.bodies)) (IsKeptOrFound k r a) a b kept_so whole.redone.leaves;
           spares = spared_so whole.redone.spares;
-          log = λ damaged log. absurd (whole.whole (ap (λ w. Err w) damaged));
+          log = λ damaged. absurd (whole.whole (ap (λ w. Err w) damaged));
         }

@@ -12,3 +12,4 @@ pub mod Resting
 pub mod Sparing
 pub mod Ordering
 pub mod Heads
+pub mod Coming

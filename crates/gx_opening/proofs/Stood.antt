@@ -1,5 +1,5 @@
 -- An index that stands on a device, from its calls.
-use Rattle.std.proofs.Common.{◌≡◌, inl, inr, ℕ, Bool, true, List, Result, Ok, Err, ◌≤◌, refl, sym, subst, ◌∙◌, ⊎_elim, arith}
+use Rattle.std.proofs.Common.{◌≡◌, inl, inr, ℕ, Bool, true, List, Result, Ok, Err, ◌≤◌, refl, sym, subst, ap, ◌∙◌, ⊎_elim, arith}
 use Rattle.gx_disk.specs.declared.layout.TheConstants.{MIN_SECTORS}
 use Rattle.gx_disk.specs.Device.{Device, MayLeave, Rests, SamePending}
 use Rattle.gx_disk.specs.Moments.{Leaves}
@@ -14,19 +14,28 @@ use Rattle.gx_machine.specs.declared.entry.Entry.{Entry}
 use Rattle.gx_machine.specs.Keys.{Members}
 use Rattle.gx_node.specs.Reading.{Format, is_node}
 use Rattle.gx_found_log.specs.declared.found.FoundLog.{FoundLog}
-use Rattle.gx_found_log.specs.Found.{FaultsTold, HasUndamaged}
+use Rattle.gx_found_log.specs.Found.{FaultsTold, HasUndamaged, IsFound}
 use Rattle.gx_index_laws.specs.Classes.{Page}
 use Rattle.gx_recovery.specs.Known.{Known, IsLawful}
 use Rattle.gx_durable.specs.Spelled.{Reading}
-use Rattle.gx_opening.specs.Formatted.{OnlyRests, Says, Settles}
+use Rattle.gx_opening.specs.Formatted.{MaySettle, OnlyRests, Says, Settles, head_of}
+use Rattle.gx_durable.specs.Head.{head_in}
+use Rattle.gx_format.specs.Fresh.{HasMagic}
 use Rattle.gx_opening.specs.Laid.{HasFoundLog, IsKeptOrFound, IsLaid, LaysLog, StaysBehind}
 use Rattle.gx_opening.specs.Sound.{AreSound, IsCause, IsFaultOrDamage, Tells}
 use Rattle.gx_opening.specs.Standing.{IsFormatted, IsTested, IsUnlaid, MayStart, Stands, StaysSafe, known_for, reading, told_with}
 use Rattle.gx_opening.specs.Noting.{AreOfOthers}
 use Rattle.gx_opening.specs.declared.standing.Standing.{Standing}
+use Rattle.gx_opening.specs.Shown.{LeavesDamaged}
+use Rattle.gx_opening.proofs.Found.{bodies_are}
+use Rattle.gx_opening.proofs.Heads.{formatted_head, head_magic, head_says}
 use Rattle.gx_opening.proofs.Others.{log_of_others}
+use Rattle.gx_glog.specs.Cuts.{open_bodies}
+use Rattle.gx_durable.specs.Bodies.{AreBodies}
+use Rattle.gx_durable.proofs.BodyLists.{bodies_one_way}
+use Rattle.gx_recovery.specs.Records.{Record}
 use Rattle.std.specs.Prelude.{IfOk, IfErr}
-use Rattle.gx_recovery.specs.Analysis.{Analysis}
+use Rattle.gx_recovery.specs.Analysis.{Analysis, analysis}
 use Rattle.gx_recovery.specs.Damage.{records_of}
 use Rattle.gx_recovery.specs.Redo.{redone}
 use Rattle.gx_found_log.specs.Redone.{HasSamePages}
@@ -98,6 +107,10 @@ pub one_cause : (why : Refusal) → IsFaultOrDamage why → IsCause why
 one_cause why (inl device) = inl device
 one_cause why (inr damaged) = inr (inr damaged)
 
+-- nothing is refused as damaged for what it is formatted for
+pub never_damaged : (class sectors : ℕ) (seen : List ℕ) (why : Refusal) → MaySettle class sectors seen (Err why) → why ≡ refusal.Damaged → ⊥
+never_damaged class sectors seen why may is = subst (λ (w : Refusal). MaySettle class sectors seen (Err w)) is may
+
 module _ {B : Type 0} (shape : Members B) (is_key : B → Bool) (said : List ℕ → B) (f : Format B) (class : ℕ) (a b : Device) where
   -- what was read behind a settling
   pub formatted_so : (p : Parameters) → MIN_SECTORS ≤ a.sectors → Settles class a b (Ok p) → IsFormatted shape is_key said f class a p
@@ -129,8 +142,24 @@ module _ {B : Type 0} (shape : Members B) (is_key : B → Bool) (said : List ℕ
       parameters = p;
       formatted = formatted;
       cause = told_cause (FoundLog (Entry B)) b.faults c.faults why behind faults;
-      damaged = λ is log. lays.log is (subst (λ (s : List ℕ). HasUndamaged k r s) (sym only.rests.seen) log);
+      damaged = λ is log. (lays.log is).1 (subst (λ (s : List ℕ). HasUndamaged k r s) (sym only.rests.seen) log);
     }
+
+    -- and where its log is damaged it is left so
+    pub unlaid_left : (why : Refusal) → c.sectors ≡ a.sectors → IsFormatted shape is_key said f class a p → LaysLog k r b c (Err why) → LeavesDamaged shape is_key said f class c why
+    unlaid_left why sectors formatted lays = λ is.
+        (let left = lays.log is in
+        let same : c.seen ≡ a.seen = left.0 ∙ only.rests.seen in
+        let large = formatted.large in record {
+          parameters = p;
+          formatted = record {
+            magic = subst (λ (s : List ℕ). HasMagic s) (sym same) formatted.magic;
+            says = subst (λ (s : List ℕ). Says s p) (sym same) says;
+            allowed = formatted.allowed;
+            large = omega (arith, large, sectors);
+          };
+          unsound = λ index. left.1 (subst (λ (s : List ℕ). HasUndamaged k r s) left.0 index.is.log);
+        })
 
 module _ {B : Type 0} (shape : Members B) (is_key : B → Bool) (said : List ℕ → B) (f : Format B) (class : ℕ) (a b c : Device) (s : Standing B) where
   abbrev known_there : Known (Entry B) (Page B)
@@ -158,17 +187,48 @@ module _ {B : Type 0} (shape : Members B) (is_key : B → Bool) (said : List ℕ
       stays = subst (λ (x : List ℕ). StaysBehind known_there reading_there a.seen x laid.is.log.bodies) (sym rests.seen) laid.stays;
     }
 
+    -- the log that is found there tells the same
+    same_told : (found : FoundLog (Entry B)) → IsFound known_there reading_there c.seen found → found.analysis.told ≡ s.log.analysis.told
+    same_told found is =
+        let bytes : open_bodies c.seen ≡ open_bodies a.seen = laid_read.same.bodies in
+        let here : AreBodies reading_there (open_bodies a.seen) is.log.bodies =
+        subst (λ (x : List (List ℕ)). AreBodies reading_there x is.log.bodies) (sym (bodies_are c.seen) ∙ bytes) is.log.told in
+        let there : AreBodies reading_there (open_bodies a.seen) laid.is.log.bodies =
+        subst (λ (x : List (List ℕ)). AreBodies reading_there x laid.is.log.bodies) (sym (bodies_are a.seen)) laid.is.log.told in
+        let one : is.log.bodies ≡ laid.is.log.bodies = bodies_one_way reading_there (open_bodies a.seen) is.log.bodies laid.is.log.bodies here there in
+        is.kept.told ∙ ap (λ (x : List (List (Record (Entry B) (Page B)))). analysis known_there (records_of x)) one ∙ sym laid.is.kept.told
+
+    -- so where its pages aren't sound it is left so
+    says_left : head_in c.seen ≡ head_of s.parameters
+    says_left = laid_read.same.head ∙ formatted_head a.seen s.parameters formatted.magic formatted.says
+
+    pub unsound_left : c.sectors ≡ a.sectors → (result : Result (Standing B) Refusal) → Tells {T = Standing B} (sound_on b.seen) result → IfErr result (LeavesDamaged shape is_key said f class c)
+    unsound_left sectors (Ok x) unsound = tt
+    unsound_left sectors (Err why) unsound = λ is.
+        (let large = formatted.large in record {
+          parameters = s.parameters;
+          formatted = record {
+            magic = head_magic c.seen s.parameters says_left;
+            says = head_says c.seen s.parameters says_left formatted.says.fit;
+            allowed = formatted.allowed;
+            large = omega (arith, large, sectors);
+          };
+          unsound = λ index. unsound is (subst sound_on rests.seen
+              (subst (λ (t : Analysis (Entry B)). AreSound known_there reading_there (is_node f s.parameters.pages) t c.seen) (same_told index.found index.is) index.sound));
+        })
+
     -- its pages were tested
-    pub tested_so : (unmoved : Type 0) (result : Result (Standing B) Refusal) → IfOk result (λ x. x ≡ s) → IfErr result IsCause → Tells {T = Standing B} (sound_on b.seen) result
-        → IsTested shape is_key said f class unmoved a c result
-    tested_so unmoved (Ok x) same cause sound = subst (λ (y : Standing B). Stands shape is_key said f class a c y) (sym same)
+    pub tested_so : (unmoved : Type 0) (result : Result (Standing B) Refusal) → IfOk result (λ x. x ≡ s) → IfErr result IsCause → IfErr result (λ why. why ≡ refusal.Memory → s.log.analysis.told.used ≤ s.parameters.pages)
+        → Tells {T = Standing B} (sound_on b.seen) result → IsTested shape is_key said f class unmoved a c result
+    tested_so unmoved (Ok x) same cause fits sound = subst (λ (y : Standing B). Stands shape is_key said f class a c y) (sym same)
         (record { formatted = formatted; laid = laid_read; sound = subst sound_on (sym rests.seen) sound })
-    tested_so unmoved (Err why) same cause unsound = inr (inr (inl (record {
+    tested_so unmoved (Err why) same cause fits unsound = inr (inr (inl (record {
       parameters = s.parameters;
       formatted = formatted;
       log = s.log;
       laid = laid_read;
       cause = cause;
+      fits = fits;
       unsound = λ is sound. unsound is (subst sound_on rests.seen sound);
     })))
 
@@ -181,6 +241,10 @@ module _ {T : Type 0} where
   pub with_cause : (sound : Result (Unit {0}) Refusal) (x : T) → IfErr sound IsCause → IfErr (told_with sound x) IsCause
   with_cause (Ok done) x cause = tt
   with_cause (Err why) x cause = cause
+
+  pub with_why : (P : Refusal → Type 0) (sound : Result (Unit {0}) Refusal) (x : T) → IfErr sound P → IfErr (told_with sound x) P
+  with_why P (Ok done) x why = tt
+  with_why P (Err w) x why = why
 
   pub with_told : (P : Type 0) (sound : Result (Unit {0}) Refusal) (x : T) → Tells {T = Unit {0}} P sound → Tells {T = T} P (told_with sound x)
   with_told P (Ok done) x told = told

@@ -48,10 +48,10 @@ module _ {E P : Type 0} (k : Known E P) (r : Reading E P) where
     pub same : HasSamePages k r seen (records_of is.log.bodies) e.seen
     pub stays : StaysBehind seen e.seen is.log.bodies
 
-  -- the log is found and laid; or it is damaged
+  -- the log is found and laid; or it is damaged, and the device reads as before
   abbrev pub LogLaid : List ℕ → Device → Result (FoundLog E) Refusal → Type 0
   LogLaid seen e (Ok found) = IsLaid seen e found
-  LogLaid seen e (Err why) = why ≡ Damaged → HasUndamaged k r seen → ⊥
+  LogLaid seen e (Err why) = why ≡ Damaged → (e.seen ≡ seen) × (HasUndamaged k r seen → ⊥)
 
   -- a sector is no part of a page that the log of what is seen gives; where that log is damaged, none is
   abbrev pub IsSpared : List ℕ → ℕ → Type 0

@@ -98,13 +98,14 @@ module _ {B : Type 0} (shape : Members B) (is_key : B → Bool) (said : List ℕ
   IsStood class d e (Ok s) = IsFormatted class d s.parameters × IsLaid (known_for s.parameters) reading d.seen e s.log
   IsStood class d e (Err why) = MaySettle class d.sectors d.seen (Err why) ⊎ IsUnlaid class d why
 
-  -- Its log is laid, and its pages weren't found sound: a call failed, memory was refused, or they aren't.
+  -- Its log is laid, and its pages weren't found sound: a call failed; memory was refused, and no more are in use than there are; or they aren't.
   pub record IsUnsound (class : ℕ) (d e : Device) (why : Refusal) : Type 0 where
     pub parameters : Parameters
     pub formatted : IsFormatted class d parameters
     pub log : FoundLog (Entry B)
     pub laid : IsLaid (known_for parameters) reading d.seen e log
     pub cause : IsCause why
+    pub fits : why ≡ Memory → log.analysis.told.used ≤ parameters.pages
     pub unsound : why ≡ Damaged → AreSound (known_for parameters) reading (is_node f parameters.pages) log.analysis.told e.seen → ⊥
 
   -- An index stands on a device: it is formatted for it, its log is laid, and its pages are sound.

@@ -43,8 +43,10 @@ fn has_magic(sector: &[u8; SECTOR_SIZE]) -> bool
     sector[..8] == MAGIC[..]
 }
 
-// Reads what a device is formatted for, where it has the magic.
-fn told_parameters<D: SectorDisk>(disk: &mut D) -> Result<Parameters, Refusal>
+/// Reads what a device says that it is formatted for, and tests none of it. No write and no sync is made.
+///
+/// Refused where a read fails (`Device`), and where its first eight bytes aren't the magic (`NotFormatted`).
+pub fn told_parameters<D: SectorDisk>(disk: &mut D) -> Result<Parameters, Refusal>
     requires { MIN_SECTORS ≤ (D.state disk.old).sectors }
     ensures counted { Counted 0 (D.state disk.old) (D.state disk.new) result }
     ensures looks { (D.state disk.old).honest ≡ true → Looks (D.state disk.old) (D.state disk.new) }

@@ -17,8 +17,8 @@ ghost use Rattle.gx_opening.specs.Setting.{IsSoundStoreAs, AreSoundAs};
 
 use crate::notes::notes_of;
 use crate::reader::StoreReader;
+use gx_class::ReadKeys;
 use gx_disk::SectorDisk;
-use gx_durable::ReadKeys;
 use gx_geom::Refusal;
 use gx_legality::laws::what_breaks_a_rule_is_not_legal;
 use gx_legality::{LegalityFault, are_in_order, test_tree};
@@ -62,7 +62,7 @@ fn store_refusal(fault: StoreFault) -> Refusal
 }
 
 // What a refusal of a test is.
-fn test_refusal(fault: LegalityFault<StoreFault>) -> Refusal
+pub(crate) fn test_refusal(fault: LegalityFault<StoreFault>) -> Refusal
     ensures told { result ≡ refusal_of fault }
     ensures damaged { result ≡ Refusal.Damaged → IsDamage fault }
     ensures faults { refusal_fails result ≡ test_fails store_fails fault }
@@ -143,13 +143,13 @@ pub(crate) fn test_pages<D: SectorDisk, K: ReadKeys>(
     requires inside { (pages ≤ MAX_PAGES) × (PAGES_AT + PAGE_SECTORS * pages ≤ (D.state disk).sectors) }
     ensures fits { IfOk result.1 (λ _. analysis.now.told.used ≤ pages) }
     ensures cause { IfErr result.1 IsCause }
+    ensures memory { IfErr result.1 (λ why. why ≡ Refusal.Memory → analysis.now.told.used ≤ pages) }
     ensures others { OnOk result.1 (AreOfOthers (entry_cmp (keys_of K.Key.Shape)) analysis.now.told.touched) }
     ensures read { OnlyRead (D.state disk) (D.state result.0) }
     ensures faults { FaultsAre (D.state disk).faults (D.state result.0).faults result.1 }
     ensures tested { (l : Limits) → l.pages ≡ pages → l.most ≡ most → (D.state disk).honest ≡ true
         → AreOfOthers (entry_cmp (keys_of K.Key.Shape)) analysis.now.told.touched
-        → Tells (AreSoundAs K.Key.Shape K.is_proper K.said K.KeyClass l pages analysis.now.told
-        (D.state disk).seen) result.1 }
+        → Tells (AreSoundAs K.Key.Shape K.ReadKeys l pages analysis.now.told (D.state disk).seen) result.1 }
 {
     a_store_starts::<D, K>();
     let used = analysis.used();

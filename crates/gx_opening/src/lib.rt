@@ -12,6 +12,6 @@ mod reader;
 mod standing;
 
 pub use damage::{Damage, examine};
-pub use formatted::{formatted_for, read_parameters};
+pub use formatted::{formatted_for, read_parameters, told_parameters};
 pub use notes::notes_of;
 pub use standing::{Standing, find};

@@ -8,8 +8,9 @@ ghost use Rattle.gx_recovery.specs.Known.{Limits};
 ghost use Rattle.gx_durable.specs.Classes.{known_at, reading_by};
 ghost use Rattle.gx_opening.specs.Laid.{LaysFound, LaysLogOf};
 
+use gx_class::ReadKeys;
 use gx_disk::SectorDisk;
-use gx_durable::{OfClass, ReadKeys};
+use gx_durable::OfClass;
 use gx_found_log::{FoundLog, LogRoom, read_class_log, redo_log};
 use gx_geom::Refusal;
 use gx_glog::PLACES;

@@ -10,12 +10,13 @@ ghost use Rattle.gx_opening.specs.Noting.{AreOfOthers};
 ghost use Rattle.gx_opening.specs.Sound.{IsCause, Tells};
 ghost use Rattle.gx_opening.specs.Standing.{MayStart, limits_of, told_with};
 ghost use Rattle.gx_opening.specs.Setting.{AreSoundAs, StaysSafeAs, FindsInOrderAs, IsStoodAs, IsTestedAs};
+ghost use Rattle.gx_opening.specs.Setting.{LeavesDamagedAs};
 
 use crate::formatted::formatted_behind;
 use crate::legal::test_pages;
 use crate::log::lay_log;
+use gx_class::ReadKeys;
 use gx_disk::{MIN_SECTORS, SectorDisk};
-use gx_durable::ReadKeys;
 use gx_durable::class_laws::what_stands_is_legal;
 use gx_found_log::{FoundLog, LogRoom};
 use gx_geom::Refusal;
@@ -43,12 +44,13 @@ fn stand<D: SectorDisk, K: ReadKeys>(
     ensures allowed { IfOk result (λ s. IsAllowed K.CLASS s.parameters
         × IsLarge (D.state disk.old).sectors s.parameters) }
     ensures bodies { IfOk result (λ s. (1 ≤ s.log.bodies) × (s.log.bodies ≤ PLACES)) }
-    ensures safe { (D.state disk.old).honest ≡ true
-        → StaysSafeAs K.Key.Shape K.is_proper K.said K.KeyClass D.state disk.old disk.new }
+    ensures safe { (D.state disk.old).honest ≡ true → StaysSafeAs K.Key.Shape K.ReadKeys D.state disk.old disk.new }
     ensures order { (D.state disk.old).honest ≡ true
-        → FindsInOrderAs K.Key.Shape K.is_proper K.said K.KeyClass D.state disk.old disk.new result }
+        → FindsInOrderAs K.Key.Shape K.ReadKeys D.state disk.old disk.new result }
     ensures stood { (D.state disk.old).honest ≡ true
-        → IsStoodAs K.Key.Shape K.is_proper K.said K.KeyClass D.state disk.old disk.new result }
+        → IsStoodAs K.Key.Shape K.ReadKeys D.state disk.old disk.new result }
+    ensures damaged { (D.state disk.old).honest ≡ true
+        → LeavesDamagedAs K.Key.Shape K.ReadKeys D.state disk.new result }
 {
     what_stands_is_legal::<K>();
     let parameters = formatted_behind::<D, K>(disk)?;
@@ -81,9 +83,11 @@ fn tested<D: SectorDisk, K: ReadKeys>(
     ensures fits { IfOk result.1 (λ s. s.log.analysis.told.used ≤ s.parameters.pages) }
     ensures others { IfOk result.1 (λ s. AreOfOthers (entry_cmp (keys_of K.Key.Shape)) s.log.analysis.told.touched) }
     ensures cause { IfErr result.1 IsCause }
+    ensures memory { IfErr result.1 (λ why. why ≡ Refusal.Memory
+        → standing.log.analysis.told.used ≤ standing.parameters.pages) }
     ensures tested { (D.state disk).honest ≡ true
         → AreOfOthers (entry_cmp (keys_of K.Key.Shape)) standing.log.analysis.told.touched
-        → Tells (AreSoundAs K.Key.Shape K.is_proper K.said K.KeyClass (limits_of standing.parameters)
+        → Tells (AreSoundAs K.Key.Shape K.ReadKeys (limits_of standing.parameters)
         standing.parameters.pages standing.log.analysis.told (D.state disk).seen) result.1 }
 {
     let Parameters { pages, most, .. } = standing.parameters;
@@ -104,12 +108,11 @@ fn find_in<D: SectorDisk, K: ReadKeys>(
         × IsLarge (D.state disk).sectors s.parameters) }
     ensures starts { IfOk result.1 MayStart }
     ensures others { IfOk result.1 (λ s. AreOfOthers (entry_cmp (keys_of K.Key.Shape)) s.log.analysis.told.touched) }
-    ensures safe { (D.state disk).honest ≡ true
-        → StaysSafeAs K.Key.Shape K.is_proper K.said K.KeyClass D.state disk result.0 }
+    ensures safe { (D.state disk).honest ≡ true → StaysSafeAs K.Key.Shape K.ReadKeys D.state disk result.0 }
     ensures order { (D.state disk).honest ≡ true
-        → FindsInOrderAs K.Key.Shape K.is_proper K.said K.KeyClass D.state disk result.0 result.1 }
-    ensures tested { (D.state disk).honest ≡ true
-        → IsTestedAs K.Key.Shape K.is_proper K.said K.KeyClass D.state disk result.0 result.1 }
+        → FindsInOrderAs K.Key.Shape K.ReadKeys D.state disk result.0 result.1 }
+    ensures tested { (D.state disk).honest ≡ true → IsTestedAs K.Key.Shape K.ReadKeys D.state disk result.0 result.1 }
+    ensures damaged { (D.state disk).honest ≡ true → LeavesDamagedAs K.Key.Shape K.ReadKeys D.state result.0 result.1 }
 {
     what_stands_is_legal::<K>();
     let mut disk = disk;
@@ -126,10 +129,11 @@ fn find_in<D: SectorDisk, K: ReadKeys>(
 /// fewer sectors than that index takes (`TooSmall`), with a damaged log, or pages that can't be read, aren't a legal
 /// tree, or haven't what open transactions touched in its place (`Damaged`); and where a call fails (`Device`), or
 /// memory is refused (`Memory`). All memory that the log takes is taken before the first call, and a damaged log is
-/// never refused as `Memory` behind it. At each moment a crash may leave what it could at the start, or an image with
-/// the log that was found and after it the same pages. A sync comes before the first write, and of the sectors only
-/// those of pages that the log gives are written. What is found has the numbers that an engine may start with, and its
-/// open transactions have touched no entry twice, whatever the device is.
+/// never refused as `Memory` behind it, nor are more pages in use than there are. What is refused as damaged is left so
+/// that [`crate::examine`] finds damage there. At each moment a crash may leave what it could at the start, or an image
+/// with the log that was found and after it the same pages. A sync comes before the first write, and of the sectors
+/// only those of pages that the log gives are written. What is found has the numbers that an engine may start with, and
+/// its open transactions have touched no entry twice, whatever the device is.
 pub fn find<D: SectorDisk, K: ReadKeys>(
     alloc: Global,
     disk: D,
@@ -141,12 +145,12 @@ pub fn find<D: SectorDisk, K: ReadKeys>(
     ensures starts { IfOk result.1 MayStart }
     ensures others { IfOk result.1 (λ s. AreOfOthers (entry_cmp (keys_of K.Key.Shape)) s.log.analysis.told.touched) }
     ensures small { (D.state disk).sectors < MIN_SECTORS → (result.1 ≡ Err Refusal.TooSmall) × (result.0 ≡ disk) }
-    ensures safe { (D.state disk).honest ≡ true
-        → StaysSafeAs K.Key.Shape K.is_proper K.said K.KeyClass D.state disk result.0 }
+    ensures safe { (D.state disk).honest ≡ true → StaysSafeAs K.Key.Shape K.ReadKeys D.state disk result.0 }
     ensures order { (D.state disk).honest ≡ true
-        → FindsInOrderAs K.Key.Shape K.is_proper K.said K.KeyClass D.state disk result.0 result.1 }
+        → FindsInOrderAs K.Key.Shape K.ReadKeys D.state disk result.0 result.1 }
     ensures tested { (D.state disk).honest ≡ true → MIN_SECTORS ≤ (D.state disk).sectors
-        → IsTestedAs K.Key.Shape K.is_proper K.said K.KeyClass D.state disk result.0 result.1 }
+        → IsTestedAs K.Key.Shape K.ReadKeys D.state disk result.0 result.1 }
+    ensures damaged { (D.state disk).honest ≡ true → LeavesDamagedAs K.Key.Shape K.ReadKeys D.state result.0 result.1 }
 {
     if disk.sectors() < MIN_SECTORS {
         return (disk, Err(Refusal::TooSmall));

@@ -1,7 +1,6 @@
 -- Each call that is asked and answered is a run of the machine, and so is a script.
 use Rattle.std.proofs.Common.{◌≡◌, ℕ, ◌+◌, Bool, true, false, ◌⊎◌, inl, inr, List, [], ◌∷◌, ◌++◌, length, refl, ap, sym, ◌∙◌, subst, rules, append_assoc}
 use Rattle.std.specs.Prelude.{Option, None, Some, option_map, Result, Ok, Err}
-use Rattle.gx_geom.specs.Rectangles.{Rectangle}
 use Rattle.gx_geom.specs.declared.refusal.Refusal.{Refusal}
 use Rattle.gx_geom.specs.declared.refusal.Refusal.TheVariants.{BadSession, HistoryFull, Memory}
 use Rattle.gx_machine.specs.declared.entry.Entry.{Entry}
@@ -23,8 +22,8 @@ use Rattle.gx_machine.proofs.RunLemmas.{join}
 use Rattle.gx_machine.proofs.StepEffects.{asked_session, asked_there}
 use Rattle.gx_script.specs.declared.line.Line.{Line}
 use Rattle.gx_script.specs.declared.line.Line.TheVariants.{Blank, Bad, Reversed, Asks as Wants}
+use Rattle.gx_script.specs.Corners.{Grammar}
 use Rattle.gx_script.specs.Scripts.{IsScript, asked_as}
-use Rattle.gx_plain.specs.Boxes.{box_keys}
 use Rattle.gx_plain.specs.Index.{Index, ask_index, AnswersIndex, AnswersAsked, CallsIndex}
 use Rattle.gx_plain.specs.Runs.{IsPlain, AskIsRun, AnswerIsRun}
 use Rattle.gx_plain.specs.OneRun.{IsCallRun, Tells, IsOneRun}
@@ -177,46 +176,46 @@ module _ {B : Type 0} (k : Keys B) where
   joined before after = ap calls_and_replies (records_join before after) ∙ calls_join (record_of before) (record_of after)
 
 -- What the lines of a script ask and are answered is one run.
-pub script_run : (number : ℕ) (lines : List Line) (old new : Index Rectangle) (text : List ℕ) → IsPlain old → IsScript (CallsIndex box_keys) number lines old text new
-    → IsOneRun number lines old.machine new.machine text
-script_run number [] old new text plain script = record { steps = []; runs = ap (λ (index : Index Rectangle). index.machine) script.1; tells = (refl, script.0) }
-script_run number (Blank ∷ more) old new text plain script =
+pub script_run : {B : Type 0} (grammar : Grammar B) (k : Keys B) (number : ℕ) (lines : List (Line B)) (old new : Index B) (text : List ℕ) → IsPlain old
+    → IsScript grammar (CallsIndex k) number lines old text new → IsOneRun grammar k number lines old.machine new.machine text
+script_run {B} grammar k number [] old new text plain script = record { steps = []; runs = ap (λ (index : Index B). index.machine) script.1; tells = (refl, script.0) }
+script_run {B} grammar k number (Blank ∷ more) old new text plain script =
     let told = script.3 in
-    let rest = script_run (number + 1) more script.2 new script.1 (subst IsPlain (sym told.1) plain) script.4 in
+    let rest = script_run grammar k (number + 1) more script.2 new script.1 (subst IsPlain (sym told.1) plain) script.4 in
     record {
       steps = rest.steps;
-      runs = subst (λ (index : Index Rectangle). IsRun box_keys index.machine rest.steps new.machine) told.1 rest.runs;
-      tells = subst (λ (t : List ℕ). Tells (number + 1) more (calls_and_replies (record_of rest.steps)) t) (sym (script.5 ∙ ap (λ (t : List ℕ). t ++ script.1) told.0)) rest.tells;
+      runs = subst (λ (index : Index B). IsRun k index.machine rest.steps new.machine) told.1 rest.runs;
+      tells = subst (λ (t : List ℕ). Tells grammar (number + 1) more (calls_and_replies (record_of rest.steps)) t) (sym (script.5 ∙ ap (λ (t : List ℕ). t ++ script.1) told.0)) rest.tells;
     }
-script_run number (Bad ∷ more) old new text plain script =
+script_run {B} grammar k number (Bad ∷ more) old new text plain script =
     let told = script.3 in
-    let rest = script_run (number + 1) more script.2 new script.1 (subst IsPlain (sym told.1) plain) script.4 in
+    let rest = script_run grammar k (number + 1) more script.2 new script.1 (subst IsPlain (sym told.1) plain) script.4 in
     record {
       steps = rest.steps;
-      runs = subst (λ (index : Index Rectangle). IsRun box_keys index.machine rest.steps new.machine) told.1 rest.runs;
+      runs = subst (λ (index : Index B). IsRun k index.machine rest.steps new.machine) told.1 rest.runs;
       tells = (script.1, script.5 ∙ ap (λ (t : List ℕ). t ++ script.1) told.0, rest.tells);
     }
-script_run number (Reversed session ∷ more) old new text plain script =
+script_run {B} grammar k number (Reversed session ∷ more) old new text plain script =
     let told = script.3 in
-    let rest = script_run (number + 1) more script.2 new script.1 (subst IsPlain (sym told.1) plain) script.4 in
+    let rest = script_run grammar k (number + 1) more script.2 new script.1 (subst IsPlain (sym told.1) plain) script.4 in
     record {
       steps = rest.steps;
-      runs = subst (λ (index : Index Rectangle). IsRun box_keys index.machine rest.steps new.machine) told.1 rest.runs;
+      runs = subst (λ (index : Index B). IsRun k index.machine rest.steps new.machine) told.1 rest.runs;
       tells = (script.1, script.5 ∙ ap (λ (t : List ℕ). t ++ script.1) told.0, rest.tells);
     }
-script_run number (Wants session call ∷ more) old new text plain script =
+script_run {B} grammar k number (Wants session call ∷ more) old new text plain script =
     let told = script.3 in
     let middle = script.2 in
-    let first = call_run box_keys (asked_as session) call old middle told.0 plain told.1 in
-    let rest = script_run (number + 1) more middle new script.1 (call_plain box_keys (asked_as session) call old middle told.0 plain told.1) script.4 in
+    let first = call_run k (asked_as session) call old middle told.0 plain told.1 in
+    let rest = script_run grammar k (number + 1) more middle new script.1 (call_plain k (asked_as session) call old middle told.0 plain told.1) script.4 in
     record {
       steps = first.steps ++ rest.steps;
-      runs = join box_keys first.steps rest.steps old.machine middle.machine new.machine first.runs rest.runs;
+      runs = join k first.steps rest.steps old.machine middle.machine new.machine first.runs rest.runs;
       tells = (
         told.0,
         calls_and_replies (record_of rest.steps),
         script.1,
-        joined box_keys first.steps rest.steps ∙ ap (λ (items : List (Item Rectangle)). items ++ calls_and_replies (record_of rest.steps)) first.record_is,
+        joined k first.steps rest.steps ∙ ap (λ (items : List (Item B)). items ++ calls_and_replies (record_of rest.steps)) first.record_is,
         script.5 ∙ ap (λ (t : List ℕ). t ++ script.1) told.2,
         rest.tells,
       );

@@ -4,7 +4,6 @@ use Rattle.std.specs.Prelude.{Option, None, Some, option_map, unwrap_or, Result,
 use Rattle.std.specs.Option.{option_or}
 use Rattle.std.specs.List.{list_all}
 use Rattle.std.proofs.Math.Decide.{ℕ_discrete}
-use Rattle.gx_geom.specs.Rectangles.{Rectangle}
 use Rattle.gx_geom.specs.declared.refusal.Refusal.{Refusal}
 use Rattle.gx_geom.specs.declared.refusal.Refusal.TheVariants as refusal
 use Rattle.gx_machine.specs.declared.entry.Entry.{Entry}
@@ -26,9 +25,9 @@ use Rattle.gx_machine.proofs.SessionMoves.{value_of}
 use Rattle.gx_machine.proofs.StepEffects.{mapped, asked_session, asked_there}
 use Rattle.gx_script.specs.declared.line.Line.{Line}
 use Rattle.gx_script.specs.declared.line.Line.TheVariants.{Blank, Bad, Reversed, Asks as Wants}
+use Rattle.gx_script.specs.Corners.{Grammar}
 use Rattle.gx_script.specs.Replies.{bad_line, reply_text}
 use Rattle.gx_script.specs.Scripts.{IsScript, asked_as}
-use Rattle.gx_plain.specs.Boxes.{box_keys}
 use Rattle.gx_plain.specs.Index.{CallsIndex, Index, answer_machine, commit}
 use Rattle.gx_plain.specs.OneRun.{IsCallRun, is_in_call}
 use Rattle.gx_plain.specs.Runs.{IsPlain}
@@ -424,11 +423,11 @@ module _ {B : Type 0} (k : Keys B) where
 -- ---- the text of a script
 
 -- indexes of some kind, each seen as a machine, whose calls decide their replies
-module _ {I : Type 0} (answered : I → ℕ → Call Rectangle → Reply Rectangle → I → Type 0) (Is : I → Machine Rectangle → Type 0)
-    (each : (old : I) (s : ℕ) (call : Call Rectangle) (r : Reply Rectangle) (new : I) (m : Machine Rectangle) → Is old m → Rests m → answered old s call r new → is_decided r ≡ true
-    → (n : Machine Rectangle) × Is new n × IsDecidedCall box_keys s call r m n) where
-  pub script_text : (number : ℕ) (lines : List Line) (old new : I) (text : List ℕ) (m : Machine Rectangle) → Is old m → Rests m
-      → IsScript (AnswersDecided answered) number lines old text new → text ≡ decided_text number lines (seen_by_calls m)
+module _ {B I : Type 0} (grammar : Grammar B) (k : Keys B) (answered : I → ℕ → Call B → Reply B → I → Type 0) (Is : I → Machine B → Type 0)
+    (each : (old : I) (s : ℕ) (call : Call B) (r : Reply B) (new : I) (m : Machine B) → Is old m → Rests m → answered old s call r new → is_decided r ≡ true
+    → (n : Machine B) × Is new n × IsDecidedCall k s call r m n) where
+  pub script_text : (number : ℕ) (lines : List (Line B)) (old new : I) (text : List ℕ) (m : Machine B) → Is old m → Rests m
+      → IsScript grammar (AnswersDecided answered) number lines old text new → text ≡ decided_text grammar k number lines (seen_by_calls m)
   script_text number [] old new text m is rests script = script.0
   script_text number (Blank ∷ more) old new text m is rests script =
       let rest = script_text (number + 1) more script.2 new script.1 m (subst (λ (x : I). Is x m) (sym script.3.1) is) rests script.4 in
@@ -438,33 +437,33 @@ module _ {I : Type 0} (answered : I → ℕ → Call Rectangle → Reply Rectang
       script.5 ∙ ap (λ (t : List ℕ). t ++ script.1) script.3.0 ∙ ap (λ (t : List ℕ). bad_line number ++ t) rest
   script_text number (Reversed session ∷ more) old new text m is rests script =
       let rest = script_text (number + 1) more script.2 new script.1 m (subst (λ (x : I). Is x m) (sym script.3.1) is) rests script.4 in
-      script.5 ∙ ap (λ (t : List ℕ). t ++ script.1) script.3.0 ∙ ap (λ (t : List ℕ). reply_text session (reply.Refused refusal.BadBox) ++ t) rest
+      script.5 ∙ ap (λ (t : List ℕ). t ++ script.1) script.3.0 ∙ ap (λ (t : List ℕ). reply_text grammar session (reply.Refused refusal.BadBox) ++ t) rest
   script_text number (Wants session call ∷ more) old new text m is rests script =
       let told = script.3 in
       let on = each old (asked_as session) call told.0 script.2 m is rests told.1.0 told.1.1 in
       let rest = script_text (number + 1) more script.2 new script.1 on.0 on.1 on.2.rests script.4 in
-      script.5 ∙ ap (λ (t : List ℕ). t ++ script.1) told.2 ∙ ap (λ (t : List ℕ). reply_text session told.0 ++ t) rest
-      ∙ ap (λ (p : Reply Rectangle × Machine Rectangle). reply_text session p.0 ++ decided_text (number + 1) more p.1) (sym on.2.decides)
+      script.5 ∙ ap (λ (t : List ℕ). t ++ script.1) told.2 ∙ ap (λ (t : List ℕ). reply_text grammar session told.0 ++ t) rest
+      ∙ ap (λ (p : Reply B × Machine B). reply_text grammar session p.0 ++ decided_text grammar k (number + 1) more p.1) (sym on.2.decides)
 
 -- so of the plain index
-plain_seen_by : (m : Machine Rectangle) → m.older ≡ [] → m.failed ≡ false → seen_by_calls m ≡ m
+plain_seen_by : {B : Type 0} (m : Machine B) → m.older ≡ [] → m.failed ≡ false → seen_by_calls m ≡ m
 plain_seen_by m durable works =
     let number : m.oldest + length m.older ≡ m.oldest = (let none : length m.older ≡ 0 = ap length durable in omega (arith, none)) in
     rw (number, durable, works) refl
 
-abbrev IsSeen : Index Rectangle → Machine Rectangle → Type 0
+abbrev IsSeen : {B : Type 0} → Index B → Machine B → Type 0
 IsSeen index m = IsPlain index × (index.machine ≡ m)
 
-each_plain : (old : Index Rectangle) (s : ℕ) (call : Call Rectangle) (r : Reply Rectangle) (new : Index Rectangle) (m : Machine Rectangle) → IsSeen old m → Rests m
-    → CallsIndex box_keys old s call r new → is_decided r ≡ true → (n : Machine Rectangle) × IsSeen new n × IsDecidedCall box_keys s call r m n
-each_plain old s call r new m is rests calls decided = (
+each_plain : {B : Type 0} (k : Keys B) (old : Index B) (s : ℕ) (call : Call B) (r : Reply B) (new : Index B) (m : Machine B) → IsSeen old m → Rests m
+    → CallsIndex k old s call r new → is_decided r ≡ true → (n : Machine B) × IsSeen new n × IsDecidedCall k s call r m n
+each_plain {B} k old s call r new m is rests calls decided = (
   new.machine,
-  (call_plain box_keys s call old new r is.0 calls, refl),
-  call_decides box_keys s call r m new.machine decided rests (subst (λ (x : Machine Rectangle). IsCallRun box_keys s call r x new.machine) is.1 (call_run box_keys s call old new r is.0 calls)),
+  (call_plain k s call old new r is.0 calls, refl),
+  call_decides k s call r m new.machine decided rests (subst (λ (x : Machine B). IsCallRun k s call r x new.machine) is.1 (call_run k s call old new r is.0 calls)),
 )
 
-pub plain_text : (number : ℕ) (lines : List Line) (old new : Index Rectangle) (text : List ℕ) → IsPlain old → Rests old.machine
-    → IsScript (AnswersDecided (CallsIndex box_keys)) number lines old text new → text ≡ decided_text number lines old.machine
-plain_text number lines old new text plain rests script =
-    script_text (CallsIndex box_keys) IsSeen each_plain number lines old new text old.machine (plain, refl) rests script
-    ∙ ap (λ (x : Machine Rectangle). decided_text number lines x) (plain_seen_by old.machine plain.durable plain.runs)
+pub plain_text : {B : Type 0} (grammar : Grammar B) (k : Keys B) (number : ℕ) (lines : List (Line B)) (old new : Index B) (text : List ℕ) → IsPlain old → Rests old.machine
+    → IsScript grammar (AnswersDecided (CallsIndex k)) number lines old text new → text ≡ decided_text grammar k number lines old.machine
+plain_text {B} grammar k number lines old new text plain rests script =
+    script_text grammar k (CallsIndex k) IsSeen (each_plain k) number lines old new text old.machine (plain, refl) rests script
+    ∙ ap (λ (x : Machine B). decided_text grammar k number lines x) (plain_seen_by old.machine plain.durable plain.runs)

@@ -1,6 +1,5 @@
 -- What calls alone decide: a reply, and the text of a script, where nothing is refused for a cause that isn't the machine's.
 use Rattle.std.specs.Prelude.{ℕ, ◌≡◌, ◌+◌, Bool, true, false, length, List, [], ◌∷◌, ◌++◌}
-use Rattle.gx_geom.specs.Rectangles.{Rectangle}
 use Rattle.gx_geom.specs.declared.refusal.Refusal.{Refusal}
 use Rattle.gx_geom.specs.declared.refusal.Refusal.TheVariants as refusal
 use Rattle.gx_machine.specs.declared.limits.TheConstants.{SESSIONS}
@@ -14,9 +13,9 @@ use Rattle.gx_machine.specs.Sessions.{is_unanswered}
 use Rattle.gx_machine.specs.Machine.{Machine, newest, session_at, ask}
 use Rattle.gx_script.specs.declared.line.Line.{Line}
 use Rattle.gx_script.specs.declared.line.Line.TheVariants.{Blank, Bad, Reversed, Asks}
+use Rattle.gx_script.specs.Corners.{Grammar}
 use Rattle.gx_script.specs.Replies.{reply_text, bad_line}
 use Rattle.gx_script.specs.Scripts.{asked_as}
-use Rattle.gx_plain.specs.Boxes.{box_keys}
 use Rattle.gx_plain.specs.Index.{answer_machine}
 
 -- a reply that calls alone decide: all but a refusal because pages, memory or numbers are used up, or for a fault
@@ -57,13 +56,15 @@ abbrev pub decided_call : {B : Type 0} → Keys B → ℕ → Call B → Machine
 decided_call k s call m = answered_by k s (ask k s call m).0 (ask k s call m).1
 
 -- the text of lines, the first of which has this number
-abbrev pub decided_text : ℕ → List Line → Machine Rectangle → List ℕ
-decided_text number [] m = []
-decided_text number (Blank ∷ more) m = decided_text (number + 1) more m
-decided_text number (Bad ∷ more) m = bad_line number ++ decided_text (number + 1) more m
-decided_text number (Reversed session ∷ more) m = reply_text session (reply.Refused refusal.BadBox) ++ decided_text (number + 1) more m
-decided_text number (Asks session call ∷ more) m =
-    reply_text session (decided_call box_keys (asked_as session) call m).0 ++ decided_text (number + 1) more (decided_call box_keys (asked_as session) call m).1
+abbrev pub decided_text : {B : Type 0} → Grammar B → Keys B → ℕ → List (Line B) → Machine B → List ℕ
+decided_text grammar k number [] m = []
+decided_text grammar k number (Blank ∷ more) m = decided_text grammar k (number + 1) more m
+decided_text grammar k number (Bad ∷ more) m = bad_line number ++ decided_text grammar k (number + 1) more m
+decided_text grammar k number (Reversed session ∷ more) m =
+    reply_text grammar session (reply.Refused refusal.BadBox) ++ decided_text grammar k (number + 1) more m
+decided_text grammar k number (Asks session call ∷ more) m =
+    reply_text grammar session (decided_call k (asked_as session) call m).0
+    ++ decided_text grammar k (number + 1) more (decided_call k (asked_as session) call m).1
 
 -- a call of the machine is answered as it alone decides, and the machine rests again
 pub record IsDecidedCall {B : Type 0} (k : Keys B) (s : ℕ) (call : Call B) (r : Reply B) (old new : Machine B) : Type 0 where

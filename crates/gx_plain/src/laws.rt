@@ -7,13 +7,12 @@ ghost use Rattle.gx_machine.specs.declared.reply.Reply.{Reply};
 ghost use Rattle.gx_machine.specs.Keys.{Keys};
 ghost use Rattle.gx_machine.specs.Machine.{Machine};
 ghost use Rattle.gx_plain.specs.Index.{Index, AnswersIndex, SealsIndex, DropsIndex, ask_index, fresh_index};
-ghost use Rattle.gx_plain.specs.Boxes.{box_keys};
 ghost use Rattle.gx_plain.specs.Decided.{AnswersDecided, IsDecidedCall, Rests, decided_text, is_decided};
 ghost use Rattle.gx_plain.specs.Index.{CallsIndex};
 ghost use Rattle.gx_plain.specs.OneRun.{IsCallRun, IsOneRun};
 ghost use Rattle.gx_plain.specs.Runs.{IsPlain, AskIsRun, AnswerIsRun};
-ghost use Rattle.gx_geom.specs.Rectangles.{Rectangle};
 ghost use Rattle.gx_script.specs.declared.line.Line.{Line};
+ghost use Rattle.gx_script.specs.Corners.{Grammar};
 ghost use Rattle.gx_script.specs.Scripts.{IsScript};
 
 pub use gx_machine::laws::{
@@ -74,10 +73,10 @@ pub fn each_call_is_a_run<B>()
 
 /// What the lines of a script ask and are answered is one run of the machine, joined over all lines, whatever pieces
 /// the script came in; its replies are those of the text.
-pub fn each_script_is_one_run()
-    ensures { (number : ℕ) (lines : List Line) (old new : Index Rectangle) (text : List ℕ) → IsPlain old
-        → IsScript (CallsIndex box_keys) number lines old text new
-        → IsOneRun number lines old.machine new.machine text }
+pub fn each_script_is_one_run<B>()
+    ensures { (grammar : Grammar B) (k : Keys B) (number : ℕ) (lines : List (Line B)) (old new : Index B)
+        (text : List ℕ) → IsPlain old → IsScript grammar (CallsIndex k) number lines old text new
+        → IsOneRun grammar k number lines old.machine new.machine text }
 {}
 
 /// A run of the machine in which one call is asked and answered, from where no call is open and no fault has come, is
@@ -92,8 +91,9 @@ pub fn a_call_alone_decides_its_reply<B>()
 
 /// What the lines of a script are answered, where each reply is decided by the calls,
 /// has the text that the calls alone decide.
-pub fn texts_are_decided_by_calls()
-    ensures { (number : ℕ) (lines : List Line) (old new : Index Rectangle) (text : List ℕ)
-        → IsPlain old → Rests old.machine → IsScript (AnswersDecided (CallsIndex box_keys)) number lines old text new
-        → text ≡ decided_text number lines old.machine }
+pub fn texts_are_decided_by_calls<B>()
+    ensures { (grammar : Grammar B) (k : Keys B) (number : ℕ) (lines : List (Line B)) (old new : Index B)
+        (text : List ℕ) → IsPlain old → Rests old.machine
+        → IsScript grammar (AnswersDecided (CallsIndex k)) number lines old text new
+        → text ≡ decided_text grammar k number lines old.machine }
 {}

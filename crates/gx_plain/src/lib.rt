@@ -12,6 +12,6 @@ mod slot;
 mod views;
 
 pub use gx_machine::{Asked, Call, Entries, Entry, Query, Reply};
-pub use gx_script::{Noted, ScriptFault};
+pub use gx_script::{Corners, Noted, ScriptFault};
 pub use index::PlainIndex;
 pub use script::run_plain;

@@ -4,6 +4,7 @@ use Rattle.std.specs.Prelude.{Result, Ok, Err}
 use Rattle.std.proofs.lemmas.List.{length-map}
 use Rattle.gx_geom.specs.declared.refusal.Refusal.{Refusal}
 use Rattle.gx_geom.specs.declared.refusal.Refusal.TheVariants.{Damaged}
+use Rattle.gx_class.specs.Traits.{traits_of}
 use Rattle.gx_class.specs.declared.class.KeyClass.{Ghosts}
 use Rattle.gx_machine.specs.declared.entry.Entry.{Entry}
 use Rattle.gx_machine.specs.declared.call.Call.{Call}
@@ -127,7 +128,7 @@ module _ {B D : Type 0} (c : Class B) (lawful : IsLawful c) (r : Reading (Entry 
 
 module _ {C B D : Type 0} (shape : Members B) (proper : B → Bool) (said : List ℕ → B) (class : Ghosts C B) (state : D → Device) (l : Limits) where
   abbrev makes : Parts B D → Event B → Outcome B → Parts B D → Type 0
-  makes = Makes shape proper said class state
+  makes = Makes shape (traits_of proper said class) state
 
   abbrev Runs : Parts B D → Parts B D → Type 0
   Runs = RunsOn (class_of shape proper l) (reading_of said (format_of class)) (format_of class) (is_node (format_of class)) state
@@ -179,13 +180,13 @@ module _ {C B D : Type 0} (shape : Members B) (proper : B → Bool) (said : List
   was_called false old s call reply new was never (inr given_up) = absurd (never given_up.0)
 
   pub call_alone : (old : State B D) (s : ℕ) (call : Call B) (reply : Reply B) (new : State B D) → CallsIndex makes old s call reply new → old.ended ≡ false
-      → AskedEnds shape proper said class state l → IsLawful (class_of shape proper l) → Alone s call reply old.engine new.engine
+      → AskedEnds shape (traits_of proper said class) state l → IsLawful (class_of shape proper l) → Alone s call reply old.engine new.engine
   call_alone old s call reply new calls was never lawful bodies i h =
       called_alone old.engine s call reply new.engine (was_called old.ended old s call reply new was (never old.engine new.engine s call bodies i h) calls).0 lawful bodies i h
 
   -- and the index goes on
   pub call_goes_on : (old : State B D) (s : ℕ) (call : Call B) (reply : Reply B) (new : State B D) → CallsIndex makes old s call reply new → old.ended ≡ false
-      → AskedEnds shape proper said class state l → (bodies : List (List (Record (Entry B) (Page B)))) (i : index.State B) → HoldsIndex shape proper said class state l old.engine bodies i
+      → AskedEnds shape (traits_of proper said class) state l → (bodies : List (List (Record (Entry B) (Page B)))) (i : index.State B) → HoldsIndex shape (traits_of proper said class) state l old.engine bodies i
       → new.ended ≡ false
   call_goes_on old s call reply new calls was never bodies i h =
       (was_called old.ended old s call reply new was (never old.engine new.engine s call bodies i h) calls).1

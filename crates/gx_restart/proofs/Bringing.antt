@@ -2,6 +2,7 @@
 use Rattle.std.proofs.Common.{◌≡◌, inl, inr, ℕ, zero, suc, ◌+◌, Bool, true, false, List, [], ◌∷◌, ◌++◌, length-append, refl, ap, sym, ◌∙◌, subst}
 use Rattle.std.specs.Prelude.{Result, Ok, Err}
 use Rattle.gx_geom.specs.declared.refusal.Refusal.{Refusal}
+use Rattle.gx_class.specs.Traits.{traits_of}
 use Rattle.gx_class.specs.declared.class.KeyClass.{Ghosts}
 use Rattle.gx_disk.specs.Device.{Device}
 use Rattle.gx_machine.specs.Keys.{Members}
@@ -187,10 +188,10 @@ module _ {B D : Type 0} where
 
 module _ {C B D : Type 0} (shape : Members B) (proper : B → Bool) (said : List ℕ → B) (class : Ghosts C B) (state : D → Device) where
   abbrev pub brings : ℕ → Parts B D → Result (Unit {0}) (Outcome B) → Parts B D → Type 0
-  brings page old result new = Brings shape proper said class state page old result new
+  brings page old result new = Brings shape (traits_of proper said class) state page old result new
 
   abbrev pub helps : Need → Parts B D → Outcome B → Parts B D → Type 0
-  helps = Helps shape proper said class state
+  helps = Helps shape (traits_of proper said class) state
 
   -- a page that was brought, with what came of it named otherwise
   pub told_as : (page : ℕ) (old new : Parts B D) (given named : Outcome B) → given ≡ named → brings page old (Err given) new → brings page old (Err named) new

@@ -31,6 +31,7 @@ use Rattle.gx_index_laws.specs.Classes.{Page}
 use Rattle.gx_machine.specs.declared.entry.Entry.{Entry}
 use Rattle.gx_machine.specs.Keys.{Members}
 use Rattle.gx_machine.specs.Sets.{IsSetOf}
+use Rattle.gx_class.specs.Traits.{traits_of}
 use Rattle.gx_class.specs.declared.class.KeyClass.{Ghosts}
 use Rattle.gx_node.specs.Reading.{Format, format_of}
 use Rattle.gx_format.specs.Formatting.{AreInRange, sectors_of}
@@ -275,7 +276,7 @@ module _ {C B D : Type 0} (shape : Members B) (is_key : B → Bool) (said : List
   unfailed other is (inl device) = (let no : refusal.Damaged ≡ refusal.Device = sym is ∙ device in cc)
   unfailed other is (inr memory) = (let no : refusal.Damaged ≡ refusal.Memory = sym is ∙ memory in cc)
 
-  pub damaged_left : (why : Refusal) → refusal_of_copy why ≡ refusal.Damaged → RefusedInOrder shape is_key said class state why d e → Left
+  pub damaged_left : (why : Refusal) → refusal_of_copy why ≡ refusal.Damaged → RefusedInOrder shape (traits_of is_key said class) state why d e → Left
   damaged_left why is refused = in_order (refused.laid (unfailed why is))
 
 -- what an opening of a copy is refused for
@@ -321,6 +322,11 @@ module _ {B D : Type 0} (shape : Members B) (is_key : B → Bool) (said : List �
   refused_so why (inr (inr (inr (inl stopped)))) = failed_so why stopped.cause
   refused_so why (inr (inr (inr (inr room)))) = failed_so why (inr room.0)
 
+-- what a copy is told to be damaged for
+pub damaged_as : (why : Refusal) → refusal_of_copy why ≡ refusal.Damaged → why ≡ refusal.Damaged
+damaged_as refusal.Device is = cc
+damaged_as other is = is
+
 pub never_device : (why : Refusal) → refusal_of_copy why ≡ refusal.Device → ⊥
 never_device refusal.Device is = cc
 never_device other is = cc
@@ -359,6 +365,12 @@ pub uncopied_unverified : {B : Type 0} (shape : Members B) (is_key : B → Bool)
     → IsUnverified shape is_key said f class d why
 uncopied_unverified shape is_key said f class d why (inl settles) = inl settles
 uncopied_unverified shape is_key said f class d why (inr lacks) = inr (inr lacks)
+
+-- and what isn't copied isn't damaged
+pub uncopied_undamaged : {B : Type 0} (shape : Members B) (is_key : B → Bool) (said : List ℕ → B) (f : Format B) (class : ℕ) (d : Device) (why : Refusal) → IsUncopied shape is_key said f class d why
+    → why ≡ refusal.Damaged → ⊥
+uncopied_undamaged shape is_key said f class d why (inl settles) is = subst (λ w. MaySettle class d.sectors d.seen (Err w)) is settles
+uncopied_undamaged shape is_key said f class d why (inr lacks) is = (let no : refusal.Damaged ≡ refusal.Memory = sym is ∙ lacks.0 in cc)
 
 pub large_enough : {M : Type 0} (state : M → Device) (n : ℕ) → MIN_SECTORS ≤ n → (result : Result M Refusal) → IfOk result (λ m. (state m).sectors ≡ n) → IfOk result (λ m. MIN_SECTORS ≤ (state m).sectors)
 large_enough state n least (Ok m) is = omega (arith, is, least)

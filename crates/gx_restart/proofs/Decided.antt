@@ -1,13 +1,13 @@
 -- The text of a script for an index is the one that its calls alone decide.
 use Rattle.std.proofs.Common.{◌≡◌, ◌∙◌, ℕ, ◌+◌, Bool, true, false, List, [], length, refl, ap, sym, subst, arith}
+use Rattle.gx_class.specs.Traits.{traits_of}
 use Rattle.gx_class.specs.declared.class.KeyClass.{Ghosts}
 use Rattle.gx_disk.specs.Device.{Device}
-use Rattle.gx_geom.specs.Rectangles.{Rectangle}
 use Rattle.gx_machine.specs.declared.call.Call.{Call}
 use Rattle.gx_machine.specs.declared.entry.Entry.{Entry}
 use Rattle.gx_machine.specs.declared.reply.Reply.{Reply}
 use Rattle.gx_machine.proofs.Places.{at_idle}
-use Rattle.gx_machine.specs.Keys.{Keys, Members}
+use Rattle.gx_machine.specs.Keys.{Members, keys_of}
 use Rattle.gx_machine.specs.Machine.{Machine, session_at}
 use Rattle.gx_machine.specs.Sessions.{Session, is_unanswered}
 use Rattle.gx_events.specs.Engines.{SeenAs, opened_machine}
@@ -18,11 +18,10 @@ use Rattle.gx_index_laws.specs.States as index
 use Rattle.gx_index_laws.specs.States.{engine_of}
 use Rattle.gx_durable.specs.Classes.{class_of}
 use Rattle.gx_script.specs.declared.line.Line.{Line}
+use Rattle.gx_script.specs.Corners.{Grammar}
 use Rattle.gx_script.specs.Scripts.{IsScript}
-use Rattle.gx_plain.specs.Boxes.{box_keys}
 use Rattle.gx_plain.specs.Decided.{AnswersDecided, IsDecidedCall, Rests, decided_text, is_decided, seen_by_calls}
 use Rattle.gx_plain.specs.Index.{CallsIndex as CallsPlain, Index}
-use Rattle.gx_plain.specs.OneRun.{IsCallRun}
 use Rattle.gx_plain.specs.Runs.{IsPlain}
 use Rattle.gx_plain.proofs.Decided.{call_decides, plain_text, script_text}
 use Rattle.gx_engine.specs.Helping.{AskedEnds, HoldsIndex}
@@ -33,36 +32,36 @@ use Rattle.gx_restart.specs.States.{State}
 use Rattle.gx_restart.proofs.Alone.{call_alone, call_goes_on}
 
 -- a machine rests where another rests that its calls see alike
-rests_alike : (m n : Machine Rectangle) → m.failed ≡ false → m.sessions ≡ n.sessions → Rests n → Rests m
-rests_alike m n works same rests = record {
+rests_alike : {B : Type 0} (m n : Machine B) → m.failed ≡ false → m.sessions ≡ n.sessions → Rests n → Rests m
+rests_alike {B} m n works same rests = record {
   eight = ap length same ∙ rests.eight;
   works = works;
-  answered = λ s. ap (λ (xs : List (Session Rectangle)). is_unanswered (session_at s xs)) same ∙ rests.answered s;
+  answered = λ s. ap (λ (xs : List (Session B)). is_unanswered (session_at s xs)) same ∙ rests.answered s;
 }
 
 -- an index that was opened
-pub opened_rests : (number : ℕ) (set : List (Entry Rectangle)) → Rests (opened_machine number set)
+pub opened_rests : {B : Type 0} (number : ℕ) (set : List (Entry B)) → Rests (opened_machine number set)
 opened_rests number set = record { eight = refl; works = refl; answered = λ s. ap is_unanswered (at_idle s) }
 
-pub opened_seen : (number : ℕ) (set : List (Entry Rectangle)) → seen_by_calls (opened_machine number set) ≡ opened_machine number set
+pub opened_seen : {B : Type 0} (number : ℕ) (set : List (Entry B)) → seen_by_calls (opened_machine number set) ≡ opened_machine number set
 opened_seen number set =
     let same : number + 0 ≡ number = omega arith in
     ap (λ n. record { older = []; latest = set; oldest = n; sessions = (opened_machine number set).sessions; failed = false }) same
 
-module _ {C D : Type 0} (shape : Members Rectangle) (proper : Rectangle → Bool) (said : List ℕ → Rectangle) (class : Ghosts C Rectangle) (state : D → Device) (l : Limits) where
-  abbrev c : Class Rectangle
+module _ {B C D : Type 0} (grammar : Grammar B) (shape : Members B) (proper : B → Bool) (said : List ℕ → B) (class : Ghosts C B) (state : D → Device) (l : Limits) where
+  abbrev c : Class B
   c = class_of shape proper l
 
-  record IsSeen (old : State Rectangle D) (m : Machine Rectangle) : Type 0 where
+  record IsSeen (old : State B D) (m : Machine B) : Type 0 where
     goes : old.ended ≡ false
-    bodies : List (List (Record (Entry Rectangle) (Page Rectangle)))
-    index : index.State Rectangle
-    holds : HoldsIndex shape proper said class state l old.engine bodies index
+    bodies : List (List (Record (Entry B) (Page B)))
+    index : index.State B
+    holds : HoldsIndex shape (traits_of proper said class) state l old.engine bodies index
     seen : SeenAs c.keys (engine_of c index) m
 
-  module _ (keys : c.keys ≡ box_keys) (never : AskedEnds shape proper said class state l) (lawful : IsLawful c) where
-    each_index : (old : State Rectangle D) (s : ℕ) (call : Call Rectangle) (r : Reply Rectangle) (new : State Rectangle D) (m : Machine Rectangle) → IsSeen old m → Rests m
-        → CallsIndex (Makes shape proper said class state) old s call r new → is_decided r ≡ true → (n : Machine Rectangle) × IsSeen new n × IsDecidedCall box_keys s call r m n
+  module _ (never : AskedEnds shape (traits_of proper said class) state l) (lawful : IsLawful c) where
+    each_index : (old : State B D) (s : ℕ) (call : Call B) (r : Reply B) (new : State B D) (m : Machine B) → IsSeen old m → Rests m
+        → CallsIndex (Makes shape (traits_of proper said class) state) old s call r new → is_decided r ≡ true → (n : Machine B) × IsSeen new n × IsDecidedCall (keys_of shape) s call r m n
     each_index old s call r new m is rests calls decided =
         let one = call_alone shape proper said class state l old s call r new calls is.goes never lawful is.bodies is.index is.holds m is.seen in (
           one.machine,
@@ -73,19 +72,19 @@ module _ {C D : Type 0} (shape : Members Rectangle) (proper : Rectangle → Bool
             holds = one.ran.holds;
             seen = one.seen;
           },
-          call_decides box_keys s call r m one.machine decided rests (subst (λ (k : Keys Rectangle). IsCallRun k s call r m one.machine) keys one.runs),
+          call_decides (keys_of shape) s call r m one.machine decided rests one.runs,
         )
 
-    pub index_text : (number : ℕ) (lines : List Line) (old new : State Rectangle D) (text : List ℕ) → IsDecidedScript shape proper said class state number lines old text new
-        → OfItsMachine shape proper said class state l old (λ m. text ≡ decided_text number lines (seen_by_calls m))
+    pub index_text : (number : ℕ) (lines : List (Line B)) (old new : State B D) (text : List ℕ) → IsDecidedScript grammar shape (traits_of proper said class) state number lines old text new
+        → OfItsMachine shape (traits_of proper said class) state l old (λ m. text ≡ decided_text grammar (keys_of shape) number lines (seen_by_calls m))
     index_text number lines old new text script goes bodies i holds m seen rests =
-        script_text (CallsIndex (Makes shape proper said class state)) IsSeen each_index number lines old new text m
+        script_text grammar (keys_of shape) (CallsIndex (Makes shape (traits_of proper said class) state)) IsSeen each_index number lines old new text m
         (record { goes = goes; bodies = bodies; index = i; holds = holds; seen = seen }) rests script
 
     -- and the plain index's
-    pub same_text : (number : ℕ) (lines : List Line) (old new : State Rectangle D) (text : List ℕ) → IsDecidedScript shape proper said class state number lines old text new
-        → (plain after : Index Rectangle) (other : List ℕ) → IsPlain plain → IsScript (AnswersDecided (CallsPlain box_keys)) number lines plain other after
-        → OfItsMachine shape proper said class state l old (λ m. seen_by_calls m ≡ plain.machine → text ≡ other)
+    pub same_text : (number : ℕ) (lines : List (Line B)) (old new : State B D) (text : List ℕ) → IsDecidedScript grammar shape (traits_of proper said class) state number lines old text new
+        → (plain after : Index B) (other : List ℕ) → IsPlain plain → IsScript grammar (AnswersDecided (CallsPlain (keys_of shape))) number lines plain other after
+        → OfItsMachine shape (traits_of proper said class) state l old (λ m. seen_by_calls m ≡ plain.machine → text ≡ other)
     same_text number lines old new text script plain after other is so goes bodies i holds m seen rests same =
-        index_text number lines old new text script goes bodies i holds m seen rests ∙ ap (λ (x : Machine Rectangle). decided_text number lines x) same
-        ∙ sym (plain_text number lines plain after other is (rests_alike plain.machine m is.runs (sym (ap (λ (x : Machine Rectangle). x.sessions) same)) rests) so)
+        index_text number lines old new text script goes bodies i holds m seen rests ∙ ap (λ (x : Machine B). decided_text grammar (keys_of shape) number lines x) same
+        ∙ sym (plain_text grammar (keys_of shape) number lines plain after other is (rests_alike plain.machine m is.runs (sym (ap (λ (x : Machine B). x.sessions) same)) rests) so)

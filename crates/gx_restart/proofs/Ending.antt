@@ -2,6 +2,7 @@
 use Rattle.std.proofs.Common.{◌≡◌, inl, inr, ℕ, suc, ◌<◌, ◌≤◌, Bool, true, false, List, [], ◌∷◌, length, subst, arith}
 use Rattle.std.specs.Prelude.{Result, Ok, Err, IfErr}
 use Rattle.gx_geom.specs.declared.refusal.Refusal.{Refusal}
+use Rattle.gx_class.specs.Traits.{traits_of}
 use Rattle.gx_class.specs.declared.class.KeyClass.{Ghosts}
 use Rattle.gx_disk.specs.Device.{Device}
 use Rattle.gx_machine.specs.declared.entry.Entry.{Entry}
@@ -42,7 +43,7 @@ only_write A (Err (stop.Refused why)) is = tt
 only_write A (Err stop.GivenUp) is = let writes = is.0 in let no : ⊥ = cc in absurd no
 
 module _ {C B D : Type 0} (shape : Members B) (proper : B → Bool) (said : List ℕ → B) (class : Ghosts C B) (state : D → Device) (l : Limits)
-    (names : PageNamesWork shape proper said class state l)
+    (names : PageNamesWork shape (traits_of proper said class) state l)
     (works : (old new : Parts B D) (n : Need) (given : Outcome B) → HasWork n old → HelpComes (state old.volume.shelf.disk) (state new.volume.shelf.disk) n old new given → DoesWork given old new)
     (few : (e : Parts B D) → IsOrderly e → backlog e < 8192) where
   abbrev bringing : ℕ → Parts B D → Result (Unit {0}) (Outcome B) → Parts B D → Type 0
@@ -55,7 +56,7 @@ module _ {C B D : Type 0} (shape : Members B) (proper : B → Bool) (said : List
   record Held (e : Parts B D) : Type 0 where
     bodies : List (List (Record (Entry B) (Page B)))
     is : index.State B
-    holds : HoldsIndex shape proper said class state l e bodies is
+    holds : HoldsIndex shape (traits_of proper said class) state l e bodies is
 
   turn_less : (page : ℕ) (old new : Parts B D) → IsTurn (bringing page) helping old new → Held old → Held new × (backlog new < backlog old)
   turn_less page old new turn held =
@@ -93,7 +94,7 @@ module _ {C B D : Type 0} (shape : Members B) (proper : B → Bool) (said : List
       omega (arith, bound, many)
 
   pub read_ends : (result : Result (Unit {0}) Stop) (old new : Parts B D) → IsRead bringing helping old result new → (bodies : List (List (Record (Entry B) (Page B)))) (i : index.State B)
-      → HoldsIndex shape proper said class state l old bodies i → IsNotGivenUp result
+      → HoldsIndex shape (traits_of proper said class) state l old bodies i → IsNotGivenUp result
   read_ends (Ok done) old new read bodies i holds = tt
   read_ends (Err stop.Write) old new read bodies i holds = tt
   read_ends (Err (stop.Refused why)) old new read bodies i holds = tt

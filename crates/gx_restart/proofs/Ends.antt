@@ -5,6 +5,7 @@ use Rattle.std.specs.List.{slice_index_or}
 use Rattle.gx_disk.specs.declared.layout.TheConstants.{MIN_SECTORS}
 use Rattle.gx_geom.specs.declared.refusal.Refusal.{Refusal}
 use Rattle.gx_geom.specs.declared.refusal.Refusal.TheVariants.{Device as DeviceRefusal}
+use Rattle.gx_geom.specs.declared.refusal.Refusal.TheVariants as refusal
 use Rattle.gx_class.specs.declared.class.KeyClass.{Ghosts}
 use Rattle.gx_disk.specs.Device.{Device, MayLeave}
 use Rattle.gx_disk.specs.Moments.{Leaves}
@@ -27,6 +28,7 @@ use Rattle.gx_node.specs.Reading.{Format, format_of}
 use Rattle.gx_opening.specs.declared.standing.Standing.{Standing}
 use Rattle.gx_opening.specs.Formatted.{IsAllowed, IsLarge, Says, head_of}
 use Rattle.gx_opening.specs.Laid.{IsKeptOrFound}
+use Rattle.gx_opening.specs.Shown.{LeavesDamaged}
 use Rattle.gx_opening.specs.Standing.{FoundStands, IsTested, Stands, StaysSafe, known_for, limits_of, reading}
 use Rattle.gx_opening.proofs.Heads.{formatted_head}
 use Rattle.gx_opening.proofs.Stood.{one_saying}
@@ -35,7 +37,7 @@ use Rattle.gx_phases.specs.declared.phase.Phase.TheVariants as phase
 use Rattle.gx_phases.specs.States.{phase_at, slot_of, slots_of}
 use Rattle.gx_durable.specs.Classes.{class_of}
 use Rattle.gx_txn.specs.Tables.{Held}
-use Rattle.gx_restart.specs.Beginning.{CountsOpening, HasBegun, HasNotBegun, HoldsFound, IsSameDevice}
+use Rattle.gx_restart.specs.Beginning.{CountsOpening, HasBegun, HasFailed, HasNotBegun, HoldsFound, IsSameDevice}
 use Rattle.gx_restart.specs.Keeping.{ArePagesGood, IsKept, KeepsItsSet, OpensSafely, StandsForFound}
 use Rattle.gx_restart.specs.Opened.{IsOpened, IsRefused}
 use Rattle.gx_restart.specs.Undoing.{BeganWith, GoesBy, IsIdle}
@@ -51,6 +53,11 @@ pub device_later : {P D : Type 0} (state : D → Device) (of : P → Device) (be
     → MatchResult result (λ x. IsSameDevice middle (of x)) (λ n. IsSameDevice middle (state n.disk)) → MatchResult result (λ x. IsSameDevice before (of x)) (λ n. IsSameDevice before (state n.disk))
 device_later state of before middle first (Ok x) same = (same.0 ∙ first.0, same.1 ∙ first.1)
 device_later state of before middle first (Err n) same = (same.0 ∙ first.0, same.1 ∙ first.1)
+
+-- a failed call, and memory that was refused, aren't damage
+never_failed : (why : Refusal) → HasFailed why → why ≡ refusal.Damaged → ⊥
+never_failed why (inl device) is = (let no : refusal.Device ≡ refusal.Damaged = sym device ∙ is in cc)
+never_failed why (inr memory) is = (let no : refusal.Memory ≡ refusal.Damaged = sym memory ∙ is in cc)
 
 -- a list of free slots
 pub free_place : {B W : Type 0} (phases : List (Phase B W)) (table : List (Held B)) (n : ℕ) → phase_at n phases ≡ phase.Free → slice_index_or (slots_of phases table) n slots.Free ≡ slots.Free
@@ -136,6 +143,11 @@ module _ {C B D : Type 0} (shape : Members B) (proper : B → Bool) (said : List
       → IfErr result (λ n. IsRefused shape proper said f state number a n.disk n.why)
   came_refused (Ok engine) came = tt
   came_refused (Err n) came = inr (inr (inr (inl (record { middle = m; standing = s; stands = st; cause = came.cause }))))
+
+  -- which isn't that it is damaged
+  pub came_undamaged : (result : Result (Parts B D) (NotOpened D)) → CameTo result → IfErr result (λ n. LeavesDamaged shape proper said f number (state n.disk) n.why)
+  came_undamaged (Ok engine) came = tt
+  came_undamaged (Err n) came = λ is. absurd (never_failed n.why came.cause is)
 
   module _ (lc : IsLawful c) where
     opened_slots : (engine : Parts B D) (h : HoldsFound shape proper said f s.parameters (state a).seen (state engine.volume.shelf.disk) engine) → IsIdle engine

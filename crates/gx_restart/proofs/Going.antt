@@ -4,6 +4,7 @@ use Rattle.std.specs.Prelude.{◌==◌, ◌<◌, IfErr, IfOk, MatchOption, Ok, E
 use Rattle.std.proofs.lemmas.Bool.{eqb-false, eqb-true}
 use Rattle.gx_geom.specs.declared.refusal.Refusal.{Refusal}
 use Rattle.gx_geom.specs.declared.refusal.Refusal.TheVariants as refusal
+use Rattle.gx_class.specs.Traits.{traits_of}
 use Rattle.gx_class.specs.declared.class.KeyClass.{Ghosts}
 use Rattle.gx_machine.specs.declared.reply.Reply.{Reply}
 use Rattle.gx_machine.specs.declared.reply.Reply.TheVariants as reply
@@ -148,7 +149,7 @@ module _ {B D : Type 0} (makes : Parts B D → Event B → Outcome B → Parts B
 
 module _ {C B D : Type 0} (shape : Members B) (proper : B → Bool) (said : List ℕ → B) (class : Ghosts C B) (state : D → Device) where
   abbrev makes : Parts B D → Event B → Outcome B → Parts B D → Type 0
-  makes = Makes shape proper said class state
+  makes = Makes shape (traits_of proper said class) state
 
   one_stays : (old new : Parts B D) (event : Event B) (given : Outcome B) → IsOfOpening event → OnlyUndoes old → makes old event given new → Stays state old new
   one_stays old new event given is undoes one =

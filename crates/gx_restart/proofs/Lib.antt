@@ -10,7 +10,6 @@ pub mod Closing
 pub mod Runs
 pub mod Opened
 pub mod Ends
-pub mod Boxes
 pub mod Nodes
 pub mod Texts
 pub mod Reading

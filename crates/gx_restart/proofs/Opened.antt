@@ -5,6 +5,7 @@ use Rattle.gx_record.specs.Writing.{write_record}
 use Rattle.gx_glog.specs.declared.extent.TheConstants.{BODY_ROOM}
 use Rattle.gx_geom.specs.declared.refusal.Refusal.{Refusal}
 use Rattle.gx_geom.specs.declared.refusal.Refusal.TheVariants as refusal
+use Rattle.gx_class.specs.Traits.{traits_of}
 use Rattle.gx_class.specs.declared.class.KeyClass.{Ghosts}
 use Rattle.gx_disk.specs.Device.{Device}
 use Rattle.gx_disk.specs.Moments.{Leaves}
@@ -52,7 +53,7 @@ use Rattle.gx_restart.proofs.Used.{event_used}
 module _ {C B D : Type 0} (shape : Members B) (proper : B → Bool) (said : List ℕ → B) (class : Ghosts C B) (state : D → Device) (p : Parameters) (seen : List ℕ)
     (lc : IsLawful (class_of shape proper (limits_of p))) where
   abbrev makes : Parts B D → Event B → Outcome B → Parts B D → Type 0
-  makes = Makes shape proper said class state
+  makes = Makes shape (traits_of proper said class) state
 
   abbrev at : Parts B D → Device
   at e = state e.volume.shelf.disk

@@ -1,6 +1,7 @@
 -- In which order an opening's calls were made, from its parts.
 use Rattle.std.proofs.Common.{inl, inr, ℕ, Bool, List, Result, Ok, Err, refl, sym, subst, arith}
 use Rattle.std.specs.Prelude.{MatchResult}
+use Rattle.gx_class.specs.Traits.{traits_of}
 use Rattle.gx_class.specs.declared.class.KeyClass.{Ghosts}
 use Rattle.gx_geom.specs.declared.refusal.Refusal.{Refusal}
 use Rattle.gx_disk.specs.Device.{Device, MayLeave}
@@ -45,7 +46,7 @@ module _ {C B D : Type 0} (shape : Members B) (proper : B → Bool) (said : List
   abbrev Lays : Device → Device → Type 0
   Lays = LaysSafely shape proper said f
 
-  pub refused_here : (why : Refusal) (d : D) → RefusedInOrder shape proper said class state why (state d) (state d)
+  pub refused_here : (why : Refusal) (d : D) → RefusedInOrder shape (traits_of proper said class) state why (state d) (state d)
   refused_here why d = record { first = inl (unwritten_here (state d)); unfit = λ is. unwritten_here (state d); laid = λ works. inl (unwritten_here (state d)) }
 
   lays_first : (d e : Device) → SyncsFirst state Lays d e → SyncsFirst state Safely d e
@@ -56,7 +57,7 @@ module _ {C B D : Type 0} (shape : Members B) (proper : B → Bool) (said : List
   lays_either d e (inr first) = inr (lays_first d e first)
 
   -- where nothing was found
-  pub not_found : (d e : Device) (why : Refusal) → FindsInOrder shape proper said f state d e (Err why) → RefusedInOrder shape proper said class state why d e
+  pub not_found : (d e : Device) (why : Refusal) → FindsInOrder shape proper said f state d e (Err why) → RefusedInOrder shape (traits_of proper said class) state why d e
   not_found d e why finds = record { first = lays_either d e finds.0; unfit = finds.1; laid = λ works. finds.0 }
 
   -- what was found, and was then opened or not
@@ -75,7 +76,7 @@ module _ {C B D : Type 0} (shape : Members B) (proper : B → Bool) (said : List
     pub found_in_order : (result : Result (Parts B D) (NotOpened D))
         → MatchResult result (λ engine. HasBegun shape proper said f s.parameters (state a).seen (state m) (state engine.volume.shelf.disk) engine)
         (λ n. HasNotBegun shape proper said f s.parameters (state a).seen (state m) (state n.disk) n.why)
-        → MatchResult result (λ engine. SyncsFirst state Safely (state a) (state engine.volume.shelf.disk)) (λ n. RefusedInOrder shape proper said class state n.why (state a) (state n.disk))
+        → MatchResult result (λ engine. SyncsFirst state Safely (state a) (state engine.volume.shelf.disk)) (λ n. RefusedInOrder shape (traits_of proper said class) state n.why (state a) (state n.disk))
     found_in_order (Ok engine) came = goes_later (state engine.volume.shelf.disk) came.leaves
     found_in_order (Err n) came = record {
       first = inr (goes_later (state n.disk) came.leaves);

@@ -2,6 +2,7 @@
 use Rattle.std.proofs.Common.{◌≡◌, ◌⊎◌, inl, inr, ℕ, Bool, true, false, List, [], ◌∷◌, refl, subst, sym}
 use Rattle.std.specs.Prelude.{Ok, Err, OnOk, Result}
 use Rattle.gx_geom.specs.declared.refusal.Refusal.{Refusal}
+use Rattle.gx_class.specs.Traits.{traits_of}
 use Rattle.gx_class.specs.declared.class.KeyClass.{Ghosts}
 use Rattle.gx_disk.specs.Device.{Device}
 use Rattle.gx_machine.specs.Keys.{Members}
@@ -23,7 +24,7 @@ IsPart event = (event ≡ CheckpointStep) ⊎ (event ≡ LogStep)
 
 module _ {C B D : Type 0} (shape : Members B) (proper : B → Bool) (said : List ℕ → B) (class : Ghosts C B) (state : D → Device) where
   abbrev made : Parts B D → Event B → Outcome B → Parts B D → Type 0
-  made = Makes shape proper said class state
+  made = Makes shape (traits_of proper said class) state
 
   one_keeps : (event : Event B) (old : Parts B D) (given : Outcome B) (new : Parts B D) → IsPart event → made old event given new → KeepsSessions old new
   one_keeps event old given new (inl is) one =

@@ -5,7 +5,6 @@ use Rattle.std.specs.Io.KnownBytes.{Appends}
 use Rattle.std.proofs.KnownBytes.{Appends-nil, Appends-trans}
 use Rattle.std.proofs.lemmas.Bool.{cases_eq}
 use Rattle.std.proofs.lemmas.List.{append-nil}
-use Rattle.gx_geom.specs.Rectangles.{Rectangle}
 use Rattle.gx_class.specs.declared.class.KeyClass.{Ghosts}
 use Rattle.gx_disk.specs.Device.{Device}
 use Rattle.gx_machine.specs.Keys.{Members}
@@ -17,6 +16,7 @@ use Rattle.gx_recovery.specs.Known.{Limits}
 use Rattle.gx_index_laws.specs.Classes.{known_of}
 use Rattle.gx_durable.specs.Classes.{class_of, reading_of}
 use Rattle.gx_storage.specs.Keeps.{ShowsTheLogs}
+use Rattle.gx_script.specs.Corners.{Grammar}
 use Rattle.gx_script.specs.Writes.{IsPut, IsCut}
 use Rattle.gx_script.proofs.WriteLemmas.{cut_more, put_cut, put_then}
 use Rattle.gx_events.specs.declared.outcome.Need.{Need}
@@ -30,46 +30,46 @@ use Rattle.gx_restart.specs.Reading.{OfItsTree}
 use Rattle.gx_restart.specs.Text.{dump_text, head_line, node_text, pages_text}
 use Rattle.gx_restart.proofs.Bringing.{all_read, brought_read, brings, helps}
 
-module _ (node : ℕ → Node Rectangle) where
+module _ {B : Type 0} (grammar : Grammar B) (node : ℕ → Node B) where
   -- one page more
-  pages_more : (n : ℕ) → pages_text node (n + 1) ≡ pages_text node n ++ node_text (n + 1) (node (n + 1))
+  pages_more : (n : ℕ) → pages_text grammar node (n + 1) ≡ pages_text grammar node n ++ node_text grammar (n + 1) (node (n + 1))
   unfolding pages_text
-  pages_more n = subst (λ (k : ℕ). pages_text node k ≡ pages_text node n ++ node_text k (node k)) (sym (add-one n)) refl
+  pages_more n = subst (λ (k : ℕ). pages_text grammar node k ≡ pages_text grammar node n ++ node_text grammar k (node k)) (sym (add-one n)) refl
 
   -- the pages up to one, and the others
-  pages_split : (n used : ℕ) → n < used → (more : List ℕ) × (pages_text node used ≡ pages_text node (n + 1) ++ more)
+  pages_split : (n used : ℕ) → n < used → (more : List ℕ) × (pages_text grammar node used ≡ pages_text grammar node (n + 1) ++ more)
   unfolding pages_text
   pages_split n zero less = absurd (omega (arith, less))
   pages_split n (suc used) less = elim (cases_eq n used) [
-    | inl same ↦ ([], ap (pages_text node) (ap suc (sym same) ∙ sym (add-one n)) ∙ sym (append-nil (pages_text node (n + 1))))
+    | inl same ↦ ([], ap (pages_text grammar node) (ap suc (sym same) ∙ sym (add-one n)) ∙ sym (append-nil (pages_text grammar node (n + 1))))
     | inr other ↦
         (let rest = pages_split n used (omega (arith, less, other)) in
-        (rest.0 ++ node_text (suc used) (node (suc used)), ap (λ text. text ++ node_text (suc used) (node (suc used))) rest.1 ∙ append_assoc (pages_text node (n + 1)) rest.0 (node_text (suc used) (node (suc used)))))
+        (rest.0 ++ node_text grammar (suc used) (node (suc used)), ap (λ text. text ++ node_text grammar (suc used) (node (suc used))) rest.1 ∙ append_assoc (pages_text grammar node (n + 1)) rest.0 (node_text grammar (suc used) (node (suc used)))))
   ]
 
 -- nothing was written of what waits and of a page
-pub nothing_told : (h : Option (List ℕ)) (waiting : List ℕ) (page : ℕ) (node : Node Rectangle) → IsCut h h (waiting ++ node_text page node)
+pub nothing_told : {B : Type 0} (grammar : Grammar B) (h : Option (List ℕ)) (waiting : List ℕ) (page : ℕ) (node : Node B) → IsCut h h (waiting ++ node_text grammar page node)
 unfolding node_text
-nothing_told h waiting page node = record {
+nothing_told grammar h waiting page node = record {
   sent = [];
-  lost = waiting ++ node_text page node;
+  lost = waiting ++ node_text grammar page node;
   wrote = Appends-nil h;
   all = refl;
-  some = omega (arith, length-append waiting (node_text page node));
+  some = omega (arith, length-append waiting (node_text grammar page node));
 }
 
 -- nothing was written at all
-pub none_told : (h : Option (List ℕ)) (number : ℕ) (t : Tree Rectangle) → IsCut h h (dump_text number t)
+pub none_told : {B : Type 0} (grammar : Grammar B) (h : Option (List ℕ)) (number : ℕ) (t : Tree B) → IsCut h h (dump_text grammar number t)
 unfolding dump_text
-none_told h number t = record { sent = []; lost = head_line number t.used t.counter ++ pages_text t.node t.used; wrote = Appends-nil h; all = refl; some = omega arith }
+none_told grammar h number t = record { sent = []; lost = head_line number t.used t.counter ++ pages_text grammar t.node t.used; wrote = Appends-nil h; all = refl; some = omega arith }
 
-module _ (number : ℕ) (t : Tree Rectangle) (h h1 : Option (List ℕ)) where
+module _ {B : Type 0} (grammar : Grammar B) (number : ℕ) (t : Tree B) (h h1 : Option (List ℕ)) where
   abbrev head : List ℕ
   head = head_line number t.used t.counter
 
   -- the text up to a page
   abbrev upto : ℕ → List ℕ
-  upto n = head ++ pages_text t.node n
+  upto n = head ++ pages_text grammar t.node n
 
   -- the first line, by the numbers that were told
   module _ (n used counter : ℕ) (same_number : n ≡ number) (same_used : used ≡ t.used) (same_counter : counter ≡ t.counter) where
@@ -81,36 +81,36 @@ module _ (number : ℕ) (t : Tree Rectangle) (h h1 : Option (List ℕ)) where
     head_told waiting lines none put =
         subst (λ (text : List ℕ). IsPut h h1 [] text lines) (same_head ∙ sym (append-nil head)) (subst (λ (x : List ℕ). IsPut h h1 x (head_line n used counter) lines) none put)
 
-    pub head_cut : (waiting : List ℕ) → waiting ≡ [] → IsCut h h1 (waiting ++ head_line n used counter) → IsCut h h1 (dump_text number t)
+    pub head_cut : (waiting : List ℕ) → waiting ≡ [] → IsCut h h1 (waiting ++ head_line n used counter) → IsCut h h1 (dump_text grammar number t)
     unfolding dump_text
     head_cut waiting none cut =
-        cut_more h h1 head (pages_text t.node t.used)
+        cut_more h h1 head (pages_text grammar t.node t.used)
         (subst (λ (text : List ℕ). IsCut h h1 text) same_head (subst (λ (x : List ℕ). IsCut h h1 (x ++ head_line n used counter)) none cut))
 
   module _ (h2 : Option (List ℕ)) where
-    pub page_told : (n : ℕ) (lines more : List ℕ) → IsPut h h1 [] (upto n) lines → IsPut h1 h2 lines (node_text (n + 1) (t.node (n + 1))) more → IsPut h h2 [] (upto (n + 1)) more
+    pub page_told : (n : ℕ) (lines more : List ℕ) → IsPut h h1 [] (upto n) lines → IsPut h1 h2 lines (node_text grammar (n + 1) (t.node (n + 1))) more → IsPut h h2 [] (upto (n + 1)) more
     page_told n lines more first next =
-        put_then h h1 h2 [] (upto n) lines (node_text (n + 1) (t.node (n + 1))) (upto (n + 1)) more first next
-        (ap (λ text. head ++ text) (pages_more t.node n) ∙ sym (append_assoc head (pages_text t.node n) (node_text (n + 1) (t.node (n + 1)))))
+        put_then h h1 h2 [] (upto n) lines (node_text grammar (n + 1) (t.node (n + 1))) (upto (n + 1)) more first next
+        (ap (λ text. head ++ text) (pages_more grammar t.node n) ∙ sym (append_assoc head (pages_text grammar t.node n) (node_text grammar (n + 1) (t.node (n + 1)))))
 
-    pub page_cut : (n : ℕ) (lines : List ℕ) → n < t.used → IsPut h h1 [] (upto n) lines → IsCut h1 h2 (lines ++ node_text (n + 1) (t.node (n + 1))) → IsCut h h2 (dump_text number t)
+    pub page_cut : (n : ℕ) (lines : List ℕ) → n < t.used → IsPut h h1 [] (upto n) lines → IsCut h1 h2 (lines ++ node_text grammar (n + 1) (t.node (n + 1))) → IsCut h h2 (dump_text grammar number t)
     unfolding dump_text
     page_cut n lines less first cut =
-        let here = node_text (n + 1) (t.node (n + 1)) in
-        let rest = pages_split t.node n t.used less in
-        let text : head ++ pages_text t.node t.used ≡ upto n ++ (here ++ rest.0) =
-        ap (λ x. head ++ x) (rest.1 ∙ ap (λ x. x ++ rest.0) (pages_more t.node n) ∙ append_assoc (pages_text t.node n) here rest.0)
-        ∙ sym (append_assoc head (pages_text t.node n) (here ++ rest.0)) in
-        put_cut h h1 h2 [] (upto n) lines (here ++ rest.0) (head ++ pages_text t.node t.used) first
+        let here = node_text grammar (n + 1) (t.node (n + 1)) in
+        let rest = pages_split grammar t.node n t.used less in
+        let text : head ++ pages_text grammar t.node t.used ≡ upto n ++ (here ++ rest.0) =
+        ap (λ x. head ++ x) (rest.1 ∙ ap (λ x. x ++ rest.0) (pages_more grammar t.node n) ∙ append_assoc (pages_text grammar t.node n) here rest.0)
+        ∙ sym (append_assoc head (pages_text grammar t.node n) (here ++ rest.0)) in
+        put_cut h h1 h2 [] (upto n) lines (here ++ rest.0) (head ++ pages_text grammar t.node t.used) first
         (subst (λ (x : List ℕ). IsCut h1 h2 x) (append_assoc lines here rest.0) (cut_more h1 h2 (lines ++ here) rest.0 cut)) text
 
-    pub all_told : (n : ℕ) (lines : List ℕ) → n ≡ t.used → IsPut h h1 [] (upto n) lines → Appends h1 h2 lines → Appends h h2 (dump_text number t)
+    pub all_told : (n : ℕ) (lines : List ℕ) → n ≡ t.used → IsPut h h1 [] (upto n) lines → Appends h1 h2 lines → Appends h h2 (dump_text grammar number t)
     unfolding dump_text
     all_told n lines all so_far last =
         let put : IsPut h h1 [] (upto t.used) lines = subst (λ (k : ℕ). IsPut h h1 [] (upto k) lines) all so_far in
         subst (λ (x : List ℕ). Appends h h2 x) (sym put.all) (Appends-trans h h1 h2 put.sent lines put.wrote last)
 
-    pub last_cut : (n : ℕ) (lines : List ℕ) → n ≡ t.used → IsPut h h1 [] (upto n) lines → IsCut h1 h2 lines → IsCut h h2 (dump_text number t)
+    pub last_cut : (n : ℕ) (lines : List ℕ) → n ≡ t.used → IsPut h h1 [] (upto n) lines → IsCut h1 h2 lines → IsCut h h2 (dump_text grammar number t)
     unfolding dump_text
     last_cut n lines all so_far cut =
         let put : IsPut h h1 [] (upto t.used) lines = subst (λ (k : ℕ). IsPut h h1 [] (upto k) lines) all so_far in

@@ -1,6 +1,7 @@
 -- As many pages are in use after the events of an opening as before.
 use Rattle.std.proofs.Common.{◌≡◌, ℕ, ◌+◌, ◌-◌, Bool, true, false, Option, None, Some, List, refl, ap, sym, ◌∙◌}
 use Rattle.gx_geom.specs.declared.refusal.Refusal.TheVariants as refusal
+use Rattle.gx_class.specs.Traits.{traits_of}
 use Rattle.gx_class.specs.declared.class.KeyClass.{Ghosts}
 use Rattle.gx_machine.specs.declared.entry.Entry.{Entry}
 use Rattle.gx_machine.specs.declared.reply.Reply.TheVariants as reply
@@ -122,7 +123,7 @@ module _ {C B D : Type 0} (shape : Members B) (proper : B → Bool) (said : List
     moves_used true true false s given undoes comes = at_used s (phase_at (s - 1) old.sessions.phases) given (undoes (s - 1)) comes
 
     -- so after any event of an opening
-    pub event_used : (event : Event B) (given : Outcome B) → IsOfOpening event → OnlyUndoes old → Makes shape proper said class state old event given new → SameUsed old new
+    pub event_used : (event : Event B) (given : Outcome B) → IsOfOpening event → OnlyUndoes old → Makes shape (traits_of proper said class) state old event given new → SameUsed old new
     event_used (Ask s call) given is undoes made = absurd is
     event_used (Move s) given is undoes made = moves_used (is_session s) (has_call (phase_at (s - 1) old.sessions.phases)) old.sessions.failed s given undoes made.comes
     event_used LogStep given is undoes made = log_used (at old) (at new) old new old.sessions.failed (runs old.checkpoint) given made.comes

@@ -1,7 +1,7 @@
 -- A page that is brought, after whatever gives it a frame.
 use Rattle.std.specs.Prelude.{ℕ, zero, suc, ◌≡◌, ◌≤◌, ◌<◌, ◌⊎◌, Bool, true, false, length, Result, Ok, Err, List, [], ◌∷◌}
 use Rattle.gx_geom.specs.declared.refusal.Refusal.{Refusal}
-use Rattle.gx_class.specs.declared.class.KeyClass.{Ghosts}
+use Rattle.gx_class.specs.Traits.{Traits, own}
 use Rattle.gx_disk.specs.Device.{Device}
 use Rattle.gx_machine.specs.Keys.{Members}
 use Rattle.gx_node.specs.Reading.{format_of, is_node}
@@ -23,20 +23,20 @@ use Rattle.gx_engine.specs.Helping.{HelpComes}
 use Rattle.gx_restart.specs.declared.text.stop.Stop.{Stop}
 use Rattle.gx_restart.specs.declared.text.stop.Stop.TheVariants as stop
 
-module _ {C B D : Type 0} (shape : Members B) (proper : B → Bool) (said : List ℕ → B) (class : Ghosts C B) (state : D → Device) where
+module _ {B D : Type 0} (shape : Members B) (traits : Traits B) (state : D → Device) where
   -- A page was to be brought, with this result, as the contract of an engine has it.
   pub record Brings (page : ℕ) (old : Parts B D) (result : Result (Unit {0}) (Outcome B)) (new : Parts B D) : Type 0 where
-    pub comes : BringPageComes (is_node (format_of class)) (state old.volume.shelf.disk) (state new.volume.shelf.disk) old new old.sessions.failed result
-    pub stays : Stays (IsSteady (state old.volume.shelf.disk) old.volume.shelf.frames) (store_of (format_of class) (state old.volume.shelf.disk).seen old.volume.shelf)
-        (store_of (format_of class) (state new.volume.shelf.disk).seen new.volume.shelf)
-    pub leads : (l : Limits) → Leads (class_of shape proper l) (reading_of said (format_of class)) (format_of class) (is_node (format_of class))
+    pub comes : BringPageComes (is_node (format_of (own traits))) (state old.volume.shelf.disk) (state new.volume.shelf.disk) old new old.sessions.failed result
+    pub stays : Stays (IsSteady (state old.volume.shelf.disk) old.volume.shelf.frames) (store_of (format_of (own traits)) (state old.volume.shelf.disk).seen old.volume.shelf)
+        (store_of (format_of (own traits)) (state new.volume.shelf.disk).seen new.volume.shelf)
+    pub leads : (l : Limits) → Leads (class_of shape traits.is_proper l) (reading_of traits.said (format_of (own traits))) (format_of (own traits)) (is_node (format_of (own traits)))
         (state old.volume.shelf.disk) (state new.volume.shelf.disk) old new (bring_events result)
     pub order : IsOrderly old × IsOrderly new
 
   -- The event that was named was made, with this outcome; so too.
   pub record Helps (named : Need) (old : Parts B D) (outcome : Outcome B) (new : Parts B D) : Type 0 where
     pub comes : HelpComes (state old.volume.shelf.disk) (state new.volume.shelf.disk) named old new outcome
-    pub spares : (l : Limits) → SparesSo (class_of shape proper l) (reading_of said (format_of class)) (format_of class) (is_node (format_of class))
+    pub spares : (l : Limits) → SparesSo (class_of shape traits.is_proper l) (reading_of traits.said (format_of (own traits))) (format_of (own traits)) (is_node (format_of (own traits)))
         (state old.volume.shelf.disk) (state new.volume.shelf.disk) old new (IsSync old.sessions.failed outcome)
 
 -- an event that was not refused

@@ -1,6 +1,6 @@
 -- A call that is run to its end.
 use Rattle.std.specs.Prelude.{ℕ, ◌≡◌, ◌⊎◌, Bool, true, false, List}
-use Rattle.gx_class.specs.declared.class.KeyClass.{Ghosts}
+use Rattle.gx_class.specs.Traits.{Traits}
 use Rattle.gx_disk.specs.Device.{Device}
 use Rattle.gx_geom.specs.declared.refusal.Refusal.TheVariants.{Damaged, Failed}
 use Rattle.gx_machine.specs.declared.call.Call.{Call}
@@ -34,6 +34,6 @@ module _ {B D : Type 0} (makes : Parts B D → Event B → Outcome B → Parts B
   CallsIndex old s call reply new = CallsBy old.ended old s call reply new
 
 -- where the engine holds an index of the class, no call is given up
-module _ {C B D : Type 0} (shape : Members B) (proper : B → Bool) (said : List ℕ → B) (class : Ghosts C B) (state : D → Device) (l : Limits) where
+module _ {B D : Type 0} (shape : Members B) (traits : Traits B) (state : D → Device) (l : Limits) where
   abbrev pub EndsWhereHeld : State B D → State B D → Type 0
-  EndsWhereHeld old new = (bodies : List (List (Record (Entry B) (Page B)))) (i : index.State B) → HoldsIndex shape proper said class state l old.engine bodies i → new.ended ≡ old.ended
+  EndsWhereHeld old new = (bodies : List (List (Record (Entry B) (Page B)))) (i : index.State B) → HoldsIndex shape traits state l old.engine bodies i → new.ended ≡ old.ended

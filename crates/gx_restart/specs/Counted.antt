@@ -1,6 +1,6 @@
 -- How many pairs of an engine's tree aren't marked.
-use Rattle.std.specs.Prelude.{◌≡◌, ℕ, Bool, List}
-use Rattle.gx_class.specs.declared.class.KeyClass.{Ghosts}
+use Rattle.std.specs.Prelude.{◌≡◌, ℕ}
+use Rattle.gx_class.specs.Traits.{Traits, own}
 use Rattle.gx_disk.specs.Device.{Device}
 use Rattle.gx_machine.specs.Keys.{Members}
 use Rattle.gx_node.specs.Reading.{format_of, is_node}
@@ -11,12 +11,12 @@ use Rattle.gx_engine.specs.States.{Parts}
 use Rattle.gx_restart.specs.Reading.{OfItsTree}
 use Rattle.gx_restart.specs.Sizes.{live_on, live_up_to}
 
-module _ {C B D : Type 0} (shape : Members B) (proper : B → Bool) (said : List ℕ → B) (class : Ghosts C B)
+module _ {B D : Type 0} (shape : Members B) (traits : Traits B)
     (state : D → Device) where
   -- this holds of the tree of whatever index an engine holds
   abbrev pub OfEachTree : Parts B D → (Tree B → Type 0) → Type 0
-  OfEachTree e P = (l : Limits) → OfItsTree (class_of shape proper l) (reading_of said (format_of class))
-      (format_of class) (is_node (format_of class)) state e P
+  OfEachTree e P = (l : Limits) → OfItsTree (class_of shape traits.is_proper l) (reading_of traits.said (format_of (own traits)))
+      (format_of (own traits)) (is_node (format_of (own traits))) state e P
 
   -- so many are on a page; on the pages from 1 to one; on all
   abbrev pub HasLiveOn : Parts B D → ℕ → ℕ → Type 0

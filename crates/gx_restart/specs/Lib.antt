@@ -8,6 +8,7 @@ pub mod Undoing
 pub mod Beginning
 pub mod Opened
 pub mod Text
+pub mod Class
 pub mod Pages
 pub mod Bringing
 pub mod Reading
@@ -18,3 +19,4 @@ pub mod Sizes
 pub mod Counted
 pub mod Copied
 pub mod Verified
+pub mod Setting

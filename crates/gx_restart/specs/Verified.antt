@@ -1,9 +1,10 @@
 -- What verifying a device tells of its bytes: whether it would open, and what it holds.
-use Rattle.std.specs.Prelude.{◌≡◌, ◌⊎◌, ◌≤◌, ◌<◌, ℕ, Bool, true, List, Result, Ok, Err, length}
+use Rattle.std.specs.Prelude.{◌≡◌, ◌⊎◌, ◌≤◌, ◌<◌, ℕ, Bool, true, List, Some, Result, Ok, Err, length}
 use Rattle.gx_disk.specs.declared.layout.TheConstants.{MIN_SECTORS}
 use Rattle.gx_geom.specs.declared.refusal.Refusal.{Refusal}
 use Rattle.gx_geom.specs.declared.refusal.Refusal.TheVariants.{Damaged, Memory}
 use Rattle.gx_disk.specs.Device.{Device}
+use Rattle.gx_disk.specs.declared.memory.MemDisk.{MemDisk}
 use Rattle.gx_disk.specs.Sectors.{sector_of}
 use Rattle.gx_durable.specs.Area.{area_of}
 use Rattle.gx_found_log.specs.declared.found.FoundLog.{FoundLog}
@@ -16,6 +17,7 @@ use Rattle.gx_node.specs.Reading.{Format, is_node}
 use Rattle.gx_opening.specs.Formatted.{MaySettle, Says}
 use Rattle.gx_opening.specs.Laid.{IsSpared}
 use Rattle.gx_opening.specs.Sound.{AreSound}
+use Rattle.gx_opening.specs.Shown.{HoldsDamaged}
 use Rattle.gx_opening.specs.Standing.{IsFormatted, known_for, limits_of, reading}
 use Rattle.gx_durable.specs.Classes.{class_of}
 use Rattle.gx_recovery.specs.Analysis.{analysis, number_of}
@@ -23,7 +25,7 @@ use Rattle.gx_recovery.specs.Damage.{records_of}
 use Rattle.gx_recovery.specs.Redo.{redone}
 use Rattle.gx_recovery.specs.Standing.{stands_for}
 use Rattle.gx_restart.specs.Beginning.{HasFailed, IsGoodLog}
-use Rattle.gx_restart.specs.Copied.{IsCopy}
+use Rattle.gx_restart.specs.Copied.{IsCopy, memory_state}
 use Rattle.gx_restart.specs.declared.verification.NotVerified.{NotVerified}
 use Rattle.gx_restart.specs.declared.verification.Report.{Report}
 
@@ -91,6 +93,10 @@ module _ {B : Type 0} (shape : Members B) (is_key : B → Bool) (said : List ℕ
   -- a copy of a device that is formatted for an index of the class
   abbrev pub IsCopyOf : ℕ → Device → Device → Type 0
   IsCopyOf class d e = IsCopy d e × ((p : Parameters) × IsFormatted shape is_key said f class d p)
+
+  -- a copy of a device that is damaged is handed out, as an opening left it, and is damaged
+  abbrev pub HandsOut : ℕ → NotVerified → Type 0
+  HandsOut class n = n.why ≡ Damaged → (copy : MemDisk) × ((n.copy ≡ Some copy) × HoldsDamaged shape is_key said f class (memory_state copy))
 
   -- What an opening left of a copy of a device that it refused as damaged: it reads as the device's first sectors,
   -- but for pages that the device's log gives.

@@ -1,29 +1,27 @@
 //! The text of the tree.
 ghost use Rattle.std.specs.Prelude.{◌≡◌, OnOk, IfErr, true};
 ghost use Rattle.std.specs.Io.KnownBytes.{Appends};
-ghost use Rattle.gx_node.specs.Reading.{format_of, is_node};
 ghost use Rattle.gx_recovery.specs.Known.{Limits};
-ghost use Rattle.gx_durable.specs.Classes.{class_of, reading_of};
+ghost use Rattle.gx_script.specs.Corners.{grammar_of};
 ghost use Rattle.gx_script.specs.Noting.{TakesNoMore};
 ghost use Rattle.gx_script.specs.Writes.{IsCut};
 ghost use Rattle.gx_engine.specs.Resting.{KeepsSessions};
 ghost use Rattle.gx_restart.specs.Bringing.{Brings, Helps};
-ghost use Rattle.gx_restart.specs.Reading.{OfItsTree, Reads};
+ghost use Rattle.gx_restart.specs.Counted.{OfEachTree};
+ghost use Rattle.gx_restart.specs.Setting.{ReadsAs, RunsOnAs};
 ghost use Rattle.gx_restart.specs.Text.{dump_text};
-ghost use Rattle.gx_restart.specs.Alone.{RunsOn};
 ghost use Rattle.gx_restart.specs.Called.{EndsWhereHeld};
 ghost use Rattle.gx_restart.specs.Dumped.{Dumps};
 
 use crate::text::{self, Stop};
 use crate::{DumpFault, Index};
-use gx_class::KeyClass;
+use gx_class::{KeyClass, ReadKeys};
 use gx_disk::SectorDisk;
-use gx_durable::ReadKeys;
-use gx_geom::{Box2, Refusal, Shape};
-use gx_script::Noted;
+use gx_geom::Refusal;
+use gx_script::{Corners, Noted};
 use std::io::Write;
 
-impl<D: SectorDisk, K: ReadKeys + KeyClass<Key = Box2>> Index<D, K> {
+impl<D: SectorDisk, B: Corners, K: ReadKeys + KeyClass<Key = B>> Index<D, K> {
     /// Writes the text of the tree: a line with the number of the last commit, the greatest page that is taken and the
     /// counter of splits; and for each page from 1 on its line, and one for each of its entries, by slot. Pages are
     /// brought one after another, with the events that give them frames. No node changes, and no set, claim, predicate
@@ -34,30 +32,20 @@ impl<D: SectorDisk, K: ReadKeys + KeyClass<Key = Box2>> Index<D, K> {
     /// events it is given up, with `Damaged`; from then on the index only refuses, with `Failed`, and writes nothing.
     /// Over a device that doesn't lie none is given up. What was written before is a beginning of the text.
     pub fn dump<W: Write>(&mut self, writer: &mut Noted<W>) -> Result<(), DumpFault>
-        ensures dumps { Dumps (Brings ⟦<Box2 as Shape>⟧ K.is_proper K.said K.KeyClass D.state)
-            (Helps ⟦<Box2 as Shape>⟧ K.is_proper K.said K.KeyClass D.state) self.old result self.new }
-        ensures text { OnOk result ((l : Limits)
-            → OfItsTree (class_of ⟦<Box2 as Shape>⟧ K.is_proper l) (reading_of K.said (format_of K.KeyClass))
-            (format_of K.KeyClass) (is_node (format_of K.KeyClass))
-            D.state self.old.engine (λ t. Appends (W.contents writer.old.inner) (W.contents writer.new.inner)
-            (dump_text self.old.engine.sessions.latest t))) }
-        ensures cut { IfErr result (λ _. (l : Limits)
-            → OfItsTree (class_of ⟦<Box2 as Shape>⟧ K.is_proper l) (reading_of K.said (format_of K.KeyClass))
-            (format_of K.KeyClass) (is_node (format_of K.KeyClass))
-            D.state self.old.engine (λ t. IsCut (W.contents writer.old.inner) (W.contents writer.new.inner)
-            (dump_text self.old.engine.sessions.latest t))) }
+        ensures dumps { Dumps (Brings B.Shape K.ReadKeys D.state)
+            (Helps B.Shape K.ReadKeys D.state) self.old result self.new }
+        ensures text { OnOk result (OfEachTree B.Shape K.ReadKeys D.state self.old.engine
+            (λ t. Appends (W.contents writer.old.inner) (W.contents writer.new.inner)
+            (dump_text (grammar_of B.Corners) self.old.engine.sessions.latest t))) }
+        ensures cut { IfErr result (λ _. OfEachTree B.Shape K.ReadKeys D.state self.old.engine
+            (λ t. IsCut (W.contents writer.old.inner) (W.contents writer.new.inner)
+            (dump_text (grammar_of B.Corners) self.old.engine.sessions.latest t))) }
         ensures stuck { IfErr result (λ e. e ≡ DumpFault.Write → TakesNoMore writer.new) }
         ensures ended { self.old.ended ≡ true → writer.new ≡ writer.old }
-        ensures reads { OnOk result ((l : Limits)
-            → Reads (class_of ⟦<Box2 as Shape>⟧ K.is_proper l) (reading_of K.said (format_of K.KeyClass))
-            (format_of K.KeyClass) (is_node (format_of K.KeyClass))
-            D.state self.old.engine self.new.engine) }
-        ensures runs { (l : Limits) → RunsOn (class_of ⟦<Box2 as Shape>⟧ K.is_proper l)
-            (reading_of K.said (format_of K.KeyClass)) (format_of K.KeyClass) (is_node (format_of K.KeyClass))
-            D.state self.old.engine self.new.engine }
+        ensures reads { OnOk result (ReadsAs B.Shape K.ReadKeys D.state self.old.engine self.new.engine) }
+        ensures runs { RunsOnAs B.Shape K.ReadKeys D.state self.old.engine self.new.engine }
         ensures keeps { KeepsSessions self.old.engine self.new.engine }
-        ensures ends { (l : Limits) → EndsWhereHeld ⟦<Box2 as Shape>⟧ K.is_proper K.said
-            K.KeyClass D.state l self.old self.new }
+        ensures ends { (l : Limits) → EndsWhereHeld B.Shape K.ReadKeys D.state l self.old self.new }
     {
         if self.ended {
             return Err(DumpFault::Refused(Refusal::Failed));

@@ -1,16 +1,13 @@
 //! An index, and its calls.
 ghost use Rattle.std.specs.Prelude.{◌≡◌, false};
-ghost use Rattle.gx_node.specs.Reading.{format_of, is_node};
 ghost use Rattle.gx_recovery.specs.Known.{Limits};
-ghost use Rattle.gx_durable.specs.Classes.{class_of, reading_of};
-ghost use Rattle.gx_restart.specs.Alone.{RunsOn};
 ghost use Rattle.gx_restart.specs.Called.{CallsBy, CallsIndex, EndsWhereHeld};
 ghost use Rattle.gx_engine.specs.Calls.{TellsAs};
 ghost use Rattle.gx_engine.specs.Made.{Makes};
+ghost use Rattle.gx_restart.specs.Setting.{RunsOnAs};
 
-use gx_class::Probing;
+use gx_class::{Probing, ReadKeys};
 use gx_disk::SectorDisk;
-use gx_durable::ReadKeys;
 use gx_engine::{Engine, drive};
 use gx_events::{Event, Outcome};
 use gx_geom::Refusal;
@@ -57,11 +54,9 @@ impl<D: SectorDisk, K: ReadKeys + Probing> Index<D, K> {
     // A call of an index that goes on.
     fn run(&mut self, session: u8, call: Call<K::Key>) -> Reply<K::Key>
         requires { self.old.ended ≡ false }
-        ensures calls { CallsBy (Makes K.Key.Shape K.is_proper K.said K.KeyClass D.state) false
-            self.old session call result self.new }
+        ensures calls { CallsBy (Makes K.Key.Shape K.ReadKeys D.state) false self.old session call result self.new }
         ensures told { TellsAs D.state self.old.engine self.new.engine (Outcome.Replied result) }
-        ensures ends { (l : Limits) → EndsWhereHeld K.Key.Shape K.is_proper K.said
-            K.KeyClass D.state l self.old self.new }
+        ensures ends { (l : Limits) → EndsWhereHeld K.Key.Shape K.ReadKeys D.state l self.old self.new }
     {
         match drive(&mut self.engine, session, Event::Ask(session, call)) {
             Some(reply) => reply,
@@ -80,14 +75,10 @@ impl<D: SectorDisk, K: ReadKeys + Probing> Index<D, K> {
     /// answered with `Damaged`; from then on the index only refuses, with `Failed`. Over a device that doesn't lie no
     /// call is given up.
     pub fn call(&mut self, session: u8, call: Call<K::Key>) -> Reply<K::Key>
-        ensures calls { CallsIndex (Makes K.Key.Shape K.is_proper K.said K.KeyClass D.state)
-            self.old session call result self.new }
+        ensures calls { CallsIndex (Makes K.Key.Shape K.ReadKeys D.state) self.old session call result self.new }
         ensures told { TellsAs D.state self.old.engine self.new.engine (Outcome.Replied result) }
-        ensures runs { (l : Limits) → RunsOn (class_of K.Key.Shape K.is_proper l)
-            (reading_of K.said (format_of K.KeyClass)) (format_of K.KeyClass) (is_node (format_of K.KeyClass))
-            D.state self.old.engine self.new.engine }
-        ensures ends { (l : Limits) → EndsWhereHeld K.Key.Shape K.is_proper K.said
-            K.KeyClass D.state l self.old self.new }
+        ensures runs { RunsOnAs K.Key.Shape K.ReadKeys D.state self.old.engine self.new.engine }
+        ensures ends { (l : Limits) → EndsWhereHeld K.Key.Shape K.ReadKeys D.state l self.old self.new }
     {
         if self.ended {
             return Reply::Refused(Refusal::Failed);

@@ -1,9 +1,9 @@
 //! What calls of an index have to do with runs of the set machine. Each function is its contract alone.
 ghost use Rattle.std.specs.Prelude.{◌≡◌, ℕ, Bool, List, false};
-ghost use Rattle.gx_geom.specs.Rectangles.{Rectangle};
 ghost use Rattle.gx_machine.specs.declared.entry.Entry.{Entry};
 ghost use Rattle.gx_machine.specs.declared.call.Call.{Call};
 ghost use Rattle.gx_machine.specs.declared.reply.Reply.{Reply};
+ghost use Rattle.gx_machine.specs.Keys.{keys_of};
 ghost use Rattle.gx_node.specs.Reading.{format_of, is_node};
 ghost use Rattle.gx_recovery.specs.Known.{Limits};
 ghost use Rattle.gx_recovery.specs.Records.{Record};
@@ -15,8 +15,8 @@ ghost use Rattle.gx_durable.specs.Classes.{class_of, reading_of};
 ghost use Rattle.gx_engine.specs.Holds.{Holds};
 ghost use Rattle.gx_engine.specs.States.{Parts};
 ghost use Rattle.gx_script.specs.declared.line.Line.{Line};
+ghost use Rattle.gx_script.specs.Corners.{grammar_of};
 ghost use Rattle.gx_script.specs.Scripts.{IsScript};
-ghost use Rattle.gx_plain.specs.Boxes.{box_keys};
 ghost use Rattle.gx_events.specs.Engines.{opened_machine};
 ghost use Rattle.gx_plain.specs.Decided.{AnswersDecided, Rests, decided_text, seen_by_calls};
 ghost use Rattle.gx_plain.specs.Index as plain;
@@ -31,17 +31,16 @@ ghost use Rattle.gx_restart.specs.States.{State};
 
 pub mod idle;
 
-use gx_class::KeyClass;
+use gx_class::{KeyClass, ReadKeys};
 use gx_disk::SectorDisk;
-use gx_durable::ReadKeys;
-use gx_geom::{Box2, Shape};
+use gx_script::Corners;
 
 /// A call of an index that goes on, over an engine that holds an index's state, is a run of the machine as which that
 /// state is seen: the call is asked and given its reply, and nothing else is asked or replied. So the reply is the
 /// machine's for that call asked alone, or tells of a fault that was met.
 pub fn each_call_is_asked_alone<D: SectorDisk, K: ReadKeys>()
     ensures { (l : Limits) (s : ℕ) (call : Call K.Key) (reply : Reply K.Key) (old new : State K.Key D)
-        → CallsIndex (Makes K.Key.Shape K.is_proper K.said K.KeyClass D.state) old s call reply new → old.ended ≡ false
+        → CallsIndex (Makes K.Key.Shape K.ReadKeys D.state) old s call reply new → old.ended ≡ false
         → CallsAlone (class_of K.Key.Shape K.is_proper l) (reading_of K.said (format_of K.KeyClass))
         (format_of K.KeyClass) (is_node (format_of K.KeyClass)) D.state s call reply old.engine new.engine }
 {
@@ -52,13 +51,13 @@ pub fn each_call_is_asked_alone<D: SectorDisk, K: ReadKeys>()
 /// What the lines of a script ask of an index that goes on, over an engine that holds an index's state, and are
 /// answered, is one run of the machine as which that state is seen, joined over all lines; its replies are those of the
 /// text.
-pub fn each_script_is_one_run<D: SectorDisk, K: ReadKeys + KeyClass<Key = Box2>>()
-    ensures { (l : Limits) (number : ℕ) (lines : List Line) (old new : State Rectangle D) (text : List ℕ)
-        → IsScript (CallsIndex (Makes ⟦<Box2 as Shape>⟧ K.is_proper K.said K.KeyClass D.state)) number lines
-        old text new → old.ended ≡ false
-        → RunsFrom (class_of ⟦<Box2 as Shape>⟧ K.is_proper l) (reading_of K.said (format_of K.KeyClass))
+pub fn each_script_is_one_run<D: SectorDisk, B: Corners, K: ReadKeys + KeyClass<Key = B>>()
+    ensures { (l : Limits) (number : ℕ) (lines : List (Line B)) (old new : State B D) (text : List ℕ)
+        → IsScript (grammar_of B.Corners) (CallsIndex (Makes B.Shape K.ReadKeys D.state))
+        number lines old text new → old.ended ≡ false
+        → RunsFrom (class_of B.Shape K.is_proper l) (reading_of K.said (format_of K.KeyClass))
         (format_of K.KeyClass) (is_node (format_of K.KeyClass)) D.state old.engine new.engine
-        (λ m n. IsOneRun number lines m n text) }
+        (λ m n. IsOneRun (grammar_of B.Corners) (keys_of B.Shape) number lines m n text) }
 {
     gx_engine::laws::a_class_is_lawful::<K>();
     gx_engine::laws::progress::no_call_is_given_up::<D, K>();
@@ -68,18 +67,18 @@ pub fn each_script_is_one_run<D: SectorDisk, K: ReadKeys + KeyClass<Key = Box2>>
 /// that the calls alone decide: `decided_text` of what they see of the machine at the start, the last set, its number
 /// and the sessions. So it is the text that the plain index gives from the same start. An index that was opened is such
 /// a start: no call of it is open, and its calls see the set that was found.
-pub fn texts_are_decided_by_calls<D: SectorDisk, K: ReadKeys + KeyClass<Key = Box2>>()
-    ensures decided { (l : Limits) (number : ℕ) (lines : List Line) (old new : State Rectangle D) (text : List ℕ)
-        → IsDecidedScript ⟦<Box2 as Shape>⟧ K.is_proper K.said K.KeyClass D.state number lines old text new
-        → OfItsMachine ⟦<Box2 as Shape>⟧ K.is_proper K.said K.KeyClass D.state l old
-        (λ m. text ≡ decided_text number lines (seen_by_calls m)) }
-    ensures same { (l : Limits) (number : ℕ) (lines : List Line) (old new : State Rectangle D) (text : List ℕ)
-        → IsDecidedScript ⟦<Box2 as Shape>⟧ K.is_proper K.said K.KeyClass D.state number lines old text new
-        → (first last : plain.Index Rectangle) (other : List ℕ) → IsPlain first
-        → IsScript (AnswersDecided (plain.CallsIndex box_keys)) number lines first other last
-        → OfItsMachine ⟦<Box2 as Shape>⟧ K.is_proper K.said K.KeyClass D.state l old
-        (λ m. seen_by_calls m ≡ first.machine → text ≡ other) }
-    ensures opened { (number : ℕ) (set : List (Entry Rectangle))
+pub fn texts_are_decided_by_calls<D: SectorDisk, B: Corners, K: ReadKeys + KeyClass<Key = B>>()
+    ensures decided { (l : Limits) (number : ℕ) (lines : List (Line B)) (old new : State B D) (text : List ℕ)
+        → IsDecidedScript (grammar_of B.Corners) B.Shape K.ReadKeys D.state number lines old text new
+        → OfItsMachine B.Shape K.ReadKeys D.state l old
+        (λ m. text ≡ decided_text (grammar_of B.Corners) (keys_of B.Shape) number lines (seen_by_calls m)) }
+    ensures same { (l : Limits) (number : ℕ) (lines : List (Line B)) (old new : State B D) (text : List ℕ)
+        → IsDecidedScript (grammar_of B.Corners) B.Shape K.ReadKeys D.state number lines old text new
+        → (first last : plain.Index B) (other : List ℕ) → IsPlain first
+        → IsScript (grammar_of B.Corners) (AnswersDecided (plain.CallsIndex (keys_of B.Shape)))
+        number lines first other last
+        → OfItsMachine B.Shape K.ReadKeys D.state l old (λ m. seen_by_calls m ≡ first.machine → text ≡ other) }
+    ensures opened { (number : ℕ) (set : List (Entry B))
         → Rests (opened_machine number set) × (seen_by_calls (opened_machine number set) ≡ opened_machine number set) }
 {
     gx_engine::laws::a_class_is_lawful::<K>();

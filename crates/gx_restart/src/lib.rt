@@ -2,6 +2,7 @@
 //! logged gated, scripts, and the text of its tree; and a device verified.
 #![tactic(auto)]
 
+mod class;
 mod dump;
 mod fault;
 mod index;
@@ -12,6 +13,7 @@ mod settle;
 mod text;
 mod verification;
 
+pub use class::class_of;
 pub use fault::DumpFault;
 pub use gx_engine::{EVENTS, NotOpened};
 pub use gx_format::format;

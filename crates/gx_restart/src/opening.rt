@@ -2,13 +2,13 @@
 ghost use Rattle.std.specs.Prelude.{◌≡◌, ◌≤◌, ◌<◌, ◌+◌, ◌*◌, ℕ, List, false, true, Err, IfErr, IfOk, MatchResult};
 ghost use Rattle.gx_disk.specs.declared.layout.TheConstants.{MIN_SECTORS, PAGES_AT, PAGE_SECTORS};
 ghost use Rattle.gx_engine.specs.Made.{Makes};
-ghost use Rattle.gx_node.specs.Reading.{format_of};
 ghost use Rattle.gx_glog.specs.declared.parameters.Parameters.{Parameters};
 ghost use Rattle.gx_opening.specs.Formatted.{IsAllowed};
-ghost use Rattle.gx_opening.specs.Standing.{MayStart, Stands};
-ghost use Rattle.gx_restart.specs.Beginning.{CountsOpening, HasBegun, HasNotBegun, HoldsFound, IsSameDevice};
-ghost use Rattle.gx_restart.specs.Keeping.{KeepsItsSet, OpensSafely};
-ghost use Rattle.gx_restart.specs.Opened.{IsOpened, IsRefused};
+ghost use Rattle.gx_opening.specs.Standing.{MayStart};
+ghost use Rattle.gx_opening.specs.Setting.{IndexStandsAs, LeftDamagedAs};
+ghost use Rattle.gx_restart.specs.Beginning.{CountsOpening, IsSameDevice};
+ghost use Rattle.gx_restart.specs.Setting.{HasBegunAs, HasNotBegunAs, HoldsFoundAs, KeepsItsSetAs, OpensSafelyAs};
+ghost use Rattle.gx_restart.specs.Setting.{IsOpenedAs, IsRefusedAs};
 ghost use Rattle.gx_restart.specs.Order.{OpensInOrder};
 ghost use Rattle.gx_restart.specs.Undoing.{BeganWith, GoesBy, IsIdle, OnlyUndoes};
 
@@ -17,9 +17,8 @@ mod losers;
 mod undo;
 
 use begin::begin_engine;
-use gx_class::Probing;
+use gx_class::{Probing, ReadKeys};
 use gx_disk::SectorDisk;
-use gx_durable::ReadKeys;
 use gx_engine::laws::a_class_is_lawful;
 use gx_engine::{Engine, NotOpened};
 use gx_geom::Refusal;
@@ -46,15 +45,13 @@ fn finished<D: SectorDisk, K: ReadKeys + Probing>(
         (λ n. IsSameDevice (D.state engine.volume.shelf.disk) (D.state n.disk)) }
     ensures faults { CountsOpening D.state (D.state engine.volume.shelf.disk).faults result }
     ensures idle { IfOk result IsIdle }
-    ensures goes { IfOk result (GoesBy (Makes K.Key.Shape K.is_proper K.said K.KeyClass D.state) engine) }
+    ensures goes { IfOk result (GoesBy (Makes K.Key.Shape K.ReadKeys D.state) engine) }
     ensures keeps { (p : Parameters) (seen : List ℕ) → 4 ≤ p.most
-        → HoldsFound K.Key.Shape K.is_proper K.said (format_of K.KeyClass) p seen
-        (D.state engine.volume.shelf.disk) engine
+        → HoldsFoundAs K.Key.Shape K.ReadKeys p seen (D.state engine.volume.shelf.disk) engine
         → MatchResult result
-        (λ new. HasBegun K.Key.Shape K.is_proper K.said (format_of K.KeyClass) p seen (D.state engine.volume.shelf.disk)
+        (λ new. HasBegunAs K.Key.Shape K.ReadKeys p seen (D.state engine.volume.shelf.disk)
         (D.state new.volume.shelf.disk) new)
-        (λ n. HasNotBegun K.Key.Shape K.is_proper K.said (format_of K.KeyClass) p seen
-        (D.state engine.volume.shelf.disk) (D.state n.disk) n.why) }
+        (λ n. HasNotBegunAs K.Key.Shape K.ReadKeys p seen (D.state engine.volume.shelf.disk) (D.state n.disk) n.why) }
 {
     a_class_is_lawful::<K>();
     what_a_call_has_left_is_bounded::<K::Key>();
@@ -83,13 +80,13 @@ fn open_over<D: SectorDisk, K: ReadKeys + Probing>(
         (λ n. IsSameDevice (D.state disk) (D.state n.disk)) }
     ensures faults { CountsOpening D.state (D.state disk).faults result }
     ensures idle { IfOk result IsIdle }
-    ensures began { IfOk result (BeganWith (Makes K.Key.Shape K.is_proper K.said K.KeyClass D.state) frames) }
+    ensures began { IfOk result (BeganWith (Makes K.Key.Shape K.ReadKeys D.state) frames) }
     ensures keeps { (a : D) → (D.state disk).honest ≡ true
-        → Stands K.Key.Shape K.is_proper K.said (format_of K.KeyClass) K.CLASS (D.state a) (D.state disk) standing.now
+        → IndexStandsAs K.Key.Shape K.ReadKeys (D.state a) (D.state disk) standing.now
         → MatchResult result
-        (λ engine. HasBegun K.Key.Shape K.is_proper K.said (format_of K.KeyClass) standing.now.parameters
+        (λ engine. HasBegunAs K.Key.Shape K.ReadKeys standing.now.parameters
         (D.state a).seen (D.state disk) (D.state engine.volume.shelf.disk) engine)
-        (λ n. HasNotBegun K.Key.Shape K.is_proper K.said (format_of K.KeyClass) standing.now.parameters (D.state a).seen
+        (λ n. HasNotBegunAs K.Key.Shape K.ReadKeys standing.now.parameters (D.state a).seen
         (D.state disk) (D.state n.disk) n.why) }
 {
     let engine = begin_engine(alloc, disk, standing, frames)?;
@@ -109,18 +106,18 @@ fn open_with<D: SectorDisk, K: ReadKeys + Probing>(
         (λ n. IsSameDevice (D.state disk) (D.state n.disk)) }
     ensures faults { CountsOpening D.state (D.state disk).faults result }
     ensures idle { IfOk result IsIdle }
-    ensures began { IfOk result (BeganWith (Makes K.Key.Shape K.is_proper K.said K.KeyClass D.state) frames) }
+    ensures began { IfOk result (BeganWith (Makes K.Key.Shape K.ReadKeys D.state) frames) }
     ensures safe { (D.state disk).honest ≡ true → MatchResult result
-        (λ engine. OpensSafely K.Key.Shape K.is_proper K.said (format_of K.KeyClass) (D.state disk)
-        (D.state engine.volume.shelf.disk))
-        (λ n. OpensSafely K.Key.Shape K.is_proper K.said (format_of K.KeyClass) (D.state disk) (D.state n.disk)) }
-    ensures order { OpensInOrder K.Key.Shape K.is_proper K.said K.KeyClass D.state disk result }
+        (λ engine. OpensSafelyAs K.Key.Shape K.ReadKeys (D.state disk) (D.state engine.volume.shelf.disk))
+        (λ n. OpensSafelyAs K.Key.Shape K.ReadKeys (D.state disk) (D.state n.disk)) }
+    ensures order { OpensInOrder K.Key.Shape K.ReadKeys D.state disk result }
     ensures opened { (D.state disk).honest ≡ true → MIN_SECTORS ≤ (D.state disk).sectors
-        → IfOk result (λ engine. IsOpened K.Key.Shape K.is_proper K.said (format_of K.KeyClass) K.CLASS (D.state disk)
+        → IfOk result (λ engine. IsOpenedAs K.Key.Shape K.ReadKeys (D.state disk)
         (D.state engine.volume.shelf.disk) engine) }
     ensures refused { (D.state disk).honest ≡ true → MIN_SECTORS ≤ (D.state disk).sectors
-        → IfErr result (λ n. IsRefused K.Key.Shape K.is_proper K.said (format_of K.KeyClass) D.state K.CLASS
-        disk n.disk n.why) }
+        → IfErr result (λ n. IsRefusedAs K.Key.Shape K.ReadKeys D.state disk n.disk n.why) }
+    ensures damaged { (D.state disk).honest ≡ true
+        → IfErr result (λ n. LeftDamagedAs K.Key.Shape K.ReadKeys (D.state n.disk) n.why) }
 {
     a_class_is_lawful::<K>();
     let (disk, found) = find::<D, K>(alloc, disk);
@@ -148,7 +145,8 @@ fn open_with<D: SectorDisk, K: ReadKeys + Probing>(
 /// image with the log that was found and after it the same pages; where these are good for the log, that stands for the
 /// set that the log keeps, under its number. The engine then holds an index with that one set. A sync comes before the
 /// first write. Where it is refused with `NotFormatted`, `BadParameter` or `TooSmall` nothing is written, and where it
-/// is refused with `Damaged` only pages that the log gives, and no other sector.
+/// is refused with `Damaged` only pages that the log gives, and no other sector: the device is left damaged, so that
+/// `gx_opening::examine` finds what is.
 pub fn open<D: SectorDisk, K: ReadKeys + Probing>(
     alloc: Global,
     disk: D,
@@ -162,22 +160,21 @@ pub fn open<D: SectorDisk, K: ReadKeys + Probing>(
         (λ n. IsSameDevice (D.state disk) (D.state n.disk)) }
     ensures faults { CountsOpening D.state (D.state disk).faults result }
     ensures idle { IfOk result IsIdle }
-    ensures began { IfOk result (BeganWith (Makes K.Key.Shape K.is_proper K.said K.KeyClass D.state) frames) }
+    ensures began { IfOk result (BeganWith (Makes K.Key.Shape K.ReadKeys D.state) frames) }
     ensures safe { (D.state disk).honest ≡ true → MatchResult result
-        (λ engine. OpensSafely K.Key.Shape K.is_proper K.said (format_of K.KeyClass) (D.state disk)
-        (D.state engine.volume.shelf.disk))
-        (λ n. OpensSafely K.Key.Shape K.is_proper K.said (format_of K.KeyClass) (D.state disk) (D.state n.disk)) }
+        (λ engine. OpensSafelyAs K.Key.Shape K.ReadKeys (D.state disk) (D.state engine.volume.shelf.disk))
+        (λ n. OpensSafelyAs K.Key.Shape K.ReadKeys (D.state disk) (D.state n.disk)) }
     ensures keeps { (D.state disk).honest ≡ true → MatchResult result
-        (λ engine. KeepsItsSet K.Key.Shape K.is_proper K.said (format_of K.KeyClass) (D.state disk)
-        (D.state engine.volume.shelf.disk))
-        (λ n. KeepsItsSet K.Key.Shape K.is_proper K.said (format_of K.KeyClass) (D.state disk) (D.state n.disk)) }
-    ensures order { OpensInOrder K.Key.Shape K.is_proper K.said K.KeyClass D.state disk result }
+        (λ engine. KeepsItsSetAs K.Key.Shape K.ReadKeys (D.state disk) (D.state engine.volume.shelf.disk))
+        (λ n. KeepsItsSetAs K.Key.Shape K.ReadKeys (D.state disk) (D.state n.disk)) }
+    ensures order { OpensInOrder K.Key.Shape K.ReadKeys D.state disk result }
     ensures opened { (D.state disk).honest ≡ true
-        → IfOk result (λ engine. IsOpened K.Key.Shape K.is_proper K.said (format_of K.KeyClass) K.CLASS (D.state disk)
+        → IfOk result (λ engine. IsOpenedAs K.Key.Shape K.ReadKeys (D.state disk)
         (D.state engine.volume.shelf.disk) engine) }
     ensures refused { (D.state disk).honest ≡ true → 16 ≤ frames → frames ≤ 4096 → MIN_SECTORS ≤ (D.state disk).sectors
-        → IfErr result (λ n. IsRefused K.Key.Shape K.is_proper K.said (format_of K.KeyClass) D.state K.CLASS
-        disk n.disk n.why) }
+        → IfErr result (λ n. IsRefusedAs K.Key.Shape K.ReadKeys D.state disk n.disk n.why) }
+    ensures damaged { (D.state disk).honest ≡ true
+        → IfErr result (λ n. LeftDamagedAs K.Key.Shape K.ReadKeys (D.state n.disk) n.why) }
 {
     what_is_found_stands::<D, K>();
     if frames < LEAST_FRAMES || MOST_FRAMES < frames {

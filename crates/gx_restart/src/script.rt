@@ -1,28 +1,30 @@
 //! Scripts for an index over a device.
 ghost use Rattle.std.specs.Prelude.{◌≡◌, Some, OnOk, IfErr};
+ghost use Rattle.gx_script.specs.Corners.{grammar_of};
 ghost use Rattle.gx_script.specs.Scripts.{IsDone, IsStopped};
 ghost use Rattle.gx_script.specs.Noting.{IsFaultOf};
 ghost use Rattle.gx_restart.specs.Called.{CallsIndex};
 ghost use Rattle.gx_engine.specs.Made.{Makes};
 
 use crate::Index;
-use gx_class::{KeyClass, Probing};
+use gx_class::{KeyClass, Probing, ReadKeys};
 use gx_disk::SectorDisk;
-use gx_durable::ReadKeys;
-use gx_geom::{Box2, Shape};
 use gx_machine::{Call, Reply};
-use gx_script::{Answers, Noted, ScriptFault, Transfer};
+use gx_script::{Answers, Corners, Noted, ScriptFault, Transfer};
 use std::io::{Read, Write};
 
-impl<D: SectorDisk, K: ReadKeys + KeyClass<Key = Box2> + Probing> Answers for Index<D, K> {
-    ghost answered = { CallsIndex (Makes ⟦<Box2 as Shape>⟧ K.is_proper K.said K.KeyClass D.state) };
+impl<D: SectorDisk, B: Corners, K: ReadKeys + KeyClass<Key = B> + Probing> Answers<B>
+    for Index<D, K> {
+    ghost answered = { CallsIndex (Makes B.Shape K.ReadKeys D.state) };
 
-    fn call(&mut self, session: u8, call: Call<Box2>) -> Reply<Box2> {
+    fn call(&mut self, session: u8, call: Call<B>) -> Reply<B>
+        ensures { CallsIndex (Makes B.Shape K.ReadKeys D.state) self.old session call result self.new }
+    {
         self.call(session, call)
     }
 }
 
-/// Reads a script of boxes to its end, asks the index for the calls of its lines, and writes the replies, as
+/// Reads a script to its end, asks the index for the calls of its lines, and writes the replies, as
 /// `gx_plain::run_plain` does.
 ///
 /// All lines of a reply are written before the next line's call is asked. A line that isn't one of a script's is
@@ -30,16 +32,18 @@ impl<D: SectorDisk, K: ReadKeys + KeyClass<Key = Box2> + Probing> Answers for In
 /// `Read` where that failed, or 2^32 calls were made of the reader; `Write` where the writer's last call failed or took
 /// nothing, or 2^32 calls were made of the writer. What was written then is a beginning of the text, and replies given
 /// before stand.
-pub fn run_script<R: Read, W: Write, D: SectorDisk, K: ReadKeys + KeyClass<Key = Box2> + Probing>(
-    reader: &mut Noted<R>,
-    writer: &mut Noted<W>,
-    index: &mut Index<D, K>,
-) -> Result<(), ScriptFault>
-    ensures done { OnOk result (IsDone (CallsIndex (Makes ⟦<Box2 as Shape>⟧ K.is_proper K.said K.KeyClass D.state))
-        (R.remaining reader.old.inner) (R.remaining reader.new.inner)
+pub fn run_script<
+    R: Read,
+    W: Write,
+    D: SectorDisk,
+    B: Corners,
+    K: ReadKeys + KeyClass<Key = B> + Probing,
+>(reader: &mut Noted<R>, writer: &mut Noted<W>, index: &mut Index<D, K>) -> Result<(), ScriptFault>
+    ensures done { OnOk result (IsDone (grammar_of B.Corners)
+        (CallsIndex (Makes B.Shape K.ReadKeys D.state)) (R.remaining reader.old.inner) (R.remaining reader.new.inner)
         (W.contents writer.old.inner) (W.contents writer.new.inner) index.old index.new) }
     ensures stopped { IfErr result
-        (IsStopped (CallsIndex (Makes ⟦<Box2 as Shape>⟧ K.is_proper K.said K.KeyClass D.state))
+        (IsStopped (grammar_of B.Corners) (CallsIndex (Makes B.Shape K.ReadKeys D.state))
         (R.remaining reader.old.inner) (R.remaining reader.new.inner)
         (W.contents writer.old.inner) (W.contents writer.new.inner) index.old index.new) }
     ensures ended { OnOk result (reader.new.last ≡ Some Transfer.Nothing) }

@@ -1,19 +1,15 @@
 //! What is logged is gated.
 ghost use Rattle.std.specs.Prelude.{Err, OnOk, ◌≡◌, ◌≢◌};
-ghost use Rattle.gx_node.specs.Reading.{format_of, is_node};
-ghost use Rattle.gx_recovery.specs.Known.{Limits};
-ghost use Rattle.gx_durable.specs.Classes.{class_of, reading_of};
-ghost use Rattle.gx_restart.specs.Alone.{RunsOn};
 ghost use Rattle.gx_engine.specs.Calls.{TellsWhy};
 ghost use Rattle.gx_engine.specs.Made.{Makes};
 ghost use Rattle.gx_engine.specs.Repeated.{IsFlushing};
 ghost use Rattle.gx_engine.specs.Resting.{IsAtRest, KeepsSessions};
 ghost use Rattle.gx_restart.specs.Settled.{IsExhausted, Settles, SettlesOn};
+ghost use Rattle.gx_restart.specs.Setting.{RunsOnAs};
 
 use crate::Index;
-use gx_class::Probing;
+use gx_class::{Probing, ReadKeys};
 use gx_disk::SectorDisk;
-use gx_durable::ReadKeys;
 use gx_engine::repeat;
 use gx_events::Event;
 use gx_geom::Refusal;
@@ -22,8 +18,7 @@ impl<D: SectorDisk, K: ReadKeys + Probing> Index<D, K> {
     // Makes a step of the checkpoint or of the log over and over, until it has nothing to do.
     fn exhaust(&mut self, event: Event<K::Key>) -> Result<(), Refusal>
         requires { IsFlushing event }
-        ensures made { IsExhausted (Makes K.Key.Shape K.is_proper K.said K.KeyClass D.state) event
-            self.old.engine result self.new.engine }
+        ensures made { IsExhausted (Makes K.Key.Shape K.ReadKeys D.state) event self.old.engine result self.new.engine }
         ensures told { TellsWhy D.state self.old.engine self.new.engine result }
         ensures same { self.new.ended ≡ self.old.ended }
         ensures memory { result ≢ Err Refusal.Memory }
@@ -36,8 +31,7 @@ impl<D: SectorDisk, K: ReadKeys + Probing> Index<D, K> {
 
     // Steps of the checkpoint, and then of the log, until there is nothing to do.
     fn exhaust_both(&mut self) -> Result<(), Refusal>
-        ensures made { SettlesOn (Makes K.Key.Shape K.is_proper K.said K.KeyClass D.state)
-            self.old.engine result self.new.engine }
+        ensures made { SettlesOn (Makes K.Key.Shape K.ReadKeys D.state) self.old.engine result self.new.engine }
         ensures told { TellsWhy D.state self.old.engine self.new.engine result }
         ensures same { self.new.ended ≡ self.old.ended }
         ensures memory { result ≢ Err Refusal.Memory }
@@ -52,11 +46,9 @@ impl<D: SectorDisk, K: ReadKeys + Probing> Index<D, K> {
     /// Refused with `Device`, `Failed` or `Damaged` as an event was. Over any device it ends: each step leaves less to
     /// flush.
     pub fn settle(&mut self) -> Result<(), Refusal>
-        ensures settles { Settles (Makes K.Key.Shape K.is_proper K.said K.KeyClass D.state) self.old result self.new }
+        ensures settles { Settles (Makes K.Key.Shape K.ReadKeys D.state) self.old result self.new }
         ensures told { TellsWhy D.state self.old.engine self.new.engine result }
-        ensures runs { (l : Limits) → RunsOn (class_of K.Key.Shape K.is_proper l)
-            (reading_of K.said (format_of K.KeyClass)) (format_of K.KeyClass) (is_node (format_of K.KeyClass))
-            D.state self.old.engine self.new.engine }
+        ensures runs { RunsOnAs K.Key.Shape K.ReadKeys D.state self.old.engine self.new.engine }
         ensures rests { OnOk result (IsAtRest self.new.engine) }
         ensures keeps { KeepsSessions self.old.engine self.new.engine }
         ensures memory { result ≢ Err Refusal.Memory }

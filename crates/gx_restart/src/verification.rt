@@ -2,12 +2,13 @@
 //! nothing is written.
 ghost use Rattle.std.specs.Prelude.{◌≡◌, ◌≢◌, ◌≤◌, ◌<◌, true, Err, IfErr, IfOk, IfSome};
 ghost use Rattle.gx_disk.specs.Looks.{Looks};
-ghost use Rattle.gx_node.specs.Reading.{format_of};
 ghost use Rattle.gx_opening.specs.Formatted.{Counted};
+ghost use Rattle.gx_opening.specs.Setting.{LeftDamagedAs};
 ghost use Rattle.gx_restart.specs.Copied.{IsNoMore, memory_state, refusal_of_copy};
-ghost use Rattle.gx_restart.specs.Opened.{IsOpened};
+ghost use Rattle.gx_restart.specs.Setting.{HandsOutAs, IsDamagedCopyAs, IsOpenedAs, IsUnverifiedAs, IsUnverifiedCopyAs};
+ghost use Rattle.gx_restart.specs.Setting.{IsVerifiedAs};
 ghost use Rattle.gx_restart.specs.Undoing.{IsIdle};
-ghost use Rattle.gx_restart.specs.Verified.{IsDamagedCopy, IsUnverified, IsUnverifiedCopy, IsVerified, why_of};
+ghost use Rattle.gx_restart.specs.Verified.{why_of};
 
 mod copy;
 mod entries;
@@ -16,9 +17,8 @@ use crate::open;
 use crate::opening::{LEAST_FRAMES, MOST_FRAMES};
 use copy::copied;
 use entries::count_entries;
-use gx_class::Probing;
+use gx_class::{Probing, ReadKeys};
 use gx_disk::{MIN_SECTORS, MemDisk, SectorDisk};
-use gx_durable::ReadKeys;
 use gx_engine::laws::a_class_is_lawful;
 use gx_engine::{Engine, NotOpened};
 use gx_geom::Refusal;
@@ -60,9 +60,8 @@ fn report_of<D: SectorDisk + Drop, K: ReadKeys + Probing>(
     engine: Engine<D, K>,
 ) -> Result<Report, NotOpened<D>>
     ensures verified { (a : D) → IsIdle engine
-        → IsOpened K.Key.Shape K.is_proper K.said (format_of K.KeyClass) K.CLASS
-        (D.state a) (D.state engine.volume.shelf.disk) engine
-        → IfOk result (IsVerified K.Key.Shape K.is_proper K.said (format_of K.KeyClass) K.CLASS (D.state a)) }
+        → IsOpenedAs K.Key.Shape K.ReadKeys (D.state a) (D.state engine.volume.shelf.disk) engine
+        → IfOk result (IsVerifiedAs K.Key.Shape K.ReadKeys (D.state a)) }
     ensures refused { IfErr result (λ n. n.why ≡ Refusal.Memory) }
 {
     a_class_is_lawful::<K>();
@@ -94,13 +93,13 @@ fn verify_copy<D: SectorDisk + Drop, K: ReadKeys + Probing>(
 ) -> Result<Report, NotOpened<D>>
     requires frames { (16 ≤ frames) × (frames ≤ 4096) }
     requires large { MIN_SECTORS ≤ (D.state copy).sectors }
-    ensures verified { (D.state copy).honest ≡ true
-        → IfOk result (IsVerified K.Key.Shape K.is_proper K.said (format_of K.KeyClass) K.CLASS (D.state copy)) }
+    ensures verified { (D.state copy).honest ≡ true → IfOk result (IsVerifiedAs K.Key.Shape K.ReadKeys (D.state copy)) }
     ensures refused { (D.state copy).honest ≡ true
-        → IfErr result (λ n. IsUnverifiedCopy K.Key.Shape K.is_proper K.said (format_of K.KeyClass) K.CLASS
-        (D.state copy) n.why) }
+        → IfErr result (λ n. IsUnverifiedCopyAs K.Key.Shape K.ReadKeys (D.state copy) n.why) }
     ensures damaged { (D.state copy).honest ≡ true → IfErr result (λ n. n.why ≡ Refusal.Damaged
-        → IsDamagedCopy K.Key.Shape K.is_proper K.said (format_of K.KeyClass) (D.state copy) (D.state n.disk)) }
+        → IsDamagedCopyAs K.Key.Shape K.ReadKeys (D.state copy) (D.state n.disk)) }
+    ensures left { (D.state copy).honest ≡ true
+        → IfErr result (λ n. LeftDamagedAs K.Key.Shape K.ReadKeys (D.state n.disk) n.why) }
     ensures device { IfErr result (λ n. n.why ≢ Refusal.Device) }
 {
     match open::<D, K>(alloc, copy, frames) {
@@ -113,7 +112,7 @@ fn verify_copy<D: SectorDisk + Drop, K: ReadKeys + Probing>(
 }
 
 /// Verifies a device as `verify` does. Where an opening of its copy was refused the copy is handed out, so that
-/// `gx_opening::examine` says of a damaged one what is damaged: it reads as the device, but for pages that the log
+/// `gx_opening::examine` finds what is damaged of a damaged one: it reads as the device, but for pages that the log
 /// gives.
 pub fn verify_or_copy<D: SectorDisk, K: ReadKeys + Probing>(
     alloc: Global,
@@ -128,14 +127,14 @@ pub fn verify_or_copy<D: SectorDisk, K: ReadKeys + Probing>(
     ensures looks { (D.state disk.old).honest ≡ true → Looks (D.state disk.old) (D.state disk.new) }
     ensures verified { (D.state disk.old).honest ≡ true
         → IfOk (why_of result)
-        (IsVerified K.Key.Shape K.is_proper K.said (format_of K.KeyClass) K.CLASS (D.state disk.old)) }
+        (IsVerifiedAs K.Key.Shape K.ReadKeys (D.state disk.old)) }
     ensures refused { (D.state disk.old).honest ≡ true → 16 ≤ frames → frames ≤ 4096
         → MIN_SECTORS ≤ (D.state disk.old).sectors
         → IfErr (why_of result)
-        (IsUnverified K.Key.Shape K.is_proper K.said (format_of K.KeyClass) K.CLASS (D.state disk.old)) }
+        (IsUnverifiedAs K.Key.Shape K.ReadKeys (D.state disk.old)) }
     ensures damaged { (D.state disk.old).honest ≡ true → IfErr result (λ n. n.why ≡ Refusal.Damaged → IfSome n.copy
-        (λ copy. IsDamagedCopy K.Key.Shape K.is_proper K.said (format_of K.KeyClass)
-        (D.state disk.old) (memory_state copy))) }
+        (λ copy. IsDamagedCopyAs K.Key.Shape K.ReadKeys (D.state disk.old) (memory_state copy))) }
+    ensures copy { (D.state disk.old).honest ≡ true → IfErr result (HandsOutAs K.Key.Shape K.ReadKeys) }
     ensures few { (D.state disk.old).honest ≡ true → IfErr result (λ n. n.why ≡ Refusal.Damaged → IfSome n.copy
         (λ copy. IsNoMore (D.state disk.old).seen (memory_state copy).sectors)) }
 {
@@ -187,10 +186,10 @@ pub fn verify<D: SectorDisk, K: ReadKeys + Probing>(
     ensures counted { Counted 0 (D.state disk.old) (D.state disk.new) result }
     ensures looks { (D.state disk.old).honest ≡ true → Looks (D.state disk.old) (D.state disk.new) }
     ensures verified { (D.state disk.old).honest ≡ true
-        → IfOk result (IsVerified K.Key.Shape K.is_proper K.said (format_of K.KeyClass) K.CLASS (D.state disk.old)) }
+        → IfOk result (IsVerifiedAs K.Key.Shape K.ReadKeys (D.state disk.old)) }
     ensures refused { (D.state disk.old).honest ≡ true → 16 ≤ frames → frames ≤ 4096
         → MIN_SECTORS ≤ (D.state disk.old).sectors
-        → IfErr result (IsUnverified K.Key.Shape K.is_proper K.said (format_of K.KeyClass) K.CLASS (D.state disk.old)) }
+        → IfErr result (IsUnverifiedAs K.Key.Shape K.ReadKeys (D.state disk.old)) }
 {
     match verify_or_copy::<D, K>(alloc, disk, frames) {
         Ok(report) => Ok(report),

@@ -6,3 +6,4 @@ pub mod WriteLemmas
 pub mod RequestLemmas
 pub mod PrintedLemmas
 pub mod TextLemmas
+pub mod CornerLemmas

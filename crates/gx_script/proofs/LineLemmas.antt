@@ -9,6 +9,7 @@ use Rattle.std.proofs.lemmas.List.Folds.{list_any-append}
 use Rattle.std.proofs.lemmas.Bool.{eqb-true, lt-ltb, cases_lt}
 use Rattle.gx_script.specs.declared.line.Line.{Line}
 use Rattle.gx_script.specs.declared.line.Line.TheVariants.{Bad}
+use Rattle.gx_script.specs.Corners.{Grammar}
 use Rattle.gx_script.specs.Lines.{lines, without_cr, onto_first}
 use Rattle.gx_script.specs.Requests.{line_of}
 use Rattle.gx_script.specs.Scripts.{asked, IsUnended}
@@ -87,8 +88,8 @@ prepend-feed [] ps = refl
 prepend-feed (b ∷ u) ps = ap (λ (v : List ℕ). (b ∷ v) ∷ ps) (append-nil u)
 
 -- the first line of a text, and the others
-pub asked-line : (u more : List ℕ) → IsUnended u → asked (u ++ (10 ∷ more)) ≡ line_of u ∷ asked more
-asked-line u more h = ap (λ ps. map line_of ps) (lines-prepend u (10 ∷ more) h ∙ prepend-feed u (lines more))
+pub asked-line : {B : Type 0} (k : Grammar B) (u more : List ℕ) → IsUnended u → asked k (u ++ (10 ∷ more)) ≡ line_of k u ∷ asked k more
+asked-line k u more h = ap (λ ps. map (line_of k) ps) (lines-prepend u (10 ∷ more) h ∙ prepend-feed u (lines more))
 
 at_most_one : (t : Bool) (b : ℕ) → 1 ≤ length (cond t [] (b ∷ [])) + 1
 at_most_one true b = omega arith
@@ -111,8 +112,8 @@ length-without_cr (b ∷ []) = at_most_one (eqb b 13) b
 length-without_cr (b ∷ c ∷ bs) = let h = length-without_cr (c ∷ bs) in omega arith
 
 -- a line that is too long is bad, whatever it has
-pub too_long : (bs : List ℕ) → 1025 < length bs → line_of bs ≡ Bad
-too_long bs h =
+pub too_long : {B : Type 0} (k : Grammar B) (bs : List ℕ) → 1025 < length bs → line_of k bs ≡ Bad
+too_long k bs h =
     let left = length-without_cr bs in
     let over : ltb 1024 (length (without_cr bs)) ≡ true = lt-ltb 1024 (length (without_cr bs)) (omega arith) in
     rw over refl
@@ -131,29 +132,31 @@ length-kept : (u : List ℕ) → 1026 ≤ length u → length (kept u) ≡ 1026
 unfolding kept
 length-kept u h = length-take-le 1026 u h
 
--- more bytes of a line that is too long change nothing
-pub line_of-kept : (u p : List ℕ) → line_of (kept u ++ p) ≡ line_of (u ++ p)
-line_of-kept u p = elim (cases_lt (length u) 1026) [
-  | inl short ↦ ap (λ v. line_of (v ++ p)) (kept-short u (omega arith))
-  | inr long ↦
-      let kept_long = length-kept u long in
-      too_long (kept u ++ p) (omega (arith, length-append (kept u) p)) ∙ sym (too_long (u ++ p) (omega (arith, length-append u p)))
-]
+module _ {B : Type 0} (k : Grammar B) where
+  -- more bytes of a line that is too long change nothing
+  pub line_of-kept : (u p : List ℕ) → line_of k (kept u ++ p) ≡ line_of k (u ++ p)
+  line_of-kept u p = elim (cases_lt (length u) 1026) [
+    | inl short ↦ ap (λ v. line_of k (v ++ p)) (kept-short u (omega arith))
+    | inr long ↦
+        let kept_long = length-kept u long in
+        too_long k (kept u ++ p) (omega (arith, length-append (kept u) p)) ∙ sym (too_long k (u ++ p) (omega (arith, length-append u p)))
+  ]
 
-pub kept-line : (u : List ℕ) → line_of (kept u) ≡ line_of u
-kept-line u = ap (λ v. line_of v) (sym (append-nil (kept u))) ∙ line_of-kept u [] ∙ ap (λ v. line_of v) (append-nil u)
+  pub kept-line : (u : List ℕ) → line_of k (kept u) ≡ line_of k u
+  kept-line u = ap (λ v. line_of k v) (sym (append-nil (kept u))) ∙ line_of-kept u [] ∙ ap (λ v. line_of k v) (append-nil u)
 
-same_asked : (m : ℕ) → ((u p : List ℕ) → line_of (take (suc m) u ++ p) ≡ line_of (u ++ p))
-    → (u : List ℕ) (ps : List (List ℕ)) → map line_of (prepend (take (suc m) u) ps) ≡ map line_of (prepend u ps)
-unfolding prepend
-same_asked m same [] ps = refl
-same_asked m same (b ∷ u) [] =
-    ap (λ (l : Line). l ∷ []) (ap (λ v. line_of v) (sym (append-nil (b ∷ take m u))) ∙ same (b ∷ u) [] ∙ ap (λ v. line_of v) (append-nil (b ∷ u)))
-same_asked m same (b ∷ u) (p ∷ ps) = ap (λ (l : Line). l ∷ map line_of ps) (same (b ∷ u) p)
+  same_asked : (m : ℕ) → ((u p : List ℕ) → line_of k (take (suc m) u ++ p) ≡ line_of k (u ++ p))
+      → (u : List ℕ) (ps : List (List ℕ)) → map (line_of k) (prepend (take (suc m) u) ps) ≡ map (line_of k) (prepend u ps)
+  unfolding prepend
+  same_asked m same [] ps = refl
+  same_asked m same (b ∷ u) [] =
+      ap (λ (l : Line B). l ∷ [])
+      (ap (λ v. line_of k v) (sym (append-nil (b ∷ take m u))) ∙ same (b ∷ u) [] ∙ ap (λ v. line_of k v) (append-nil (b ∷ u)))
+  same_asked m same (b ∷ u) (p ∷ ps) = ap (λ (l : Line B). l ∷ map (line_of k) ps) (same (b ∷ u) p)
 
-kept_same : (u : List ℕ) (ps : List (List ℕ)) → map line_of (prepend (kept u) ps) ≡ map line_of (prepend u ps)
-unfolding kept
-kept_same u ps = same_asked 1025 line_of-kept u ps
+  kept_same : (u : List ℕ) (ps : List (List ℕ)) → map (line_of k) (prepend (kept u) ps) ≡ map (line_of k) (prepend u ps)
+  unfolding kept
+  kept_same u ps = same_asked 1025 line_of-kept u ps
 
 unended-take : (n : ℕ) (u : List ℕ) → IsUnended u → IsUnended (take n u)
 unended-take n u h =
@@ -166,21 +169,22 @@ unended-kept u h = unended-take 1026 u h
 pub unended-append : (u v : List ℕ) → IsUnended u → IsUnended v → IsUnended (u ++ v)
 unended-append u v h k = list_any-append (λ b. eqb b 10) u v ∙ ap (λ (t : Bool). t || list_any (λ b. eqb b 10) v) h ∙ k
 
--- what is kept of a line that was begun stands for all of it
-pub asked-kept : (u t : List ℕ) → IsUnended u → asked (u ++ t) ≡ asked (kept u ++ t)
-asked-kept u t h =
-    ap (λ ps. map line_of ps) (lines-prepend u t h) ∙ sym (kept_same u (lines t))
-    ∙ sym (ap (λ ps. map line_of ps) (lines-prepend (kept u) t (unended-kept u h)))
+module _ {B : Type 0} (k : Grammar B) where
+  -- what is kept of a line that was begun stands for all of it
+  pub asked-kept : (u t : List ℕ) → IsUnended u → asked k (u ++ t) ≡ asked k (kept u ++ t)
+  asked-kept u t h =
+      ap (λ ps. map (line_of k) ps) (lines-prepend u t h) ∙ sym (kept_same k u (lines t))
+      ∙ sym (ap (λ ps. map (line_of k) ps) (lines-prepend (kept u) t (unended-kept u h)))
 
-last_one : (b : ℕ) (u : List ℕ) → map line_of (prepend (b ∷ u) []) ≡ line_of (b ∷ u) ∷ []
-unfolding prepend
-last_one b u = refl
+  last_one : (b : ℕ) (u : List ℕ) → map (line_of k) (prepend (b ∷ u) []) ≡ line_of k (b ∷ u) ∷ []
+  unfolding prepend
+  last_one b u = refl
 
--- a line that was begun is the last line, if it has a byte
-pub asked-last : (u : List ℕ) → IsUnended u → 0 < length u → asked u ≡ line_of u ∷ []
-asked-last [] h some = absurd (omega arith)
-asked-last (b ∷ u) h some =
-    ap (λ v. asked v) (sym (append-nil (b ∷ u))) ∙ ap (λ ps. map line_of ps) (lines-prepend (b ∷ u) [] h) ∙ last_one b u
+  -- a line that was begun is the last line, if it has a byte
+  pub asked-last : (u : List ℕ) → IsUnended u → 0 < length u → asked k u ≡ line_of k u ∷ []
+  asked-last [] h some = absurd (omega arith)
+  asked-last (b ∷ u) h some =
+      ap (λ v. asked k v) (sym (append-nil (b ∷ u))) ∙ ap (λ ps. map (line_of k) ps) (lines-prepend (b ∷ u) [] h) ∙ last_one b u
 
 -- as many bytes as there is room for
 fitting : (n : ℕ) (bytes : List ℕ) (room : ℕ) → take (min (length bytes) room) bytes ≡ take room bytes

@@ -1,11 +1,13 @@
 -- A number, digit by digit from the front.
-use Rattle.std.proofs.Common.{◌≡◌, ℕ, zero, suc, ◌+◌, ◌-◌, ◌*◌, ◌^◌, ◌<◌, ◌≤◌, List, [], ◌∷◌, Bool, true, false, cond, ltb, length, get_or, drop, refl, ap, sym, ◌∙◌, arith, Option, None, Some}
-use Rattle.std.specs.Prelude.{option_and_then, if◌then◌else◌}
+use Rattle.std.proofs.Common.{◌≡◌, ℕ, zero, suc, ◌+◌, ◌-◌, ◌*◌, ◌^◌, ◌<◌, ◌≤◌, List, [], ◌∷◌, Bool, true, false, cond, ltb, leb, length, get_or, drop, refl, ap, sym, subst, ◌∙◌, arith, Option, None, Some, inl, inr, ℤ, pos, ◌-ℤ◌, FitsSigned, w64}
+use Rattle.std.specs.Prelude.{option_and_then, if◌then◌else◌, SomeIff, IfSome}
+use Rattle.std.proofs.lemmas.Int.{ints}
+use Rattle.std.proofs.lemmas.Bool.Decides.{nat_tests}
 use Rattle.std.specs.List.{list_all}
 use Rattle.std.proofs.Math.Nat.{pow-suc}
-use Rattle.std.proofs.lemmas.Bool.{ltb-false, le-ltb, lt-ltb}
+use Rattle.std.proofs.lemmas.Bool.{ltb-false, le-ltb, lt-ltb, cases_lt}
 use Rattle.std.proofs.lemmas.List.{drop_more}
-use Rattle.gx_script.specs.Numbers.{is_digit, digits_value, if_below, number_of, next_value}
+use Rattle.gx_script.specs.Numbers.{is_digit, digits_value, if_below, number_of, next_value, to_negative_corner}
 
 -- the number of these digits behind a value
 abbrev pub number_after : ℕ → List ℕ → Option ℕ
@@ -61,3 +63,18 @@ one_time v = omega arith
 pub number_after-end : (v : ℕ) (ds : List ℕ) → v < 2 ^ 64 → length ds ≡ 0 → Some v ≡ number_after v ds
 number_after-end v [] small e = let below : ltb v (2 ^ 64) ≡ true = lt-ltb _ _ small in ap (λ (t : Bool). cond t (Some v) None) (sym below) ∙ ap (λ n. if_below (2 ^ 64) n) (one_time v)
 number_after-end v (d ∷ ds) small e = absurd (omega arith)
+
+-- what lies so far below 0, if it fits
+pub below-checked : (r : Option ℤ) (n : ℕ) → SomeIff r (FitsSigned w64 (pos 0 -ℤ pos n)) (pos 0 -ℤ pos n) → r ≡ to_negative_corner n
+below-checked None n h = elim (cases_lt 9223372036854775808 n) [
+  | inl over ↦ let no : leb n 9223372036854775808 ≡ false = grind (arith, nat_tests) in rw no refl
+  | inr within ↦ absurd (h (omega (arith, ints)))
+]
+below-checked (Some z) n h = elim (cases_lt 9223372036854775808 n) [
+  | inl over ↦ absurd (let fits = h.0 in omega (arith, ints))
+  | inr within ↦ let so : leb n 9223372036854775808 ≡ true = grind (arith, nat_tests) in rw so (ap (λ (x : ℤ). Some x) h.1)
+]
+
+pub below-fits : (r : Option ℤ) (n : ℕ) → SomeIff r (FitsSigned w64 (pos 0 -ℤ pos n)) (pos 0 -ℤ pos n) → IfSome r (λ z. FitsSigned w64 z)
+below-fits None n h = tt
+below-fits (Some z) n h = subst (λ (x : ℤ). FitsSigned w64 x) (sym h.1) h.0

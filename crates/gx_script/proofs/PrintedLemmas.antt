@@ -1,18 +1,23 @@
 -- Printed numbers, read again.
-use Rattle.std.proofs.Common.{◌≡◌, ℕ, suc, ◌+◌, ◌-◌, ◌*◌, ◌/◌, ◌%◌, ◌^◌, ◌<◌, ◌≤◌, ℤ, pos, negsuc, ◌-ℤ◌, List, [], ◌∷◌, ◌++◌, true, false, eqb, leb, ltb, length, get_or, refl, ap, sym, ◌∙◌, arith, append_assoc, Some, FitsSigned, w32, length-append}
-use Rattle.std.specs.Prelude.{decimal, option_and_then, ◌&&◌, int_le}
+use Rattle.std.proofs.Common.{◌≡◌, ℕ, suc, ◌+◌, ◌-◌, ◌*◌, ◌/◌, ◌%◌, ◌^◌, ◌<◌, ◌≤◌, ℤ, pos, negsuc, ◌-ℤ◌, List, [], ◌∷◌, ◌++◌, true, false, eqb, leb, ltb, length, get_or, refl, ap, sym, ◌∙◌, arith, append_assoc, Some, FitsSigned, w32, w64, length-append, Option, None}
+use Rattle.std.specs.Prelude.{decimal, option_and_then, map, ◌&&◌, int_le}
+use Rattle.std.specs.List.{All}
 use Rattle.std.specs.Fmt.{signed_decimal}
 use Rattle.std.specs.Cmp.Derive.{both_true}
 use Rattle.std.proofs.lemmas.Bool.{lt-ltb}
 use Rattle.std.proofs.lemmas.Int.{ints}
 use Rattle.std.proofs.lemmas.Fmt.{decimal_by_steps}
 use Rattle.std.proofs.lemmas.List.{append-nil}
+use Rattle.std.proofs.lemmas.List.Elements.{All-nil, All-cons}
 use Rattle.std.proofs.lemmas.Bool.Decides.{nat_tests}
 use Rattle.gx_geom.specs.Rectangles.{Rectangle, IsBox}
+use Rattle.gx_geom.specs.Solids.{Solid, IsSolid}
 use Rattle.gx_geom.specs.BoxLaws.{tests_at_most}
 use Rattle.gx_script.specs.Numbers.{number_of, next_value, corner_of, to_corner, to_negative_corner}
-use Rattle.gx_script.specs.Requests.{box_words}
+use Rattle.gx_script.specs.Corners.{Grammar, IsWritten, IsReversed, MakesNoKey, is_short, rectangle_grammar, solid_grammar}
+use Rattle.gx_script.specs.Requests.{numbers_of, key_of, key_words}
 use Rattle.gx_script.specs.Table.{corner_words}
+use Rattle.gx_script.proofs.RequestLemmas.{so_many, makes_none}
 use Rattle.gx_script.proofs.NumberLemmas.{number_after, number_after-cons, number_of-after, number_after-end}
 
 -- these digits are read as n, whatever follows, and begin with a digit
@@ -72,24 +77,84 @@ corner_of-digits (d ∷ ds) some h = let other : eqb d 45 ≡ false = grind (ari
 below_zero : (n : ℕ) → pos 0 -ℤ pos (suc n) ≡ negsuc n
 below_zero n = omega (arith, ints)
 
-pub corner_of-printed : (z : ℤ) → FitsSigned w32 z → corner_of (signed_decimal z) ≡ Some z
+pub corner_of-printed : (z : ℤ) → FitsSigned w64 z → corner_of (signed_decimal z) ≡ Some z
 corner_of-printed (pos n) fits =
-    let small : n < 2147483648 = omega (arith, ints) in
+    let small : n < 9223372036854775808 = omega (arith, ints) in
     let big : n < 2 ^ 64 = omega arith in
     let r = decimal-read n big in
-    let below : ltb n 2147483648 ≡ true = lt-ltb n 2147483648 small in
+    let below : ltb n 9223372036854775808 ≡ true = lt-ltb n 9223372036854775808 small in
     corner_of-digits (decimal n) r.some r.digit ∙ ap (λ o. option_and_then to_corner o) (number_of-decimal n big) ∙ rw below refl
 corner_of-printed (negsuc n) fits =
-    let small : n < 2147483648 = omega (arith, ints) in
-    let below : leb (suc n) 2147483648 ≡ true = grind (arith, nat_tests) in
+    let small : n < 9223372036854775808 = omega (arith, ints) in
+    let below : leb (suc n) 9223372036854775808 ≡ true = grind (arith, nat_tests) in
     ap (λ o. option_and_then to_negative_corner o) (number_of-decimal (suc n) (omega arith)) ∙ rw below (ap (λ (z : ℤ). Some z) (below_zero n))
 
--- the words of a box are read as the box
-pub box_words-printed : (b : Rectangle) → IsBox b → box_words (corner_words b) ≡ Some (Some b)
-box_words-printed b is =
-    let x1 = corner_of-printed b.x1 is.x1_fits in
-    let y1 = corner_of-printed b.y1 is.y1_fits in
-    let x2 = corner_of-printed b.x2 is.x2_fits in
-    let y2 = corner_of-printed b.y2 is.y2_fits in
+-- printed numbers, one after another
+pub numbers_of-printed : (zs : List ℤ) → All (FitsSigned w64) zs → numbers_of (map signed_decimal zs) ≡ Some zs
+numbers_of-printed [] fits = refl
+numbers_of-printed (z ∷ zs) fits =
+    let first = corner_of-printed z (fits 0 z (omega arith)) in
+    let later = numbers_of-printed zs (λ i d h. fits (suc i) d (omega arith)) in
+    rw first (rw later refl)
+
+module _ {B : Type 0} (k : Grammar B) where
+  -- the words of a key are read as the key
+  pub key_words-printed : (key : B) → IsWritten k key → key_words k (corner_words k key) ≡ Some (Some key)
+  key_words-printed key is =
+      ap (λ o. option_and_then (key_of k) o) (numbers_of-printed (k.corners key) is.in_range)
+      ∙ so_many k (k.corners key) true is.as_many is.fits ∙ ap (λ (o : Option B). Some o) is.makes
+
+  pub no_key-printed : (zs : List ℤ) → All (FitsSigned w64) zs → MakesNoKey k zs → key_words k (map signed_decimal zs) ≡ None
+  no_key-printed zs fits none = ap (λ o. option_and_then (key_of k) o) (numbers_of-printed zs fits) ∙ makes_none k zs none
+
+  pub reversed-printed : (zs : List ℤ) → All (FitsSigned w64) zs → IsReversed k zs → key_words k (map signed_decimal zs) ≡ Some None
+  reversed-printed zs fits is =
+      ap (λ o. option_and_then (key_of k) o) (numbers_of-printed zs fits)
+      ∙ so_many k zs true is.as_many is.fits ∙ ap (λ (o : Option B). Some o) is.makes
+
+long : (z : ℤ) → FitsSigned w32 z → FitsSigned w64 z
+long z fits = omega (arith, ints)
+
+one_more_fits : (z : ℤ) (zs : List ℤ) → FitsSigned w32 z → All (FitsSigned w64) zs → All (FitsSigned w64) (z ∷ zs)
+one_more_fits z zs fits rest = All-cons (FitsSigned w64) z zs (long z fits) rest
+
+none_fits : All (FitsSigned w64) []
+none_fits = All-nil (FitsSigned w64)
+
+short : (z : ℤ) → FitsSigned w32 z → is_short z ≡ true
+short z fits = both_true (tests_at_most (negsuc 2147483647) z (omega (arith, ints))) (tests_at_most z (pos 2147483647) (omega (arith, ints)))
+
+-- a box is made of its own corners
+pub rectangle_written : (b : Rectangle) → IsBox b → IsWritten rectangle_grammar b
+rectangle_written b is =
+    let x1 = short b.x1 is.x1_fits in
+    let y1 = short b.y1 is.y1_fits in
+    let x2 = short b.x2 is.x2_fits in
+    let y2 = short b.y2 is.y2_fits in
     let in_order : (int_le b.x1 b.x2 && int_le b.y1 b.y2) ≡ true = both_true (tests_at_most b.x1 b.x2 is.x_in_order) (tests_at_most b.y1 b.y2 is.y_in_order) in
-    rw x1 (rw y1 (rw x2 (rw y2 (rw in_order refl))))
+    record {
+      in_range = one_more_fits b.x1 (b.y1 ∷ b.x2 ∷ b.y2 ∷ []) is.x1_fits (one_more_fits b.y1 (b.x2 ∷ b.y2 ∷ []) is.y1_fits
+          (one_more_fits b.x2 (b.y2 ∷ []) is.x2_fits (one_more_fits b.y2 [] is.y2_fits none_fits)));
+      as_many = refl;
+      fits = both_true x1 (both_true y1 (both_true x2 (both_true y2 refl)));
+      makes = rw in_order refl;
+    }
+
+pub solid_written : (b : Solid) → IsSolid b → IsWritten solid_grammar b
+solid_written b is =
+    let x1 = short b.x1 is.x1_fits in
+    let y1 = short b.y1 is.y1_fits in
+    let z1 = short b.z1 is.z1_fits in
+    let x2 = short b.x2 is.x2_fits in
+    let y2 = short b.y2 is.y2_fits in
+    let z2 = short b.z2 is.z2_fits in
+    let in_order : (int_le b.x1 b.x2 && (int_le b.y1 b.y2 && int_le b.z1 b.z2)) ≡ true =
+    both_true (tests_at_most b.x1 b.x2 is.x_in_order) (both_true (tests_at_most b.y1 b.y2 is.y_in_order) (tests_at_most b.z1 b.z2 is.z_in_order)) in
+    record {
+      in_range = one_more_fits b.x1 (b.y1 ∷ b.z1 ∷ b.x2 ∷ b.y2 ∷ b.z2 ∷ []) is.x1_fits (one_more_fits b.y1 (b.z1 ∷ b.x2 ∷ b.y2 ∷ b.z2 ∷ []) is.y1_fits
+          (one_more_fits b.z1 (b.x2 ∷ b.y2 ∷ b.z2 ∷ []) is.z1_fits (one_more_fits b.x2 (b.y2 ∷ b.z2 ∷ []) is.x2_fits
+          (one_more_fits b.y2 (b.z2 ∷ []) is.y2_fits (one_more_fits b.z2 [] is.z2_fits none_fits)))));
+      as_many = refl;
+      fits = both_true x1 (both_true y1 (both_true z1 (both_true x2 (both_true y2 (both_true z2 refl)))));
+      makes = rw in_order refl;
+    }

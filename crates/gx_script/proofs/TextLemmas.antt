@@ -1,17 +1,17 @@
 -- The lines of printed text.
-use Rattle.std.proofs.Common.{◌≡◌, ℕ, zero, suc, ◌+◌, ◌/◌, ◌%◌, ℤ, pos, negsuc, List, [], ◌∷◌, ◌++◌, Bool, true, false, cond, eqb, ltb, length, refl, ap, sym, ◌∙◌, arith, append_assoc, codes}
+use Rattle.std.proofs.Common.{◌≡◌, ℕ, zero, suc, ◌+◌, ◌/◌, ◌%◌, ℤ, pos, negsuc, List, [], ◌∷◌, ◌++◌, Bool, true, false, cond, eqb, ltb, length, refl, ap, sym, subst, ◌∙◌, arith, append_assoc, codes}
 use Rattle.std.specs.Prelude.{decimal, ◌||◌}
 use Rattle.std.specs.List.{list_any, flat_map}
 use Rattle.std.specs.Fmt.{digits, digits_onto, digit_glyph, signed_decimal}
 use Rattle.std.proofs.lemmas.Bool.{ne_eqb}
 use Rattle.std.proofs.lemmas.List.Concat.{flat_map-cons}
-use Rattle.gx_geom.specs.Rectangles.{Rectangle, corners_text}
 use Rattle.gx_geom.specs.Refusals.{refusal_number, refusal_text}
 use Rattle.gx_geom.specs.declared.refusal.Refusal.{Refusal}
 use Rattle.gx_geom.specs.declared.refusal.Refusal.TheVariants.{NoTransaction, InTransaction, Present, Absent, Busy, BadBox, PagesFull, ClaimsFull, PredicatesFull, Memory, Device, Failed, Damaged, NotFormatted, BadSession, CallOpen, TooSmall, BadParameter, NoCall, HistoryFull}
 use Rattle.gx_machine.specs.declared.entry.Entry.{Entry}
 use Rattle.gx_machine.specs.declared.reply.Reply.{Reply}
 use Rattle.gx_machine.specs.declared.reply.Reply.TheVariants.{Ok, Inserted, Deleted, Found, Committed, Aborted, Refused}
+use Rattle.gx_script.specs.Corners.{Grammar, spaced}
 use Rattle.gx_script.specs.Lines.{lines}
 use Rattle.gx_script.specs.Replies.{told_line, entry_line, reply_text, reply_lines, bad_line}
 use Rattle.gx_script.specs.Scripts.{IsUnended}
@@ -44,14 +44,12 @@ signed-unended : (z : ℤ) → IsUnended (signed_decimal z)
 signed-unended (pos n) = decimal-unended n
 signed-unended (negsuc n) = unended-cons 45 (decimal (suc n)) refl (decimal-unended (suc n))
 
-spaced : (a bs : List ℕ) → IsUnended a → IsUnended bs → IsUnended (a ++ (32 ∷ bs))
-spaced a bs h k = unended-append a (32 ∷ bs) h (unended-cons 32 bs refl k)
-
-corners-unended : (b : Rectangle) → IsUnended (corners_text b)
-corners-unended b =
-    let third = spaced (signed_decimal b.x2) (signed_decimal b.y2) (signed-unended b.x2) (signed-unended b.y2) in
-    let second = spaced (signed_decimal b.y1) (signed_decimal b.x2 ++ (32 ∷ signed_decimal b.y2)) (signed-unended b.y1) third in
-    spaced (signed_decimal b.x1) (signed_decimal b.y1 ++ (32 ∷ (signed_decimal b.x2 ++ (32 ∷ signed_decimal b.y2)))) (signed-unended b.x1) second
+-- nor in numbers, with a space before each
+spaced-unended : (zs : List ℤ) → IsUnended (spaced zs)
+spaced-unended [] = refl
+spaced-unended (z ∷ zs) =
+    subst IsUnended (sym (flat_map-cons (λ z. 32 ∷ signed_decimal z) z zs))
+    (unended-append (32 ∷ signed_decimal z) (spaced zs) (unended-cons 32 (signed_decimal z) refl (signed-unended z)) (spaced-unended zs))
 
 refusal-unended : (why : Refusal) → IsUnended (refusal_text why)
 refusal-unended NoTransaction = refl
@@ -91,34 +89,37 @@ told-one s told more h =
 together : (a b : ℕ) → 1 + (a + b) ≡ suc a + b
 together a b = omega arith
 
-entries-lines : (s : ℕ) (es : List (Entry Rectangle)) (more : List ℕ) → length (lines (flat_map (entry_line s) es ++ more)) ≡ length es + length (lines more)
-entries-lines s [] more = omega arith
-entries-lines s (e ∷ es) more =
-    let unended = unended-append (codes "entry ") (decimal e.row ++ (32 ∷ corners_text e.key)) refl
-    (unended-append (decimal e.row) (32 ∷ corners_text e.key) (decimal-unended e.row) (unended-cons 32 (corners_text e.key) refl (corners-unended e.key))) in
-    let later = entries-lines s es more in
-    let first = told-one s (codes "entry " ++ (decimal e.row ++ (32 ∷ corners_text e.key))) (flat_map (entry_line s) es ++ more) unended in
-    let same = ap (λ x. length (lines x))
-    (ap (λ x. x ++ more) (flat_map-cons (entry_line s) e es) ∙ append_assoc (entry_line s e) (flat_map (entry_line s) es) more) in
-    same ∙ first ∙ ap (λ (n : ℕ). 1 + n) later ∙ together (length es) (length (lines more))
+module _ {B : Type 0} (k : Grammar B) where
+  entries-lines : (s : ℕ) (es : List (Entry B)) (more : List ℕ) → length (lines (flat_map (entry_line k s) es ++ more)) ≡ length es + length (lines more)
+  entries-lines s [] more = omega arith
+  entries-lines s (e ∷ es) more =
+      let corners = spaced (k.corners e.key) in
+      let told : List ℕ = codes "entry " ++ (decimal e.row ++ corners) in
+      let unended = unended-append (codes "entry ") (decimal e.row ++ corners) refl
+      (unended-append (decimal e.row) corners (decimal-unended e.row) (spaced-unended (k.corners e.key))) in
+      let later = entries-lines s es more in
+      let first = told-one s told (flat_map (entry_line k s) es ++ more) unended in
+      let same = ap (λ x. length (lines x))
+      (ap (λ x. x ++ more) (flat_map-cons (entry_line k s) e es) ∙ append_assoc (entry_line k s e) (flat_map (entry_line k s) es) more) in
+      same ∙ first ∙ ap (λ (n : ℕ). 1 + n) later ∙ together (length es) (length (lines more))
 
 together_one : (a b : ℕ) → 1 + (a + b) ≡ 1 + a + b
 together_one a b = omega arith
 
-pub reply-lines : (s : ℕ) (reply : Reply Rectangle) (more : List ℕ) → length (lines (reply_text s reply ++ more)) ≡ reply_lines reply + length (lines more)
-reply-lines s Ok more = told-one s (codes "ok") more refl
-reply-lines s Inserted more = told-one s (codes "inserted") more refl
-reply-lines s Deleted more = told-one s (codes "deleted") more refl
-reply-lines s (Found es) more =
+pub reply-lines : {B : Type 0} (k : Grammar B) (s : ℕ) (reply : Reply B) (more : List ℕ) → length (lines (reply_text k s reply ++ more)) ≡ reply_lines reply + length (lines more)
+reply-lines k s Ok more = told-one s (codes "ok") more refl
+reply-lines k s Inserted more = told-one s (codes "inserted") more refl
+reply-lines k s Deleted more = told-one s (codes "deleted") more refl
+reply-lines k s (Found es) more =
     let head : List ℕ = codes "found " ++ decimal (length es) in
     let unended = unended-append (codes "found ") (decimal (length es)) refl (decimal-unended (length es)) in
-    ap (λ x. length (lines x)) (append_assoc (told_line s head) (flat_map (entry_line s) es) more)
-    ∙ told-one s head (flat_map (entry_line s) es ++ more) unended
-    ∙ ap (λ (n : ℕ). 1 + n) (entries-lines s es more) ∙ together_one (length es) (length (lines more))
-reply-lines s (Committed number) more =
+    ap (λ x. length (lines x)) (append_assoc (told_line s head) (flat_map (entry_line k s) es) more)
+    ∙ told-one s head (flat_map (entry_line k s) es ++ more) unended
+    ∙ ap (λ (n : ℕ). 1 + n) (entries-lines k s es more) ∙ together_one (length es) (length (lines more))
+reply-lines k s (Committed number) more =
     told-one s (codes "committed " ++ decimal number) more (unended-append (codes "committed ") (decimal number) refl (decimal-unended number))
-reply-lines s Aborted more = told-one s (codes "aborted") more refl
-reply-lines s (Refused why) more =
+reply-lines k s Aborted more = told-one s (codes "aborted") more refl
+reply-lines k s (Refused why) more =
     told-one s (codes "refused " ++ (decimal (refusal_number why) ++ (32 ∷ refusal_text why))) more
     (unended-append (codes "refused ") (decimal (refusal_number why) ++ (32 ∷ refusal_text why)) refl
     (unended-append (decimal (refusal_number why)) (32 ∷ refusal_text why) (decimal-unended (refusal_number why))

@@ -1,6 +1,8 @@
 pub mod Lines
 pub mod Words
 pub mod Numbers
+pub mod Corners
+pub mod CornerLaws
 pub mod Requests
 pub mod Replies
 pub mod Table

@@ -23,15 +23,15 @@ number_of (d ∷ ds) = if list_all is_digit (d ∷ ds) then if_below (2 ^ 64) (d
 abbrev pub next_value : ℕ → ℕ → Option ℕ
 next_value value d = if is_digit d then if_below (2 ^ 64) (value * 10 + (d - 48)) else None
 
--- a number from 0 to 2^31 - 1
+-- a number from 0 to 2^63 - 1
 abbrev pub to_corner : ℕ → Option ℤ
-to_corner n = if nat_lt n 2147483648 then Some (pos n) else None
+to_corner n = if nat_lt n 9223372036854775808 then Some (pos n) else None
 
--- a number from -2^31 to 0
+-- a number from -2^63 to 0
 abbrev pub to_negative_corner : ℕ → Option ℤ
-to_negative_corner n = if nat_le n 2147483648 then Some (pos 0 -ℤ pos n) else None
+to_negative_corner n = if nat_le n 9223372036854775808 then Some (pos 0 -ℤ pos n) else None
 
--- a corner: one or more digits, after a minus sign or not, with a value in the range of 32 bits
+-- a corner: one or more digits, after a minus sign or not, with a value in the range of 64 bits
 abbrev pub corner_of : List ℕ → Option ℤ
 corner_of [] = None
 corner_of (b ∷ bs) = if b == 45 then option_and_then to_negative_corner (number_of bs) else option_and_then to_corner (number_of (b ∷ bs))

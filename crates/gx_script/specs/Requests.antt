@@ -1,8 +1,7 @@
 -- What a line asks for.
-use Rattle.std.specs.Prelude.{ℕ, nat_lt, ◌&&◌, int_le, if◌then◌else◌, codes, length, Option, None, Some, option_map, option_and_then, List, [], ◌∷◌}
+use Rattle.std.specs.Prelude.{ℕ, ℤ, nat_lt, ◌==◌, ◌&&◌, if◌then◌else◌, codes, length, Option, None, Some, option_map, option_and_then, List, [], ◌∷◌}
 use Rattle.std.specs.Option.{option_map_or}
 use Rattle.std.specs.Str.{bytes_eq}
-use Rattle.gx_geom.specs.Rectangles.{Rectangle, rectangle_of}
 use Rattle.gx_machine.specs.declared.call.Call.{Call}
 use Rattle.gx_machine.specs.declared.call.Call.TheVariants as call
 use Rattle.gx_machine.specs.declared.query.Query.TheVariants as query
@@ -10,10 +9,11 @@ use Rattle.gx_machine.specs.declared.entry.Entry.{Entry}
 use Rattle.gx_script.specs.declared.line.Line.{Line}
 use Rattle.gx_script.specs.declared.line.Line.TheVariants.{Blank, Bad, Reversed, Asks}
 use Rattle.gx_script.specs.declared.command.Command.{Command}
-use Rattle.gx_script.specs.declared.command.Command.TheVariants.{Begin, Insert, Delete, Overlap, Within, Equal, Commit, Abort}
+use Rattle.gx_script.specs.declared.command.Command.TheVariants.{Begin, Insert, Delete, Overlap, Within, Equal, Covers, Commit, Abort}
 use Rattle.gx_script.specs.Lines.{without_cr}
 use Rattle.gx_script.specs.Words.{words}
 use Rattle.gx_script.specs.Numbers.{number_of, corner_of}
+use Rattle.gx_script.specs.Corners.{Grammar}
 
 -- the commands, in capitals
 abbrev pub command_of : List ℕ → Option Command
@@ -24,6 +24,7 @@ command_of w =
     else if bytes_eq w (codes "OVERLAP") then Some Overlap
     else if bytes_eq w (codes "WITHIN") then Some Within
     else if bytes_eq w (codes "EQUAL") then Some Equal
+    else if bytes_eq w (codes "COVERS") then Some Covers
     else if bytes_eq w (codes "COMMIT") then Some Commit
     else if bytes_eq w (codes "ABORT") then Some Abort
     else None
@@ -33,63 +34,61 @@ abbrev pub first_word : {A : Type 0} → (List ℕ → Option A) → List (List 
 first_word read [] = None
 first_word read (w ∷ ws) = option_map (λ a. (a, ws)) (read w)
 
--- the value, where no word is left
-abbrev pub at_end : {A : Type 0} → A → List (List ℕ) → Option A
-at_end a [] = Some a
-at_end a (w ∷ ws) = None
+-- the numbers that words say, each a corner
+abbrev pub numbers_of : List (List ℕ) → Option (List ℤ)
+numbers_of [] = Some []
+numbers_of (w ∷ ws) = option_and_then (λ z. option_map (λ zs. z ∷ zs) (numbers_of ws)) (corner_of w)
 
--- the corners, where none is reversed
-abbrev pub box_of : Rectangle → Option Rectangle
-box_of b = if int_le b.x1 b.x2 && int_le b.y1 b.y2 then Some b else None
+-- as many corners as a key has, all of which may be corners, and the key that they make: none where they are reversed
+abbrev pub key_of : {B : Type 0} → Grammar B → List ℤ → Option (Option B)
+key_of grammar zs = if length zs == grammar.count && grammar.fit zs then Some (grammar.made zs) else None
 
--- four corners and no other word, and the box that they make: none where they are reversed
-abbrev pub box_words : List (List ℕ) → Option (Option Rectangle)
-box_words ws =
-    option_and_then (λ x1. option_and_then (λ y1. option_and_then (λ x2. option_and_then (λ y2.
-    at_end (box_of (rectangle_of x1.0 y1.0 x2.0 y2.0)) y2.1)
-    (first_word corner_of x2.1)) (first_word corner_of y1.1)) (first_word corner_of x1.1)) (first_word corner_of ws)
+-- words that are the corners of a key and no more, and that key
+abbrev pub key_words : {B : Type 0} → Grammar B → List (List ℕ) → Option (Option B)
+key_words grammar ws = option_and_then (key_of grammar) (numbers_of ws)
 
--- a row, four corners and no other word, and the entry that they make: none where the corners are reversed
-abbrev pub entry_words : List (List ℕ) → Option (Option (Entry Rectangle))
-entry_words ws =
-    option_and_then (λ row. option_map (λ box. option_map (λ key. record { row = row.0; key = key }) box) (box_words row.1))
+-- a row, the corners of a key and no other word, and the entry that they make: none where the corners are reversed
+abbrev pub entry_words : {B : Type 0} → Grammar B → List (List ℕ) → Option (Option (Entry B))
+entry_words grammar ws =
+    option_and_then (λ row. option_map (λ made. option_map (λ key. record { row = row.0; key = key }) made) (key_words grammar row.1))
     (first_word number_of ws)
 
 -- the call that a session makes of its arguments; reversed corners ask nothing
-abbrev pub with_arguments : {A : Type 0} → ℕ → (A → Call Rectangle) → Option (Option A) → Line
+abbrev pub with_arguments : {A B : Type 0} → ℕ → (A → Call B) → Option (Option A) → Line B
 with_arguments session make None = Bad
 with_arguments session make (Some None) = Reversed session
 with_arguments session make (Some (Some a)) = Asks session (make a)
 
 -- a call without arguments
-abbrev pub alone : ℕ → Call Rectangle → List (List ℕ) → Line
+abbrev pub alone : {B : Type 0} → ℕ → Call B → List (List ℕ) → Line B
 alone session call [] = Asks session call
 alone session call (w ∷ ws) = Bad
 
 -- each command with the words that follow it
-abbrev pub command_line : ℕ → Command → List (List ℕ) → Line
-command_line session Begin ws = alone session call.Begin ws
-command_line session Insert ws = with_arguments session (λ e. call.Insert e) (entry_words ws)
-command_line session Delete ws = with_arguments session (λ e. call.Delete e) (entry_words ws)
-command_line session Overlap ws = with_arguments session (λ b. call.Search (query.Overlap b)) (box_words ws)
-command_line session Within ws = with_arguments session (λ b. call.Search (query.Within b)) (box_words ws)
-command_line session Equal ws = with_arguments session (λ b. call.Search (query.Equal b)) (box_words ws)
-command_line session Commit ws = alone session call.Commit ws
-command_line session Abort ws = alone session call.Abort ws
+abbrev pub command_line : {B : Type 0} → Grammar B → ℕ → Command → List (List ℕ) → Line B
+command_line grammar session Begin ws = alone session call.Begin ws
+command_line grammar session Insert ws = with_arguments session (λ e. call.Insert e) (entry_words grammar ws)
+command_line grammar session Delete ws = with_arguments session (λ e. call.Delete e) (entry_words grammar ws)
+command_line grammar session Overlap ws = with_arguments session (λ b. call.Search (query.Overlap b)) (key_words grammar ws)
+command_line grammar session Within ws = with_arguments session (λ b. call.Search (query.Within b)) (key_words grammar ws)
+command_line grammar session Equal ws = with_arguments session (λ b. call.Search (query.Equal b)) (key_words grammar ws)
+command_line grammar session Covers ws = with_arguments session (λ b. call.Search (query.Covers b)) (key_words grammar ws)
+command_line grammar session Commit ws = alone session call.Commit ws
+command_line grammar session Abort ws = alone session call.Abort ws
 
 -- a session's number, then a command
-abbrev pub session_line : List (List ℕ) → Line
-session_line ws =
-    option_map_or (λ session. option_map_or (λ command. command_line session.0 command.0 command.1) (first_word command_of session.1) Bad)
+abbrev pub session_line : {B : Type 0} → Grammar B → List (List ℕ) → Line B
+session_line grammar ws =
+    option_map_or (λ session. option_map_or (λ command. command_line grammar session.0 command.0 command.1) (first_word command_of session.1) Bad)
     (first_word number_of ws) Bad
 
 -- a line by its words: none is a blank line
-abbrev pub words_line : List (List ℕ) → Line
-words_line [] = Blank
-words_line (w ∷ ws) = session_line (w ∷ ws)
+abbrev pub words_line : {B : Type 0} → Grammar B → List (List ℕ) → Line B
+words_line grammar [] = Blank
+words_line grammar (w ∷ ws) = session_line grammar (w ∷ ws)
 
 -- a line by its bytes, of which it may have 1,024
-abbrev pub line_of : List ℕ → Line
-line_of bytes =
+abbrev pub line_of : {B : Type 0} → Grammar B → List ℕ → Line B
+line_of grammar bytes =
     let body = without_cr bytes in
-    if nat_lt 1024 (length body) then Bad else words_line (words body)
+    if nat_lt 1024 (length body) then Bad else words_line grammar (words body)

@@ -1,8 +1,8 @@
 -- Lines as the table has them.
-use Rattle.std.specs.Prelude.{ℕ, List, [], ◌∷◌}
+use Rattle.std.specs.Prelude.{ℕ, List, map}
 use Rattle.std.specs.Fmt.{signed_decimal}
-use Rattle.gx_geom.specs.Rectangles.{Rectangle}
+use Rattle.gx_script.specs.Corners.{Grammar}
 
--- four corners as words
-abbrev pub corner_words : Rectangle → List (List ℕ)
-corner_words b = signed_decimal b.x1 ∷ (signed_decimal b.y1 ∷ (signed_decimal b.x2 ∷ (signed_decimal b.y2 ∷ [])))
+-- the corners of a key as words
+abbrev pub corner_words : {B : Type 0} → Grammar B → B → List (List ℕ)
+corner_words grammar key = map signed_decimal (grammar.corners key)

@@ -17,6 +17,8 @@ pub enum Command {
     Within,
     /// Find what is equal.
     Equal,
+    /// Find what covers.
+    Covers,
     /// Keep the transaction's changes.
     Commit,
     /// Drop the transaction's changes.
@@ -40,6 +42,8 @@ impl Command {
             Some(Command::Within)
         } else if word == b"EQUAL".as_slice() {
             Some(Command::Equal)
+        } else if word == b"COVERS".as_slice() {
+            Some(Command::Covers)
         } else if word == b"COMMIT".as_slice() {
             Some(Command::Commit)
         } else if word == b"ABORT".as_slice() {

@@ -3,6 +3,7 @@
 
 mod answers;
 mod command;
+mod corners;
 mod fault;
 pub mod laws;
 mod line;
@@ -16,6 +17,7 @@ mod runner;
 mod words;
 
 pub use answers::Answers;
+pub use corners::Corners;
 pub use fault::ScriptFault;
 pub use line::Line;
 pub use noted::{Noted, Transfer};

@@ -1,16 +1,15 @@
 //! What a line of a script is.
-use gx_geom::Box2;
 use gx_machine::Call;
 
 /// What a line of a script is.
 #[derive(Clone, Copy, Debug, PartialEq, Eq)]
-pub enum Line {
+pub enum Line<B> {
     /// It has no words, and is answered by nothing.
     Blank,
     /// It is too long, or no line of the table.
     Bad,
-    /// This session's box has its corners reversed.
+    /// This session's key has its corners reversed.
     Reversed(u64),
     /// This session makes this call.
-    Asks(u64, Call<Box2>),
+    Asks(u64, Call<B>),
 }

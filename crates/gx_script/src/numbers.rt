@@ -1,6 +1,6 @@
 //! Numbers in words.
 ghost use Rattle.std.specs.Prelude.{◌≡◌, ◌<◌, ◌^◌, IfSome, FitsSigned};
-ghost use Rattle.std.specs.Int.{w32};
+ghost use Rattle.std.specs.Int.{w64};
 ghost use Rattle.gx_script.specs.Numbers.{number_of, corner_of, next_value, to_corner, to_negative_corner};
 
 /// The number that a word of digits says, where it is below 2^64.
@@ -17,10 +17,10 @@ pub(crate) fn number(word: &[u8]) -> Option<u64>
     Some(value)
 }
 
-/// The number that a corner's word says, where it is in the range of an i32.
-pub(crate) fn corner(word: &[u8]) -> Option<i32>
+/// The number that a corner's word says, where it is in the range of an i64.
+pub(crate) fn corner(word: &[u8]) -> Option<i64>
     ensures value { result ≡ corner_of word.now }
-    ensures fits { IfSome result (λ z. FitsSigned w32 z) }
+    ensures fits { IfSome result (λ z. FitsSigned w64 z) }
 {
     match word.split_first() {
         Some((b'-', digits)) => negative(number(digits)?),
@@ -39,24 +39,20 @@ fn with_digit(value: u64, digit: u8) -> Option<u64>
     value.checked_mul(10)?.checked_add(u64::from(digit - b'0'))
 }
 
-fn positive(value: u64) -> Option<i32>
+fn positive(value: u64) -> Option<i64>
     ensures value { result ≡ to_corner value }
-    ensures fits { IfSome result (λ z. FitsSigned w32 z) }
+    ensures fits { IfSome result (λ z. FitsSigned w64 z) }
 {
-    if value < 2147483648 {
-        Some(value as i32)
+    if value < 9223372036854775808 {
+        Some(value as i64)
     } else {
         None
     }
 }
 
-fn negative(value: u64) -> Option<i32>
+fn negative(value: u64) -> Option<i64>
     ensures value { result ≡ to_negative_corner value }
-    ensures fits { IfSome result (λ z. FitsSigned w32 z) }
+    ensures fits { IfSome result (λ z. FitsSigned w64 z) }
 {
-    if value <= 2147483648 {
-        Some((0 - value as i64) as i32)
-    } else {
-        None
-    }
+    0i64.checked_sub_unsigned(value)
 }

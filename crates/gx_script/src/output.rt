@@ -3,15 +3,15 @@ ghost use Rattle.std.specs.Prelude.{◌≡◌, ◌+◌, ◌<◌, ◌≤◌, ◌�
 ghost use Rattle.std.specs.Prelude.{decimal, codes, IsTrue, OnOk, IfErr, OnErr};
 ghost use Rattle.std.specs.Fmt.{signed_decimal};
 ghost use Rattle.std.specs.Io.KnownBytes.{Appends};
-ghost use Rattle.gx_geom.specs.Rectangles.{corners_text};
 ghost use Rattle.gx_geom.specs.Refusals.{refusal_number, refusal_text};
+ghost use Rattle.gx_script.specs.Corners.{grammar_of, spaced};
 ghost use Rattle.gx_script.specs.Replies.{told_line, entry_line, bad_line};
 ghost use Rattle.gx_script.specs.Writes.{IsPut, IsCut};
 ghost use Rattle.gx_script.specs.Noting.{TakesNoMore};
 
-use crate::{Noted, ScriptFault, Transfer};
+use crate::{Corners, Noted, ScriptFault, Transfer};
 use arrayvec::ArrayVec;
-use gx_geom::{Box2, Refusal};
+use gx_geom::Refusal;
 use gx_machine::Entry;
 use itoa::Buffer;
 use std::io::Write;
@@ -21,7 +21,7 @@ use std::marker::Model;
 pub(crate) const WAITING: usize = 8192;
 
 /// More bytes than any line of a reply has.
-pub(crate) const LONGEST: usize = 128;
+pub(crate) const LONGEST: usize = 192;
 
 /// How often a writer is asked to take a piece.
 const WRITES: u64 = 1 << 32;
@@ -118,14 +118,13 @@ impl Output {
     }
 
     /// Adds the line of an entry.
-    pub(crate) fn put_entry(&mut self, session: u64, entry: &Entry<Box2>)
+    pub(crate) fn put_entry<B: Corners>(&mut self, session: u64, entry: &Entry<B>)
         requires { length self.old + LONGEST ≤ WAITING }
-        ensures { self.new ≡ self.old ++ entry_line session entry.now }
+        ensures { self.new ≡ self.old ++ entry_line (grammar_of B.Corners) session entry.now }
     {
         self.put_number(session);
         self.put_bytes(b" entry ");
         self.put_number(entry.row);
-        self.put_bytes(b" ");
         self.put_corners(&entry.key);
         self.put_bytes(b"\n");
     }
@@ -140,18 +139,16 @@ impl Output {
         self.put_bytes(b" bad\n");
     }
 
-    fn put_corners(&mut self, key: &Box2)
-        requires { length self.old + 48 ≤ WAITING }
-        ensures text { self.new ≡ self.old ++ corners_text key.now }
-        ensures len { length self.new ≤ length self.old + 47 }
+    // the corners of a key, each after a space
+    fn put_corners<B: Corners>(&mut self, key: &B)
+        requires { length self.old + 126 ≤ WAITING }
+        ensures text { self.new ≡ self.old ++ spaced (B.corners key.now) }
+        ensures len { length self.new ≤ length self.old + 126 }
     {
-        self.put_corner(key.x1());
-        self.put_bytes(b" ");
-        self.put_corner(key.y1());
-        self.put_bytes(b" ");
-        self.put_corner(key.x2());
-        self.put_bytes(b" ");
-        self.put_corner(key.y2());
+        for i in 0..B::COUNT {
+            self.put_bytes(b" ");
+            self.put_corner(key.corner(i));
+        }
     }
 
     fn put_number(&mut self, number: u64)
@@ -163,10 +160,10 @@ impl Output {
         self.put_bytes(digits.format(number).as_bytes());
     }
 
-    fn put_corner(&mut self, corner: i32)
-        requires { length self.old + 11 ≤ WAITING }
+    fn put_corner(&mut self, corner: i64)
+        requires { length self.old + 20 ≤ WAITING }
         ensures text { self.new ≡ self.old ++ signed_decimal corner }
-        ensures len { length self.new ≤ length self.old + 11 }
+        ensures len { length self.new ≤ length self.old + 20 }
     {
         let mut digits = Buffer::new();
         self.put_bytes(digits.format(corner).as_bytes());

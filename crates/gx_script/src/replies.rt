@@ -1,29 +1,30 @@
 //! The text of a reply.
 ghost use Rattle.std.specs.Prelude.{◌≡◌, ◌+◌, ◌≤◌, ◌++◌, length, decimal, codes, OnOk, IfErr, OnErr};
 ghost use Rattle.std.specs.List.{flat_map};
+ghost use Rattle.gx_script.specs.Corners.{grammar_of};
 ghost use Rattle.gx_script.specs.Replies.{reply_text, told_line, entry_line};
 ghost use Rattle.gx_script.specs.Writes.{IsPut, IsCut};
 ghost use Rattle.gx_script.specs.Noting.{TakesNoMore};
 
 use crate::output::{LONGEST, Output, WAITING};
-use crate::{Noted, ScriptFault};
-use gx_geom::Box2;
+use crate::{Corners, Noted, ScriptFault};
 use gx_machine::{Entry, Reply};
 use std::io::Write;
 
 /// Adds the lines of a reply, and writes what there is no room for.
-pub(crate) fn put_reply<W: Write>(
+pub(crate) fn put_reply<B: Corners, W: Write>(
     writer: &mut Noted<W>,
     output: &mut Output,
     session: u64,
-    reply: &Reply<Box2>,
+    reply: &Reply<B>,
 ) -> Result<(), ScriptFault>
     ensures ok { OnOk result (IsPut
         (W.contents writer.old.inner) (W.contents writer.new.inner) output.old
-        (reply_text session reply.now) output.new) }
+        (reply_text (grammar_of B.Corners) session reply.now) output.new) }
     ensures cut { IfErr result (λ e. (e ≡ ScriptFault.Write)
         × IsCut
-        (W.contents writer.old.inner) (W.contents writer.new.inner) (output.old ++ reply_text session reply.now)) }
+        (W.contents writer.old.inner) (W.contents writer.new.inner)
+        (output.old ++ reply_text (grammar_of B.Corners) session reply.now)) }
     ensures stuck { OnErr result (TakesNoMore writer.new) }
 {
     output.make_room(writer)?;
@@ -43,18 +44,18 @@ pub(crate) fn put_reply<W: Write>(
     Ok(())
 }
 
-fn put_entries<W: Write>(
+fn put_entries<B: Corners, W: Write>(
     writer: &mut Noted<W>,
     output: &mut Output,
     session: u64,
-    entries: &[Entry<Box2>],
+    entries: &[Entry<B>],
 ) -> Result<(), ScriptFault>
     ensures ok { OnOk result (IsPut (W.contents writer.old.inner) (W.contents writer.new.inner) output.old
-        (flat_map (entry_line session) entries.now) output.new) }
+        (flat_map (entry_line (grammar_of B.Corners) session) entries.now) output.new) }
     ensures cut { IfErr result (λ e. (e ≡ ScriptFault.Write)
         × IsCut
         (W.contents writer.old.inner) (W.contents writer.new.inner)
-        (output.old ++ flat_map (entry_line session) entries.now)) }
+        (output.old ++ flat_map (entry_line (grammar_of B.Corners) session) entries.now)) }
     ensures stuck { OnErr result (TakesNoMore writer.new) }
 {
     for entry in entries {

@@ -1,25 +1,28 @@
 //! What a line asks for.
 ghost use Rattle.std.specs.Prelude.{◌≡◌, MatchOption, IfSome, FitsSigned, option_map};
-ghost use Rattle.std.specs.Int.{w32};
-ghost use Rattle.gx_geom.specs.Rectangles.{rectangle_of};
+ghost use Rattle.std.specs.Int.{w64};
+ghost use Rattle.gx_script.specs.Corners.{grammar_of};
 ghost use Rattle.gx_script.specs.Words.{words};
 ghost use Rattle.gx_script.specs.Numbers.{number_of, corner_of};
-ghost use Rattle.gx_script.specs.Requests.{command_of, first_word, box_of, box_words, entry_words};
+ghost use Rattle.gx_script.specs.Requests.{command_of, first_word, key_words, entry_words};
 ghost use Rattle.gx_script.specs.Requests.{with_arguments, alone, command_line, session_line, line_of};
 
-use crate::Line;
 use crate::command::Command;
 use crate::numbers::{corner, number};
 use crate::words::{next_word, trimmed};
-use gx_geom::Box2;
+use crate::{Corners, Line};
+use arrayvec::ArrayVec;
 use gx_machine::{Call, Entry, Query};
 
 /// How many bytes a line may have.
 const LINE_LIMIT: usize = 1024;
 
+/// How many corners a key has at most.
+const MOST: usize = 6;
+
 /// What a line asks for. The line is given without its line feed, and may end in a carriage return.
-pub fn parse(line: &[u8]) -> Line
-    ensures { result ≡ line_of line.now }
+pub fn parse<B: Corners>(line: &[u8]) -> Line<B>
+    ensures { result ≡ line_of (grammar_of B.Corners) line.now }
 {
     let body = trimmed(line);
     if body.len() > LINE_LIMIT {
@@ -31,8 +34,8 @@ pub fn parse(line: &[u8]) -> Line
     session(body)
 }
 
-fn session(body: &[u8]) -> Line
-    ensures { result ≡ session_line (words body.now) }
+fn session<B: Corners>(body: &[u8]) -> Line<B>
+    ensures { result ≡ session_line (grammar_of B.Corners) (words body.now) }
 {
     let Some((session, rest)) = next_number(body) else {
         return Line::Bad;
@@ -43,8 +46,8 @@ fn session(body: &[u8]) -> Line
     asks(session, command, rest)
 }
 
-fn asks(session: u64, command: Command, rest: &[u8]) -> Line
-    ensures { result ≡ command_line session command (words rest.now) }
+fn asks<B: Corners>(session: u64, command: Command, rest: &[u8]) -> Line<B>
+    ensures { result ≡ command_line (grammar_of B.Corners) session command (words rest.now) }
 {
     match command {
         Command::Begin => alone(session, Call::Begin, rest),
@@ -53,12 +56,13 @@ fn asks(session: u64, command: Command, rest: &[u8]) -> Line
         Command::Overlap => overlap(session, rest),
         Command::Within => within(session, rest),
         Command::Equal => equal(session, rest),
+        Command::Covers => covers(session, rest),
         Command::Commit => alone(session, Call::Commit, rest),
         Command::Abort => alone(session, Call::Abort, rest),
     }
 }
 
-fn alone(session: u64, call: Call<Box2>, rest: &[u8]) -> Line
+fn alone<B: Corners>(session: u64, call: Call<B>, rest: &[u8]) -> Line<B>
     ensures { result ≡ alone session call (words rest.now) }
 {
     match next_word(rest) {
@@ -67,8 +71,9 @@ fn alone(session: u64, call: Call<Box2>, rest: &[u8]) -> Line
     }
 }
 
-fn insert(session: u64, rest: &[u8]) -> Line
-    ensures { result ≡ with_arguments session (λ e. Call.Insert e) (entry_words (words rest.now)) }
+fn insert<B: Corners>(session: u64, rest: &[u8]) -> Line<B>
+    ensures { result ≡ with_arguments session (λ e. Call.Insert e)
+        (entry_words (grammar_of B.Corners) (words rest.now)) }
 {
     match entry(rest) {
         None => Line::Bad,
@@ -77,8 +82,9 @@ fn insert(session: u64, rest: &[u8]) -> Line
     }
 }
 
-fn delete(session: u64, rest: &[u8]) -> Line
-    ensures { result ≡ with_arguments session (λ e. Call.Delete e) (entry_words (words rest.now)) }
+fn delete<B: Corners>(session: u64, rest: &[u8]) -> Line<B>
+    ensures { result ≡ with_arguments session (λ e. Call.Delete e)
+        (entry_words (grammar_of B.Corners) (words rest.now)) }
 {
     match entry(rest) {
         None => Line::Bad,
@@ -87,65 +93,76 @@ fn delete(session: u64, rest: &[u8]) -> Line
     }
 }
 
-fn overlap(session: u64, rest: &[u8]) -> Line
-    ensures { result ≡ with_arguments session (λ b. Call.Search (Query.Overlap b)) (box_words (words rest.now)) }
+fn overlap<B: Corners>(session: u64, rest: &[u8]) -> Line<B>
+    ensures { result ≡ with_arguments session (λ b. Call.Search (Query.Overlap b))
+        (key_words (grammar_of B.Corners) (words rest.now)) }
 {
-    match corners(rest) {
+    match key(rest) {
         None => Line::Bad,
         Some(None) => Line::Reversed(session),
         Some(Some(b)) => Line::Asks(session, Call::Search(Query::Overlap(b))),
     }
 }
 
-fn within(session: u64, rest: &[u8]) -> Line
-    ensures { result ≡ with_arguments session (λ b. Call.Search (Query.Within b)) (box_words (words rest.now)) }
+fn within<B: Corners>(session: u64, rest: &[u8]) -> Line<B>
+    ensures { result ≡ with_arguments session (λ b. Call.Search (Query.Within b))
+        (key_words (grammar_of B.Corners) (words rest.now)) }
 {
-    match corners(rest) {
+    match key(rest) {
         None => Line::Bad,
         Some(None) => Line::Reversed(session),
         Some(Some(b)) => Line::Asks(session, Call::Search(Query::Within(b))),
     }
 }
 
-fn equal(session: u64, rest: &[u8]) -> Line
-    ensures { result ≡ with_arguments session (λ b. Call.Search (Query.Equal b)) (box_words (words rest.now)) }
+fn equal<B: Corners>(session: u64, rest: &[u8]) -> Line<B>
+    ensures { result ≡ with_arguments session (λ b. Call.Search (Query.Equal b))
+        (key_words (grammar_of B.Corners) (words rest.now)) }
 {
-    match corners(rest) {
+    match key(rest) {
         None => Line::Bad,
         Some(None) => Line::Reversed(session),
         Some(Some(b)) => Line::Asks(session, Call::Search(Query::Equal(b))),
     }
 }
 
-// a row and a box, and no other word; no entry where the corners are reversed
-fn entry(rest: &[u8]) -> Option<Option<Entry<Box2>>>
-    ensures { result ≡ entry_words (words rest.now) }
+fn covers<B: Corners>(session: u64, rest: &[u8]) -> Line<B>
+    ensures { result ≡ with_arguments session (λ b. Call.Search (Query.Covers b))
+        (key_words (grammar_of B.Corners) (words rest.now)) }
+{
+    match key(rest) {
+        None => Line::Bad,
+        Some(None) => Line::Reversed(session),
+        Some(Some(b)) => Line::Asks(session, Call::Search(Query::Covers(b))),
+    }
+}
+
+// a row and a key, and no other word; no entry where the corners are reversed
+fn entry<B: Corners>(rest: &[u8]) -> Option<Option<Entry<B>>>
+    ensures { result ≡ entry_words (grammar_of B.Corners) (words rest.now) }
 {
     let (row, rest) = next_number(rest)?;
-    match corners(rest)? {
+    match key(rest)? {
         None => Some(None),
         Some(key) => Some(Some(Entry { row, key })),
     }
 }
 
-// four corners and no other word; no box where they are reversed
-fn corners(rest: &[u8]) -> Option<Option<Box2>>
-    ensures { result ≡ box_words (words rest.now) }
+// the corners of a key and no other word; no key where they are reversed
+fn key<B: Corners>(rest: &[u8]) -> Option<Option<B>>
+    ensures { result ≡ key_words (grammar_of B.Corners) (words rest.now) }
 {
-    let (x1, rest) = next_corner(rest)?;
-    let (y1, rest) = next_corner(rest)?;
-    let (x2, rest) = next_corner(rest)?;
-    let (y2, rest) = next_corner(rest)?;
-    match next_word(rest) {
-        None => Some(ordered(x1, y1, x2, y2)),
-        Some(_) => None,
+    let mut corners = ArrayVec::<i64, MOST>::new();
+    let mut rest = rest;
+    for _i in 0..B::COUNT {
+        let (corner, more) = next_corner(rest)?;
+        corners.push(corner);
+        rest = more;
     }
-}
-
-fn ordered(x1: i32, y1: i32, x2: i32, y2: i32) -> Option<Box2>
-    ensures { result ≡ box_of (rectangle_of x1 y1 x2 y2) }
-{
-    Box2::new(x1, y1, x2, y2).ok()
+    if next_word(rest).is_some() || !B::fits(corners.as_slice()) {
+        return None;
+    }
+    Some(B::make(corners.as_slice()).ok())
 }
 
 fn next_number(bytes: &[u8]) -> Option<(u64, &[u8])>
@@ -156,13 +173,13 @@ fn next_number(bytes: &[u8]) -> Option<(u64, &[u8])>
     Some((number(word)?, rest))
 }
 
-fn next_corner(bytes: &[u8]) -> Option<(i32, &[u8])>
-    ensures fits { IfSome result (λ p. FitsSigned w32 p.0) }
+fn next_corner(bytes: &[u8]) -> Option<(i64, &[u8])>
+    ensures fits { IfSome result (λ p. FitsSigned w64 p.0) }
     ensures words { MatchOption result (first_word corner_of (words bytes.now) ≡ None)
         (λ p. first_word corner_of (words bytes.now) ≡ Some (p.0, words p.1.now)) }
 {
-    let (word, rest) = next_word(bytes)?;
-    Some((corner(word)?, rest))
+    let (first, rest) = next_word(bytes)?;
+    Some((corner(first)?, rest))
 }
 
 fn next_command(bytes: &[u8]) -> Option<(Command, &[u8])>

@@ -2,6 +2,7 @@
 ghost use Rattle.std.specs.Prelude.{◌≡◌, ◌≢◌, ◌+◌, ◌^◌, ◌<◌, ◌≤◌, ◌==◌, position, ℕ, List, [], ◌∷◌};
 ghost use Rattle.std.specs.Prelude.{◌++◌, length, take, MatchOption, OnOk, IfOk, IfErr, OnErr, Some};
 ghost use Rattle.std.specs.List.{position_or_len};
+ghost use Rattle.gx_script.specs.Corners.{grammar_of};
 ghost use Rattle.gx_script.specs.Requests.{line_of};
 ghost use Rattle.gx_script.specs.Scripts.{asked_as, IsDone, IsStopped, IsUnended, IsTold};
 ghost use Rattle.gx_script.specs.Noting.{TakesNoMore, IsFaultOf};
@@ -10,8 +11,8 @@ ghost use Rattle.gx_script.specs.Steps.{IsToldWhole, IsToldPart, IsFed, IsFedPar
 use crate::line_buffer::LineBuffer;
 use crate::output::Output;
 use crate::replies::put_reply;
-use crate::{Answers, Line, Noted, ScriptFault, Transfer, parse};
-use gx_geom::{Box2, Refusal};
+use crate::{Answers, Corners, Line, Noted, ScriptFault, Transfer, parse};
+use gx_geom::Refusal;
 use gx_machine::{Call, Reply};
 use std::io::{Read, Write};
 
@@ -26,14 +27,16 @@ const PIECE: usize = 16384;
 /// Each reply is written before the next call is asked. An interrupted read or write is made again. The script ends
 /// well where the reader's last call gave nothing; with `Read` where that failed, or 2^32 calls were made of the
 /// reader; and with `Write` where the writer's last call failed or took nothing, or 2^32 calls were made of the writer.
-pub fn run<R: Read, W: Write, I: Answers>(
+pub fn run<B: Corners, R: Read, W: Write, I: Answers<B>>(
     reader: &mut Noted<R>,
     writer: &mut Noted<W>,
     index: &mut I,
 ) -> Result<(), ScriptFault>
-    ensures done { OnOk result (IsDone I.answered (R.remaining reader.old.inner) (R.remaining reader.new.inner)
+    ensures done { OnOk result (IsDone (grammar_of B.Corners) I.answered
+        (R.remaining reader.old.inner) (R.remaining reader.new.inner)
         (W.contents writer.old.inner) (W.contents writer.new.inner) index.old index.new) }
-    ensures stopped { IfErr result (IsStopped I.answered (R.remaining reader.old.inner) (R.remaining reader.new.inner)
+    ensures stopped { IfErr result (IsStopped (grammar_of B.Corners) I.answered
+        (R.remaining reader.old.inner) (R.remaining reader.new.inner)
         (W.contents writer.old.inner) (W.contents writer.new.inner) index.old index.new) }
     ensures ended { OnOk result (reader.new.last ≡ Some Transfer.Nothing) }
     ensures fault { IfErr result (IsFaultOf reader.new writer.new) }
@@ -82,7 +85,7 @@ impl Script {
     }
 
     // Does all lines that end in these bytes, and keeps what follows them. Then nothing waits.
-    fn feed<W: Write, I: Answers>(
+    fn feed<B: Corners, W: Write, I: Answers<B>>(
         &mut self,
         writer: &mut Noted<W>,
         index: &mut I,
@@ -90,8 +93,10 @@ impl Script {
     ) -> Result<(), ScriptFault>
         requires { self.old.number + length bytes.now < 2 ^ 64 }
         ensures ok { OnOk result (IsUnended self.old.line
-            → Feeds I.answered self.old.number index.old self.old.output (λ number done start written.
-            (fed : IsFed I.answered number done start written (self.old.line ++ bytes.now) self.new.line
+            → Feeds (grammar_of B.Corners) I.answered self.old.number index.old self.old.output
+            (λ number done start written.
+            (fed : IsFed (grammar_of B.Corners) I.answered number done start written
+            (self.old.line ++ bytes.now) self.new.line
             (W.contents writer.old.inner) (W.contents writer.new.inner) self.new.output index.new)
             × (self.new.number ≡ number + length (done ++ fed.more)))) }
         ensures unended { OnOk result (IsUnended self.old.line → IsUnended self.new.line) }
@@ -99,8 +104,9 @@ impl Script {
         ensures bound { OnOk result (self.new.number ≤ self.old.number + length bytes.now) }
         ensures cut { IfErr result (λ e. (e ≡ ScriptFault.Write)
             × (IsUnended self.old.line
-            → Feeds I.answered self.old.number index.old self.old.output (λ number done start written.
-            IsFedPart I.answered number done start written (self.old.line ++ bytes.now)
+            → Feeds (grammar_of B.Corners) I.answered self.old.number index.old self.old.output
+            (λ number done start written.
+            IsFedPart (grammar_of B.Corners) I.answered number done start written (self.old.line ++ bytes.now)
             (W.contents writer.old.inner) (W.contents writer.new.inner) index.new))) }
         ensures stuck { OnErr result (TakesNoMore writer.new) }
     {
@@ -115,20 +121,22 @@ impl Script {
     }
 
     // Does the line that was begun, if it has a byte, and writes all that waits.
-    fn finish<W: Write, I: Answers>(
+    fn finish<B: Corners, W: Write, I: Answers<B>>(
         &mut self,
         writer: &mut Noted<W>,
         index: &mut I,
     ) -> Result<(), ScriptFault>
         requires { self.old.number + 1 < 2 ^ 64 }
         ensures ok { OnOk result (IsUnended self.old.line
-            → Feeds I.answered self.old.number index.old self.old.output (λ number done start written.
-            IsEnded I.answered number done start written self.old.line
+            → Feeds (grammar_of B.Corners) I.answered self.old.number index.old self.old.output
+            (λ number done start written.
+            IsEnded (grammar_of B.Corners) I.answered number done start written self.old.line
             (W.contents writer.old.inner) (W.contents writer.new.inner) index.new)) }
         ensures cut { IfErr result (λ e. (e ≡ ScriptFault.Write)
             × (IsUnended self.old.line
-            → Feeds I.answered self.old.number index.old self.old.output (λ number done start written.
-            IsEndedPart I.answered number done start written self.old.line
+            → Feeds (grammar_of B.Corners) I.answered self.old.number index.old self.old.output
+            (λ number done start written.
+            IsEndedPart (grammar_of B.Corners) I.answered number done start written self.old.line
             (W.contents writer.old.inner) (W.contents writer.new.inner) index.new))) }
         ensures stuck { OnErr result (TakesNoMore writer.new) }
     {
@@ -140,18 +148,20 @@ impl Script {
     }
 
     // Does the line that was begun, and begins the next.
-    fn end_line<W: Write, I: Answers>(
+    fn end_line<B: Corners, W: Write, I: Answers<B>>(
         &mut self,
         writer: &mut Noted<W>,
         index: &mut I,
     ) -> Result<(), ScriptFault>
         requires { self.old.number + 1 < 2 ^ 64 }
-        ensures ok { OnOk result (IsToldWhole I.answered self.old.number (line_of self.old.line) index.old index.new
+        ensures ok { OnOk result (IsToldWhole (grammar_of B.Corners) I.answered self.old.number
+            (line_of (grammar_of B.Corners) self.old.line) index.old index.new
             (W.contents writer.old.inner) (W.contents writer.new.inner) self.old.output self.new.output) }
         ensures line { OnOk result (self.new.line ≡ []) }
         ensures number { OnOk result (self.new.number ≡ self.old.number + 1) }
         ensures cut { IfErr result (λ e. (e ≡ ScriptFault.Write)
-            × IsToldPart I.answered self.old.number (line_of self.old.line) index.old index.new
+            × IsToldPart (grammar_of B.Corners) I.answered self.old.number
+            (line_of (grammar_of B.Corners) self.old.line) index.old index.new
             (W.contents writer.old.inner) (W.contents writer.new.inner) self.old.output) }
         ensures stuck { OnErr result (TakesNoMore writer.new) }
     {
@@ -193,16 +203,17 @@ fn first_feed(bytes: &[u8]) -> Option<usize>
 }
 
 // Does one line.
-fn run_line<W: Write, I: Answers>(
+fn run_line<B: Corners, W: Write, I: Answers<B>>(
     writer: &mut Noted<W>,
     index: &mut I,
     output: &mut Output,
     number: u64,
-    line: Line,
+    line: Line<B>,
 ) -> Result<(), ScriptFault>
-    ensures ok { OnOk result (IsToldWhole I.answered number line index.old index.new
+    ensures ok { OnOk result (IsToldWhole (grammar_of B.Corners) I.answered number line index.old index.new
         (W.contents writer.old.inner) (W.contents writer.new.inner) output.old output.new) }
-    ensures cut { IfErr result (λ e. (e ≡ ScriptFault.Write) × IsToldPart I.answered number line index.old index.new
+    ensures cut { IfErr result (λ e. (e ≡ ScriptFault.Write)
+        × IsToldPart (grammar_of B.Corners) I.answered number line index.old index.new
         (W.contents writer.old.inner) (W.contents writer.new.inner) output.old) }
     ensures stuck { OnErr result (TakesNoMore writer.new) }
 {
@@ -214,24 +225,27 @@ fn run_line<W: Write, I: Answers>(
             Ok(())
         }
         Line::Reversed(session) => {
-            put_reply(writer, output, session, &Reply::Refused(Refusal::BadBox))
+            let refused: Reply<B> = Reply::Refused(Refusal::BadBox);
+            put_reply(writer, output, session, &refused)
         }
         Line::Asks(session, call) => answer(writer, index, output, session, call),
     }
 }
 
 // Writes what waits, then asks the index.
-fn answer<W: Write, I: Answers>(
+fn answer<B: Corners, W: Write, I: Answers<B>>(
     writer: &mut Noted<W>,
     index: &mut I,
     output: &mut Output,
     session: u64,
-    call: Call<Box2>,
+    call: Call<B>,
 ) -> Result<(), ScriptFault>
-    ensures ok { (number : ℕ) → OnOk result (IsToldWhole I.answered number (Line.Asks session call) index.old index.new
+    ensures ok { (number : ℕ) → OnOk result (IsToldWhole (grammar_of B.Corners) I.answered number
+        (Line.Asks session call) index.old index.new
         (W.contents writer.old.inner) (W.contents writer.new.inner) output.old output.new) }
     ensures cut { IfErr result (λ e. (e ≡ ScriptFault.Write)
-        × ((number : ℕ) → IsToldPart I.answered number (Line.Asks session call) index.old index.new
+        × ((number : ℕ) → IsToldPart (grammar_of B.Corners) I.answered number
+        (Line.Asks session call) index.old index.new
         (W.contents writer.old.inner) (W.contents writer.new.inner) output.old)) }
     ensures stuck { OnErr result (TakesNoMore writer.new) }
 {

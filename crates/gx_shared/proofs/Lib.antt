@@ -1,5 +1,5 @@
-pub mod Opening
-pub mod Keeping
 pub mod Agreeing
-pub mod Sharing
+pub mod Keeping
 pub mod Made
+pub mod Opening
+pub mod Sharing

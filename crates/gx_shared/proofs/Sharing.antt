@@ -7,11 +7,15 @@ use Rattle.std.proofs.lemmas.List.Edits.{length-remove}
 use Rattle.gx_geom.specs.declared.refusal.Refusal.{Refusal}
 use Rattle.gx_geom.specs.declared.refusal.Refusal.TheVariants as refusal
 use Rattle.gx_machine.specs.declared.item.Item.{Item}
+use Rattle.gx_machine.specs.declared.call.Call.{Call}
+use Rattle.gx_machine.specs.declared.call.Call.TheVariants.{Begin}
 use Rattle.gx_machine.specs.declared.reply.Reply.{Reply}
+use Rattle.gx_machine.specs.declared.reply.Reply.TheVariants as reply
 use Rattle.gx_machine.specs.Keys.{Keys}
 use Rattle.gx_machine.specs.Machine.{Machine, fresh_machine}
 use Rattle.gx_events.specs.declared.engine.Events.{Ghosts}
 use Rattle.gx_events.specs.declared.event.Event.{Event}
+use Rattle.gx_events.specs.declared.event.Event.TheVariants.{Ask, Move, LogStep, WritePage, CheckpointStep, Sweep}
 use Rattle.gx_events.specs.declared.outcome.Outcome.{Outcome}
 use Rattle.gx_events.specs.declared.outcome.Outcome.TheVariants.{Replied, More, Help, Nothing, Refused}
 use Rattle.gx_events.specs.declared.outcome.Need.TheVariants as need
@@ -25,7 +29,7 @@ use Rattle.gx_shared.specs.declared.record.TheConstants.{RECORD}
 use Rattle.gx_shared.specs.declared.flush.Part.{Part}
 use Rattle.gx_shared.specs.declared.flush.Part.TheVariants as part
 use Rattle.gx_shared.specs.Books.{IsBook, IsHold, IsKept, IsMade, IsOf, IsWorked, MayBeShared}
-use Rattle.gx_shared.specs.Sharing.{RefusesToGiveUp, InCall, Follows, IsCalled, IsRun, flusher_event, given_up, shares_of, fresh_sessions, stops}
+use Rattle.gx_shared.specs.Sharing.{RefusesToGiveUp, InCall, GoesOn, Known, Follows, IsCalled, IsRun, after_hold, asked_by, told_by, flusher_event, given_up, shares_of, fresh_sessions, stops}
 use Rattle.gx_shared.proofs.Opening.{owed_by_open}
 
 -- an engine that is seen as the machine with nothing committed may be shared by a run that starts at it
@@ -69,24 +73,27 @@ begun {B} k granted sees starts engine calls capacity total may empty room count
           };
     }
 
--- a session that finished none is as it was
-pub same_share : (x : ℕ × ℕ) (n : ℕ) → n ≡ 0 → x ≡ (x.0, x.1 + n)
-same_share x n none = let e : x.1 ≡ x.1 + n = omega (arith, none) in λ i. (x.0, e i)
+-- no reply changes no share
+none_more : (n m : ℕ) → n ≡ 0 → m + n ≡ m
+none_more n m none = omega (arith, none)
 
 -- an event that isn't work is the session's own
 pub own_event : {B : Type 0} (s : ℕ) (event : Event B) → InCall s event → is_work event ≡ false → IsOf s event
 own_event s event (inl own) none = own
 own_event s event (inr work) none = let both : true ≡ false = sym work ∙ none in let no : ⊥ = cc in absurd no
 
+unshared : {B : Type 0} (old new : Known B) (asked : Call B) → new ≡ ((old.0.0, old.0.1 + 0), (asked, old.1.1)) → new ≡ (old.0, (asked, old.1.1))
+unshared old new asked share = share ∙ (λ i. ((old.0.0, none_more 0 old.0.1 refl i), (asked, old.1.1)))
+
 -- what follows a hold
-pub follows_hold : {B : Type 0} (old new : ℕ × ℕ) (o : Outcome B) → new ≡ (old.0, old.1 + replied o) → RefusesToGiveUp o → Follows old (next_of old.0 o) new
-follows_hold old new (Replied r) share h = inl share
-follows_hold old new More share h = (share ∙ sym (same_share old 0 refl), inl refl)
-follows_hold old new (Help need.Log) share h = (share ∙ sym (same_share old 0 refl), inr refl)
-follows_hold old new (Help (need.Write page)) share h = (share ∙ sym (same_share old 0 refl), inr refl)
-follows_hold old new (Help need.Checkpoint) share h = (share ∙ sym (same_share old 0 refl), inr refl)
-follows_hold old new Nothing share h = (share ∙ sym (same_share old 0 refl), inl refl)
-follows_hold old new (Refused why) share h = inr (share ∙ sym (same_share old 0 refl), h)
+pub follows_hold : {B : Type 0} (old new : Known B) (event : Event B) (o : Outcome B) → new ≡ after_hold old event o → RefusesToGiveUp o → Follows old event (next_of old.0.0 o) new
+follows_hold old new event (Replied r) share h = inl share
+follows_hold old new event More share h = (unshared old new (asked_by event old.1.0) share, refl)
+follows_hold old new event (Help need.Log) share h = (unshared old new (asked_by event old.1.0) share, tt)
+follows_hold old new event (Help (need.Write page)) share h = (unshared old new (asked_by event old.1.0) share, tt)
+follows_hold old new event (Help need.Checkpoint) share h = (unshared old new (asked_by event old.1.0) share, tt)
+follows_hold old new event Nothing share h = (unshared old new (asked_by event old.1.0) share, refl)
+follows_hold old new event (Refused why) share h = inr (unshared old new (asked_by event old.1.0) share, h)
 
 abbrev is_work_of : {B : Type 0} → Option (Event B) → Bool
 is_work_of None = true
@@ -108,13 +115,13 @@ only_pages_lack part.Page round used dirty h = refl
 only_pages_lack part.Leaf round used dirty h = let no : ⊥ = cc in absurd no
 
 -- the first session is taken from the front
-pub taken_first : (xs ys : List (ℕ × ℕ)) (x : ℕ × ℕ) → 0 < length xs → x ≡ get_or xs 0 x → ys ≡ remove xs 0
-    → (length ys + 1 ≡ length xs) × (shares_of ys + x.1 ≡ shares_of xs)
-taken_first xs ys x some is rest =
+pub taken_first : {B : Type 0} (xs ys : List (Known B)) (x : Known B) → 0 < length xs → x ≡ get_or xs 0 x → ys ≡ remove xs 0
+    → (length ys + 1 ≡ length xs) × (shares_of ys + x.0.1 ≡ shares_of xs)
+taken_first {B} xs ys x some is rest =
     let l : length ys ≡ length (remove xs 0) = ap length rest in
     let s : shares_of ys ≡ shares_of (remove xs 0) = ap shares_of rest in
-    let v : x.1 ≡ (get_or xs 0 x).1 = ap (λ (p : ℕ × ℕ). p.1) is in
-    (omega (arith, l, length-remove xs 0 some), omega (arith, s, v, sum_by-remove (λ (p : ℕ × ℕ). p.1) xs 0 x some))
+    let v : x.0.1 ≡ (get_or xs 0 x).0.1 = ap (λ (p : Known B). p.0.1) is in
+    (omega (arith, l, length-remove xs 0 some), omega (arith, s, v, sum_by-remove (λ (p : Known B). p.0.1) xs 0 x some))
 
 -- a total that is the same
 pub kept_total : {B E : Type 0} (k : Keys B) (granted : Type 0) (sees : E → Machine B → Type 0) (starts : Machine B → Type 0) (engine : E) (calls : List (Item B)) (opened capacity total total' : ℕ)
@@ -136,6 +143,10 @@ replies_as (Help need) = refl
 replies_as Nothing = refl
 replies_as (Refused why) = stopped_replies _ why (stops why)
 
+stopped_tells : (B : Type 0) (why : Refusal) (b : Bool) (r : Reply B) → told_by (stopped {B = B} why b) r ≡ r
+stopped_tells B why true r = refl
+stopped_tells B why false r = refl
+
 stopped_refuses : (B : Type 0) (why : Refusal) (b : Bool) → stops why ≡ b → RefusesToGiveUp (stopped {B = B} why b)
 stopped_refuses B why true is = is
 stopped_refuses B why false is = refl
@@ -151,13 +162,43 @@ refuses_as (Refused why) = stopped_refuses _ why (stops why) refl
 pub given_up_refuses : {B : Type 0} (o given : Outcome B) → given ≡ given_up o → RefusesToGiveUp given
 given_up_refuses o given is = subst RefusesToGiveUp (sym is) (refuses_as o)
 
--- one without a reply leaves a share as it is
-pub share_of_work : {B : Type 0} (o given : Outcome B) (session : ℕ × ℕ) → replied o ≡ 0 → given ≡ given_up o → session ≡ (session.0, session.1 + replied given)
-share_of_work o given session none is = same_share session (replied given) (ap replied is ∙ replies_as o ∙ none)
+tells_as : {B : Type 0} (o : Outcome B) (r : Reply B) → told_by (given_up o) r ≡ told_by o r
+tells_as (Replied x) r = refl
+tells_as More r = refl
+tells_as (Help need) r = refl
+tells_as Nothing r = refl
+tells_as (Refused why) r = stopped_tells _ why (stops why) r
 
--- and else the share rises as the outcome that came says
-pub share_of_own : {B : Type 0} (old new : ℕ × ℕ) (o given : Outcome B) → new ≡ (old.0, old.1 + replied o) → given ≡ given_up o → new ≡ (old.0, old.1 + replied given)
-share_of_own old new o given share is = share ∙ ap (λ (n : ℕ). (old.0, old.1 + n)) (sym (replies_as o) ∙ ap replied (sym is))
+untold : {B : Type 0} (o : Outcome B) (r : Reply B) → replied o ≡ 0 → told_by o r ≡ r
+untold (Replied x) r none = let no : ⊥ = omega (arith, none) in absurd no
+untold More r none = refl
+untold (Help need) r none = refl
+untold Nothing r none = refl
+untold (Refused why) r none = refl
+
+unasked : {B : Type 0} (event : Event B) (call : Call B) → is_work event ≡ true → asked_by event call ≡ call
+unasked (Ask s x) call work = let no : ⊥ = cc in absurd no
+unasked (Move s) call work = refl
+unasked LogStep call work = refl
+unasked (WritePage page) call work = refl
+unasked CheckpointStep call work = refl
+unasked (Sweep page) call work = refl
+
+-- one without a reply, of an event that is no session's, leaves a session as it is
+pub share_of_work : {B : Type 0} (event : Event B) (o given : Outcome B) (session : Known B) (b : Bool) → b ≡ is_work event → b ≡ true → replied o ≡ 0 → given ≡ given_up o
+    → session ≡ after_hold session event given
+share_of_work event o given session b of work none is =
+    let n : session.0.1 + replied given ≡ session.0.1 = none_more (replied given) session.0.1 (ap replied is ∙ replies_as o ∙ none) in
+    let a : asked_by event session.1.0 ≡ session.1.0 = unasked event session.1.0 (sym of ∙ work) in
+    let t : told_by given session.1.1 ≡ session.1.1 = ap (λ x. told_by x session.1.1) is ∙ tells_as o session.1.1 ∙ untold o session.1.1 none in
+    sym (λ i. ((session.0.0, n i), (a i, t i)))
+
+-- and else the session is as the outcome that came says
+pub share_of_own : {B : Type 0} (event : Event B) (old new : Known B) (o given : Outcome B) → new ≡ after_hold old event o → given ≡ given_up o → new ≡ after_hold old event given
+share_of_own event old new o given share is =
+    let n : replied o ≡ replied given = sym (replies_as o) ∙ ap replied (sym is) in
+    let t : told_by o old.1.1 ≡ told_by given old.1.1 = sym (tells_as o old.1.1) ∙ ap (λ x. told_by x old.1.1) (sym is) in
+    share ∙ (λ i. ((old.0.0, old.0.1 + n i), (asked_by event old.1.0, t i)))
 
 pub own_of : {B : Type 0} (s : ℕ) (event : Event B) (b : Bool) → InCall s event → b ≡ is_work event → b ≡ false → IsOf s event
 own_of s event b call is none = own_event s event call (sym is ∙ none)
@@ -181,32 +222,70 @@ run_by_own k engine old new event o given b is own made hold told =
     record { given = o; outcome_is = told; worked = λ work. absurd (other work); made = λ _. made; hold = λ _. hold }
 
 -- what follows a hold, as the driver says it
-pub follows_next : {B : Type 0} (old new : ℕ × ℕ) (o : Outcome B) (driver : ℕ) (next : Next B) → next ≡ next_of driver o → driver ≡ old.0
-    → new ≡ (old.0, old.1 + replied o) → RefusesToGiveUp o → Follows old next new
-follows_next {B} old new o driver next is leads share refuses =
-    subst (λ (x : Next B). Follows old x new) (sym (is ∙ ap (λ (s : ℕ). next_of s o) leads)) (follows_hold old new o share refuses)
+pub follows_next : {B : Type 0} (old new : Known B) (event : Event B) (o : Outcome B) (driver : ℕ) (next : Next B) → next ≡ next_of driver o → driver ≡ old.0.0
+    → new ≡ after_hold old event o → RefusesToGiveUp o → Follows old event next new
+follows_next {B} old new event o driver next is leads share refuses =
+    subst (λ (x : Next B). Follows old event x new) (sym (is ∙ ap (λ (s : ℕ). next_of s o) leads)) (follows_hold old new event o share refuses)
 
--- a call that ends, and one that goes on, where the session was as at the call's start
-pub done_of : {B : Type 0} (start old new : ℕ × ℕ) (next : Next B) (r : Reply B) → Follows old next new → next ≡ Done r → old ≡ start → IsCalled start r new
-done_of {B} start old new next r follows is same =
-    subst (λ (x : ℕ × ℕ). IsCalled x r new) same (subst (λ (x : Next B). Follows old x new) is follows)
+-- an event that goes on is in the call, and asks none
+pub in_call : {B : Type 0} (s : ℕ) (event : Event B) → GoesOn s event → InCall s event
+in_call s (Ask t call) none = absurd none
+in_call s (Move t) own = inl own
+in_call s LogStep on = inr refl
+in_call s (WritePage page) on = inr refl
+in_call s CheckpointStep on = inr refl
+in_call s (Sweep page) on = inr refl
 
-pub run_of : {B : Type 0} (start old new : ℕ × ℕ) (next : Next B) (event : Event B) → Follows old next new → next ≡ Run event → old ≡ start
-    → (new ≡ start) × InCall start.0 event
-run_of {B} start old new next event follows is same =
-    let h : (new ≡ old) × InCall old.0 event = subst (λ (x : Next B). Follows old x new) is follows in
-    (h.0 ∙ same, subst (λ (x : ℕ × ℕ). InCall x.0 event) same h.1)
+pub asks_none : {B : Type 0} (s : ℕ) (event : Event B) (call : Call B) → GoesOn s event → asked_by event call ≡ call
+asks_none s (Ask t x) call none = absurd none
+asks_none s (Move t) call own = refl
+asks_none s LogStep call on = refl
+asks_none s (WritePage page) call on = refl
+asks_none s CheckpointStep call on = refl
+asks_none s (Sweep page) call on = refl
 
-pub call_of : {B : Type 0} (start old : ℕ × ℕ) (event : Event B) → old ≡ start → InCall start.0 event → InCall old.0 event
-call_of start old event same call = subst (λ (x : ℕ × ℕ). InCall x.0 event) (sym same) call
+-- Amid a call: the session is as at its start but for what it asked, and with its next event it has asked the call.
+pub record IsAmid {B : Type 0} (start : Known B) (call : Call B) (now : Known B) (event : Event B) : Type 0 where
+  pub share : now.0 ≡ start.0
+  pub told : now.1.1 ≡ start.1.1
+  pub asked : asked_by event now.1.0 ≡ call
+  pub own : InCall start.0.0 event
+
+-- a call that ends, and one that goes on
+pub done_of : {B : Type 0} (start old new : Known B) (call : Call B) (event : Event B) (next : Next B) (r : Reply B) → Follows old event next new → next ≡ Done r → IsAmid start call old event
+    → IsCalled start call r new
+done_of {B} start old new call event next r follows is amid =
+    let called : IsCalled old (asked_by event old.1.0) r new = subst (λ (x : Next B). Follows old event x new) is follows in
+    let same : (old.0, (asked_by event old.1.0, old.1.1)) ≡ (start.0, (call, start.1.1)) = λ i. (amid.share i, (amid.asked i, amid.told i)) in
+    subst (λ (x : Known B). IsCalled x x.1.0 r new) same called
+
+pub run_of : {B : Type 0} (start old new : Known B) (call : Call B) (event named next : Event B) (ran : Next B) → Follows old event ran new → ran ≡ Run named → IsAmid start call old event
+    → GoesOn start.0.0 next → IsAmid start call new next
+run_of {B} start old new call event named next ran follows is amid on =
+    let h : (new ≡ (old.0, (asked_by event old.1.0, old.1.1))) × GoesOn old.0.0 named = subst (λ (x : Next B). Follows old event x new) is follows in
+    record {
+      share = ap (λ (x : Known B). x.0) h.0 ∙ amid.share;
+      told = ap (λ (x : Known B). x.1.1) h.0 ∙ amid.told;
+      asked = asks_none start.0.0 next new.1.0 on ∙ ap (λ (x : Known B). x.1.0) h.0 ∙ amid.asked;
+      own = in_call start.0.0 next on;
+    }
+
+pub on_of : {B : Type 0} (start old new : Known B) (call : Call B) (event named : Event B) (ran : Next B) → Follows old event ran new → ran ≡ Run named → IsAmid start call old event
+    → GoesOn start.0.0 named
+on_of {B} start old new call event named ran follows is amid =
+    let h : (new ≡ (old.0, (asked_by event old.1.0, old.1.1))) × GoesOn old.0.0 named = subst (λ (x : Next B). Follows old event x new) is follows in
+    subst (λ (s : ℕ × ℕ). GoesOn s.0 named) amid.share h.1
+
+pub call_of : {B : Type 0} (start old : Known B) (call : Call B) (event : Event B) → IsAmid start call old event → InCall old.0.0 event
+call_of start old call event amid = subst (λ (s : ℕ × ℕ). InCall s.0 event) (sym amid.share) amid.own
 
 -- no sessions, no shares
-pub none_shared : (xs : List (ℕ × ℕ)) → length xs ≡ 0 → shares_of xs ≡ 0
+pub none_shared : {B : Type 0} (xs : List (Known B)) → length xs ≡ 0 → shares_of xs ≡ 0
 none_shared [] none = refl
 none_shared (x ∷ xs) none = let away : ⊥ = omega (arith, none) in absurd away
 
 -- one session more
-pub next_sessions : (n m : ℕ) (old new : List (ℕ × ℕ)) (s : ℕ × ℕ) → m ≡ suc n → s.0 ≡ m → s.1 ≡ 0 → old ≡ fresh_sessions n → new ≡ old ++ s ∷ [] → new ≡ fresh_sessions m
-next_sessions n m old new s next number none before after =
-    let same : s ≡ (suc n, 0) = let first : s.0 ≡ suc n = number ∙ next in λ i. (first i, none i) in
-    after ∙ (λ i. before i ++ same i ∷ []) ∙ ap fresh_sessions (sym next)
+pub next_sessions : {B : Type 0} (n m : ℕ) (old new : List (Known B)) (s : Known B) → m ≡ suc n → s ≡ ((m, 0), (Begin, reply.Ok)) → old ≡ fresh_sessions n → new ≡ old ++ s ∷ []
+    → new ≡ fresh_sessions m
+next_sessions n m old new s next is before after =
+    after ∙ (λ i. before i ++ (is ∙ ap (λ (k : ℕ). ((k, 0), (Begin, reply.Ok))) next) i ∷ []) ∙ ap fresh_sessions (sym next)

@@ -43,19 +43,19 @@ fn ended<B: Shape>(last: Outcome<B>) -> Result<Reply<B>, Outcome<B>>
 fn keep_reply<B: Shape, R: Ledger>(
     calls: &mut Vec<Item<B>>,
     tally: &mut Tally<R>,
-    session: &mut Session<R>,
+    session: &mut Session<B, R>,
     reply: Reply<B>,
 ) -> Reply<B>
     requires room { vec_len calls.old < vec_capacity calls.old }
     requires few { tally.old.total + 1 < 2 ^ 64 }
     ensures handed { IsHanded reply result }
-    ensures items { calls.new.items ≡ calls.old.items ++ item.Replied session.old.0 result ∷ [] }
+    ensures items { calls.new.items ≡ calls.old.items ++ item.Replied session.old.0.0 result ∷ [] }
     ensures capacity { vec_capacity calls.old ≤ vec_capacity calls.new }
     ensures counted { tally.new.total ≡ tally.old.total + 1 }
-    ensures share { session.new ≡ (session.old.0, session.old.1 + 1) }
+    ensures share { session.new ≡ ((session.old.0.0, session.old.0.1 + 1), (session.old.1.0, result)) }
 {
     let (reply, copy) = handed(*calls.allocator(), reply);
-    session.finish(tally);
+    session.finish(tally, &reply);
     append(calls, Item::Replied(session.number(), copy));
     reply
 }
@@ -139,7 +139,7 @@ impl<B: Shape, E: Events<B>, R: Run<B>> Book<B, E, R> {
     ghost use Rattle.std.specs.Prelude.{length, IfOk, IfErr, MatchOption};
     ghost use Rattle.gx_machine.specs.Keys.{keys_of};
     ghost use Rattle.gx_events.specs.Items.{finished};
-    ghost use Rattle.gx_shared.specs.Sharing.{InCall, IsFlushed, IsRun};
+    ghost use Rattle.gx_shared.specs.Sharing.{InCall, IsFlushed, IsRun, after_hold, after_reply};
     ghost use Rattle.gx_events.specs.declared.event.Event.TheVariants.{Ask, Move};
     ghost use Rattle.gx_shared.specs.Agreed.{replies_of};
     ghost use Rattle.gx_shared.specs.Books.{MayBeShared, Stands, IsOf, IsHold, IsMade, IsWorked};
@@ -214,10 +214,10 @@ impl<B: Shape, E: Events<B>, R: Run<B>> Book<B, E, R> {
     }
 
     /// Asks a call of the session, where there is room for it.
-    fn ask(&mut self, session: &mut Session<R>, call: Call<B>) -> Outcome<B>
-        ensures hold { E.granted → IsHold (keys_of B.Shape) E.sees self.old (Ask session.old.0 call) result self.new }
-        ensures made { IsMade E.makes self.old (Ask session.old.0 call) result self.new }
-        ensures share { session.new ≡ (session.old.0, session.old.1 + replied result) }
+    fn ask(&mut self, session: &mut Session<B, R>, call: Call<B>) -> Outcome<B>
+        ensures hold { E.granted → IsHold (keys_of B.Shape) E.sees self.old (Ask session.old.0.0 call) result self.new }
+        ensures made { IsMade E.makes self.old (Ask session.old.0.0 call) result self.new }
+        ensures share { session.new ≡ after_reply session.old result }
     {
         let number = session.number();
         if !has_room(self.calls.len(), self.opened) {
@@ -238,10 +238,10 @@ impl<B: Shape, E: Events<B>, R: Run<B>> Book<B, E, R> {
     }
 
     /// Goes on with the session's call.
-    fn go_on(&mut self, session: &mut Session<R>) -> Outcome<B>
-        ensures hold { E.granted → IsHold (keys_of B.Shape) E.sees self.old (Move session.old.0) result self.new }
-        ensures made { IsMade E.makes self.old (Move session.old.0) result self.new }
-        ensures share { session.new ≡ (session.old.0, session.old.1 + replied result) }
+    fn go_on(&mut self, session: &mut Session<B, R>) -> Outcome<B>
+        ensures hold { E.granted → IsHold (keys_of B.Shape) E.sees self.old (Move session.old.0.0) result self.new }
+        ensures made { IsMade E.makes self.old (Move session.old.0.0) result self.new }
+        ensures share { session.new ≡ after_reply session.old result }
     {
         let number = session.number();
         let before = self.engine.commits();
@@ -271,14 +271,17 @@ impl<B: Shape, E: Events<B>, R: Run<B>> Book<B, E, R> {
     /// call still fit. What a search found becomes `Memory`, here and in the record, where its copy is refused memory.
     /// The reply of an engine that a fault has ended, to a call that it has refused before, is `Refused(Failed)` once
     /// the record is full.
-    pub fn apply_for(&mut self, session: &mut Session<R>, event: Event<B>) -> Outcome<B>
-        requires { IsOf session.old.0 event }
+    pub fn apply_for(&mut self, session: &mut Session<B, R>, event: Event<B>) -> Outcome<B>
+        requires { IsOf session.old.0.0 event }
         ensures hold { E.granted → IsHold (keys_of B.Shape) E.sees self.old event result self.new }
         ensures made { IsMade E.makes self.old event result self.new }
-        ensures share { session.new ≡ (session.old.0, session.old.1 + replied result) }
+        ensures share { session.new ≡ after_hold session.old event result }
     {
         match event {
-            Event::Ask(_, call) => self.ask(session, call),
+            Event::Ask(_, call) => {
+                session.note(&self.tally, &call);
+                self.ask(session, call)
+            }
             _ => self.go_on(session),
         }
     }
@@ -287,10 +290,10 @@ impl<B: Shape, E: Events<B>, R: Run<B>> Book<B, E, R> {
     /// nothing else. The session's share rises by one where a reply is recorded. Where the outcome refuses, it is for a
     /// fault or for a record that is full.
     #[tactic(auto, using(crate::proofs::Sharing::run_by_work, crate::proofs::Sharing::run_by_own, crate::proofs::Sharing::share_of_work, crate::proofs::Sharing::share_of_own, crate::proofs::Sharing::given_up_refuses, crate::proofs::Sharing::own_of, crate::proofs::Sharing::work_of))]
-    pub(crate) fn run(&mut self, session: &mut Session<R>, event: Event<B>) -> Outcome<B>
-        requires { InCall session.old.0 event }
+    pub(crate) fn run(&mut self, session: &mut Session<B, R>, event: Event<B>) -> Outcome<B>
+        requires { InCall session.old.0.0 event }
         ensures made { IsRun (keys_of B.Shape) E.Events self.old event result self.new }
-        ensures share { session.new ≡ (session.old.0, session.old.1 + replied result) }
+        ensures share { session.new ≡ after_hold session.old event result }
         ensures refuses { RefusesToGiveUp result }
     {
         if is_work(&event) {

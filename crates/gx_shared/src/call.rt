@@ -17,11 +17,11 @@ use std::sync::ledger::Ledger;
 fn hold<B: Shape, E: Events<B>, R: Run<B>, W: Wait>(
     rt: &W,
     shared: &Shared<B, E, R>,
-    session: &mut Session<R>,
+    session: &mut Session<B, R>,
     event: Event<B>,
 ) -> Next<B>
-    requires { InCall session.old.0 event }
-    ensures { Follows session.old result session.new }
+    requires { InCall session.old.0.0 event }
+    ensures { Follows session.old event result session.new }
 {
     let mut driver = Driver::new(session.number());
     let logs = matches!(event, Event::LogStep | Event::CheckpointStep);
@@ -47,7 +47,7 @@ fn flush<B: Shape, E: Events<B>, R: Run<B>, W: Wait>(
     outcome
 }
 
-impl<R: Ledger> Session<R> {
+impl<B: Shape, R: Ledger> Session<B, R> {
     ghost use Rattle.gx_shared.specs.Sharing.{IsCalled};
 
     /// Asks a call and runs its events to the end, one hold of the lock for each; `between` comes between two of them,
@@ -57,12 +57,12 @@ impl<R: Ledger> Session<R> {
     /// It waits for the lock, and with a sealed commit for the end of a round that another session leads; never for a
     /// time. Before the log is stepped for a sealed commit others get a turn to seal theirs.
     ///
-    /// The reply is the one that was recorded, and the session's share rises by one. Or the call is given up, and its
-    /// share is as before: with `Device`, `Failed` or `Damaged` where an event of the log or of a page met a fault,
-    /// with `Failed` where the record is full of such refusals, with `HistoryFull` where the record has no room for the
-    /// call.
+    /// It asks the given call, in a hold. The reply is the one that was recorded, and the session's share rises by one.
+    /// Or the call is given up, and its share is as before: with `Device`, `Failed` or `Damaged` where an event of the
+    /// log or of a page met a fault, with `Failed` where the record is full of such refusals, with `HistoryFull` where
+    /// the record has no room for the call.
     #[tactic(auto, using(crate::proofs::Sharing::done_of, crate::proofs::Sharing::run_of, crate::proofs::Sharing::call_of))]
-    pub fn call<B: Shape, E: Events<B>, G: Between, W: Wait>(
+    pub fn call<E: Events<B>, G: Between, W: Wait>(
         &mut self,
         rt: &W,
         shared: &Shared<B, E, R>,
@@ -71,7 +71,7 @@ impl<R: Ledger> Session<R> {
     ) -> Reply<B>
     where
         R: Run<B>,
-        ensures { IsCalled self.old result self.new }
+        ensures { IsCalled self.old call result self.new }
     {
         let number = self.number();
         let turns = &shared.turns;

@@ -14,6 +14,7 @@ mod handed;
 pub mod laws;
 mod record;
 mod run;
+mod seen;
 mod session;
 mod shared;
 mod turns;

@@ -14,7 +14,10 @@ use std::sync::Mutex;
 use std::sync::ledger::{Blank, Ledger, Share};
 
 /// All sessions, each with one part of the ledger.
-fn all_sessions<R: Ledger>(alloc: Global, all: Share<R>) -> Result<Vec<Session<R>>, AllocError>
+fn all_sessions<B, R: Ledger>(
+    alloc: Global,
+    all: Share<R>,
+) -> Result<Vec<Session<B, R>>, AllocError>
     requires parts { all.parts ≡ SESSIONS }
     requires amount { all.amount ≡ 0 }
     ensures { IfOk result (λ sessions. sessions.items ≡ fresh_sessions SESSIONS) }
@@ -30,7 +33,7 @@ fn all_sessions<R: Ledger>(alloc: Global, all: Share<R>) -> Result<Vec<Session<R
 
 /// A share with the parts of these sessions too, and with their finished calls.
 #[tactic(auto, using(crate::proofs::Sharing::taken_first))]
-fn gathered<R: Ledger>(first: Share<R>, sessions: Vec<Session<R>>) -> Share<R>
+fn gathered<B, R: Ledger>(first: Share<R>, sessions: Vec<Session<B, R>>) -> Share<R>
     ensures parts { result.parts ≡ first.parts + length sessions.items }
     ensures amount { result.amount ≡ first.amount + shares_of sessions.items }
 {
@@ -66,7 +69,7 @@ impl<B: Shape, E: Events<B>, R: Run<B>> Shared<B, E, R> {
         alloc: Global,
         blank: Blank,
         engine: E,
-    ) -> Result<(Self, Vec<Session<R>>), (Refusal, E)>
+    ) -> Result<(Self, Vec<Session<B, R>>), (Refusal, E)>
         requires name { blank.name ≡ R.name }
         requires parts { (blank.parts ≡ R.parts) × (R.parts ≡ SESSIONS) }
         requires starts { E.granted → MayBeShared E.sees R.starts engine }
@@ -106,7 +109,7 @@ impl<B: Shape, E: Events<B>, R: Run<B>> Shared<B, E, R> {
 
     /// Ends the sharing: the sessions come back, and the book with them. Its record has as many finished calls as the
     /// shares of all eight sessions add up to; where fewer come back, at least as many as theirs.
-    pub fn close(self, sessions: Vec<Session<R>>) -> Book<B, E, R>
+    pub fn close(self, sessions: Vec<Session<B, R>>) -> Book<B, E, R>
         requires { R.parts ≡ SESSIONS }
         ensures least { shares_of sessions.items ≤ finished result.1 }
         ensures exact { length sessions.items ≡ SESSIONS → finished result.1 ≡ shares_of sessions.items }

@@ -24,7 +24,7 @@
 //! one in flight and one that fills, and they are gated in order. So a sealed commit is durable after two rounds.
 
 ghost use Rattle.std.specs.Prelude.{◌≡◌, ◌⊎◌};
-ghost use Rattle.gx_shared.specs.Sharing.{InCall};
+ghost use Rattle.gx_shared.specs.Sharing.{GoesOn};
 
 use gx_events::Event;
 use gx_geom::Shape;
@@ -223,8 +223,8 @@ impl CallTurn {
         session: u8,
         named: Event<B>,
     ) -> Event<B>
-        requires { InCall session named }
-        ensures { InCall session result }
+        requires { GoesOn session named }
+        ensures { GoesOn session result }
     {
         if self.stage != CommitStage::Sealed || matches!(named, Event::Move(_)) {
             return named;

@@ -4,6 +4,7 @@ use Rattle.std.specs.Prelude.{◌≡◌, ℕ, Bool, List, Result}
 use Rattle.gx_machine.specs.declared.entry.Entry.{Entry}
 use Rattle.gx_machine.specs.Keys.{Members}
 use Rattle.gx_geom.specs.declared.refusal.Refusal.{Refusal}
+use Rattle.gx_class.specs.Traits.{Traits, own}
 use Rattle.gx_class.specs.declared.class.KeyClass.{Ghosts}
 use Rattle.gx_disk.specs.Device.{Device}
 use Rattle.gx_glog.specs.declared.stage.Stage.{Stage}
@@ -101,21 +102,21 @@ module _ {C B D : Type 0} (shape : Members B) (class : Ghosts C B) (state : D �
       (store_at class state w.shelf) entry page marked sought
 
 -- a record is the log's last
-abbrev pub IsLastAs : {C B : Type 0} → Members B → (B → Bool) → (List ℕ → B) → Ghosts C B → Rec → Log → Log → Type 0
-IsLastAs shape proper said class x old new =
-    IsLast (known_at shape proper) (reading_of said (format_of class)) x old new
+abbrev pub IsLastAs : {B : Type 0} → Members B → Traits B → Rec → Log → Log → Type 0
+IsLastAs shape traits x old new =
+    IsLast (known_at shape traits.is_proper) (reading_of traits.said (format_of (own traits))) x old new
 
-module _ {C B D : Type 0} (shape : Members B) (proper : B → Bool) (said : List ℕ → B) (class : Ghosts C B)
+module _ {B D : Type 0} (shape : Members B) (traits : Traits B)
     (state : D → Device) where
   -- what is known of the class, its readings and format, which pages are nodes, and the device as a volume has it
   abbrev known : Limits → Known (Entry B) (Page B)
-  known = known_at shape proper
+  known = known_at shape traits.is_proper
 
   abbrev form : Format B
-  form = format_of class
+  form = format_of (own traits)
 
   abbrev reading : Reading (Entry B) (Page B)
-  reading = reading_of said form
+  reading = reading_of traits.said form
 
   abbrev passes : ℕ → Contents → Bool
   passes = is_node form
@@ -133,12 +134,12 @@ module _ {C B D : Type 0} (shape : Members B) (proper : B → Bool) (said : List
 
   abbrev pub LogsMarkAs : ℕ → Entry B → ℕ → Bool → Volume D → Volume D → Sought → Type 0
   LogsMarkAs transaction entry page marked v w sought =
-      MarkIsLogged known reading form passes class.spelling class.KEY transaction entry page marked (at v) (at w) v w
+      MarkIsLogged known reading form passes traits.spelling traits.KEY transaction entry page marked (at v) (at w) v w
       sought
 
   abbrev pub LogsDescentAs : ℕ → Volume D → Volume D → Descended B → Type 0
   LogsDescentAs page v w did =
-      DescentIsLogged known reading form passes class.spelling class.KEY page (at v) (at w) v w did
+      DescentIsLogged known reading form passes traits.spelling traits.KEY page (at v) (at w) v w did
 
   -- nothing is logged, of an event that began so
   abbrev pub UnloggedAs : Shelf D → Volume D → Volume D → Type 0
@@ -176,7 +177,7 @@ module _ {C B D : Type 0} (shape : Members B) (proper : B → Bool) (said : List
   ShowsTheLogsAs l v = ShowsTheLogs (known l) reading form passes (at v) v
 
   abbrev pub ShowsKeysAs : Limits → Volume D → Type 0
-  ShowsKeysAs l v = ShowsKeys (known l) reading form passes class.is_key (at v) v
+  ShowsKeysAs l v = ShowsKeys (known l) reading form passes traits.is_key (at v) v
 
   abbrev pub ReadsKeepAs : Limits → Volume D → Shelf D → Type 0
   ReadsKeepAs l v t = ReadsKeep (known l) reading form passes (at v) (state t.disk) v t

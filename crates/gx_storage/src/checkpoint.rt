@@ -19,9 +19,10 @@ ghost use Rattle.gx_storage.specs.Setting.{KeepsOnAs, MayTurnAs, TurnsOnAs};
 
 use crate::Storage;
 use crate::changes::marked::mark_of;
+use gx_class::ReadKeys;
 use gx_disk::SectorDisk;
+use gx_durable::OfClass;
 use gx_durable::turn::put_first;
-use gx_durable::{OfClass, ReadKeys};
 use gx_geom::Refusal;
 use gx_glog::{Appended, Stage, Turn};
 use gx_record::Record;
@@ -67,7 +68,7 @@ impl<D: SectorDisk, K: ReadKeys> Storage<D, K> {
         ensures settled { (D.state self.old.shelf.disk).honest ≡ true
             → OnOk result (IsSettled (D.state self.new.shelf.disk)) }
         ensures refusal { IfErr result (λ refusal. refusal ≡ Refusal.Device) }
-        ensures keeps { KeepsOnAs K.Key.Shape K.is_proper K.said K.KeyClass D.state self.old self.new }
+        ensures keeps { KeepsOnAs K.Key.Shape K.ReadKeys D.state self.old self.new }
     {
         self.store.sync::<OfClass<K>>()
     }
@@ -82,7 +83,7 @@ impl<D: SectorDisk, K: ReadKeys> Storage<D, K> {
         ensures puts { PutInHead (rec_of logged.now) self.old self.new result }
         ensures head { OnOk result (HeadGrows (reading_of K.said (format_of K.KeyClass)) (rec_of logged.now)
             self.old.log self.new.log (Appended.At 0)) }
-        ensures keeps { KeepsOnAs K.Key.Shape K.is_proper K.said K.KeyClass D.state self.old self.new }
+        ensures keeps { KeepsOnAs K.Key.Shape K.ReadKeys D.state self.old self.new }
     {
         match put_first::<OfClass<K>>(&mut self.log, logged) {
             Appended::At(_) => Ok(()),
@@ -105,7 +106,7 @@ impl<D: SectorDisk, K: ReadKeys> Storage<D, K> {
         ensures puts { PutInHead (Note transaction row (K.spelling key) before leaf) self.old self.new result }
         ensures head { OnOk result (HeadHas (reading_of K.said (format_of K.KeyClass))
             (records.Note transaction (record { row = row; key = key }) before leaf) self.old.log self.new.log) }
-        ensures keeps { KeepsOnAs K.Key.Shape K.is_proper K.said K.KeyClass D.state self.old self.new }
+        ensures keeps { KeepsOnAs K.Key.Shape K.ReadKeys D.state self.old self.new }
     {
         K::known(&key);
         K::encode(key, &mut self.key);
@@ -145,8 +146,8 @@ impl<D: SectorDisk, K: ReadKeys> Storage<D, K> {
           imaged = imaged_after result self.old.imaged;
         } }
         ensures refusal { IfErr result (λ refusal. refusal ≡ Refusal.Device) }
-        ensures begins { MayTurnAs K.Key.Shape K.is_proper K.said K.KeyClass D.state self.old }
-        ensures keeps { TurnsOnAs K.Key.Shape K.is_proper K.said K.KeyClass D.state self.old self.new result }
+        ensures begins { MayTurnAs K.Key.Shape K.ReadKeys D.state self.old }
+        ensures keeps { TurnsOnAs K.Key.Shape K.ReadKeys D.state self.old self.new result }
     {
         let told = self.store.turn_step::<OfClass<K>>(&mut self.log);
         self.imaged.forget_after(&told);

@@ -15,9 +15,10 @@ ghost use Rattle.gx_storage.specs.Flushing.{GivesNoPage, Helps, HelpsFrames, IsL
 ghost use Rattle.gx_storage.specs.Setting.{KeepsRecordAs, StepsLogAs, WritesGatedAs};
 
 use crate::Storage;
+use gx_class::ReadKeys;
 use gx_disk::SectorDisk;
+use gx_durable::OfClass;
 use gx_durable::calls::append;
-use gx_durable::{OfClass, ReadKeys};
 use gx_geom::Refusal;
 use gx_glog::{Appended, Stage};
 use gx_record::Record;
@@ -94,7 +95,7 @@ impl<D: SectorDisk, K: ReadKeys> Storage<D, K> {
           };
         } }
         ensures refusal { IfErr result (λ refusal. refusal ≡ Refusal.Device) }
-        ensures keeps { StepsLogAs K.Key.Shape K.is_proper K.said K.KeyClass D.state self.old self.new result }
+        ensures keeps { StepsLogAs K.Key.Shape K.ReadKeys D.state self.old self.new result }
     {
         self.store.log_step::<OfClass<K>>(&mut self.log)
     }
@@ -124,7 +125,7 @@ impl<D: SectorDisk, K: ReadKeys> Storage<D, K> {
             ≡ (D.state self.old.shelf.disk).faults + 1) }
         ensures refusal { IfErr result (λ refusal. refusal ≡ Refusal.Device) }
         ensures keeps { is_gated self.old.shelf.frames.gated (stamp_of (kept self.old.shelf.frames page)) ≡ true
-            → WritesGatedAs K.Key.Shape K.is_proper K.said K.KeyClass D.state self.old self.new }
+            → WritesGatedAs K.Key.Shape K.ReadKeys D.state self.old self.new }
     {
         self.store.write_page::<OfClass<K>>(page)
     }
@@ -135,8 +136,7 @@ impl<D: SectorDisk, K: ReadKeys> Storage<D, K> {
         requires place { self.old.log.used < PLACES }
         ensures recorded { Recorded (rec_of logged.now) self.old self.new result }
         ensures keeps { GivesNoPage (rec_of logged.now)
-            → OnOk result (KeepsRecordAs K.Key.Shape K.is_proper K.said K.KeyClass D.state self.old self.new
-            (rec_of logged.now)) }
+            → OnOk result (KeepsRecordAs K.Key.Shape K.ReadKeys D.state self.old self.new (rec_of logged.now)) }
     {
         match append::<OfClass<K>>(&mut self.log, logged) {
             Appended::At(_) => Ok(()),
@@ -149,7 +149,7 @@ impl<D: SectorDisk, K: ReadKeys> Storage<D, K> {
     pub fn append_commit(&mut self, transaction: u64, number: u64) -> Result<(), StoreFault>
         requires place { self.old.log.used < PLACES }
         ensures recorded { Recorded (rec.Commit transaction number) self.old self.new result }
-        ensures keeps { OnOk result (KeepsRecordAs K.Key.Shape K.is_proper K.said K.KeyClass D.state self.old self.new
+        ensures keeps { OnOk result (KeepsRecordAs K.Key.Shape K.ReadKeys D.state self.old self.new
             (rec.Commit transaction number)) }
     {
         self.append(&Record::Commit {
@@ -163,7 +163,7 @@ impl<D: SectorDisk, K: ReadKeys> Storage<D, K> {
     pub fn append_end(&mut self, transaction: u64) -> Result<(), StoreFault>
         requires place { self.old.log.used < PLACES }
         ensures recorded { Recorded (rec.End transaction) self.old self.new result }
-        ensures keeps { OnOk result (KeepsRecordAs K.Key.Shape K.is_proper K.said K.KeyClass D.state self.old self.new
+        ensures keeps { OnOk result (KeepsRecordAs K.Key.Shape K.ReadKeys D.state self.old self.new
             (rec.End transaction)) }
     {
         self.append(&Record::End { tx: transaction })

@@ -15,9 +15,8 @@ ghost use Rattle.gx_storage.specs.Setting.{FaultsAs, StaysAs, ToldAs, UnloggedAs
 
 use crate::Storage;
 use crate::changes::room::begin_reading;
-use gx_class::KeyClass;
+use gx_class::{KeyClass, ReadKeys};
 use gx_disk::SectorDisk;
-use gx_durable::ReadKeys;
 use gx_machine::Entry;
 use gx_node::Leaf;
 use gx_page::Page;
@@ -64,8 +63,7 @@ impl<D: SectorDisk, K: ReadKeys> Storage<D, K> {
     pub fn bring(&mut self, page: u32) -> Result<(), StoreFault>
         requires from { 1 ≤ page }
         requires to { page ≤ self.old.shelf.used }
-        ensures unlogged { UnloggedAs K.Key.Shape K.is_proper K.said K.KeyClass D.state (bringing self.old) self.old
-            self.new }
+        ensures unlogged { UnloggedAs K.Key.Shape K.ReadKeys D.state (bringing self.old) self.old self.new }
         ensures stays { StaysAs K.KeyClass D.state self.old.shelf self.new.shelf }
         ensures held { OnOk result (IsHeld self.new.shelf page) }
         ensures told { ToldAs D.state store_fails self.old.shelf self.new.shelf result }

@@ -13,9 +13,8 @@ ghost use Rattle.gx_storage.specs.Setting.{IsWhyAs, IsWhyOfLookAs, StaysAs, Told
 
 use crate::Storage;
 use crate::changes::room::begin_reading;
-use gx_class::Probing;
+use gx_class::{Probing, ReadKeys};
 use gx_disk::SectorDisk;
-use gx_durable::ReadKeys;
 use gx_store::StoreFault;
 use gx_tree::{Look, LookFault, Sought, StepFault, Wanted};
 
@@ -31,8 +30,7 @@ impl<D: SectorDisk, K: ReadKeys + Probing> Storage<D, K> {
         look: &mut Look<K::Key>,
     ) -> Result<(), LookFault<StoreFault>>
         requires { 0 < length look.old.stack.items }
-        ensures unlogged { UnloggedAs K.Key.Shape K.is_proper K.said K.KeyClass D.state (bringing self.old) self.old
-            self.new }
+        ensures unlogged { UnloggedAs K.Key.Shape K.ReadKeys D.state (bringing self.old) self.old self.new }
         ensures stays { StaysAs K.KeyClass D.state self.old.shelf self.new.shelf }
         ensures step { OnOk result (LookStep (tree_at K.KeyClass D.state self.new.shelf)
             (wants K.passes wanted.now.keys wanted.now.row) (K.passes wanted.now.bounds) look.old.stack.items
@@ -59,8 +57,7 @@ impl<D: SectorDisk, K: ReadKeys + Probing> Storage<D, K> {
         wanted: &Wanted<K>,
         page: u32,
     ) -> Result<Sought, StepFault<StoreFault>>
-        ensures unlogged { UnloggedAs K.Key.Shape K.is_proper K.said K.KeyClass D.state (bringing self.old) self.old
-            self.new }
+        ensures unlogged { UnloggedAs K.Key.Shape K.ReadKeys D.state (bringing self.old) self.old self.new }
         ensures stays { StaysAs K.KeyClass D.state self.old.shelf self.new.shelf }
         ensures held { OnOk result (IsHeld self.new.shelf page) }
         ensures sought { IfOk result (Seeks (wants K.passes wanted.now.keys wanted.now.row)

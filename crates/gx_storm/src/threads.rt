@@ -33,14 +33,14 @@ pub struct Storm {
 /// A session at work, with what it was handed.
 #[derive(Drop)]
 struct Worker<R: Ledger> {
-    session: Session<R>,
+    session: Session<Box2, R>,
     handed: Handed<Box2>,
     draws: Draws,
 }
 
 impl<R: Ledger> Worker<R> {
     /// A session that was handed nothing, with room for so many replies.
-    fn new(alloc: Global, session: Session<R>, storm: &Storm) -> Result<Self, AllocError> {
+    fn new(alloc: Global, session: Session<Box2, R>, storm: &Storm) -> Result<Self, AllocError> {
         let seed = u64::from(storm.seed) + u64::from(session.number());
         Ok(Worker {
             session,
@@ -94,7 +94,7 @@ impl<R: Ledger> Worker<R> {
 /// The first sessions of all, made ready to work.
 fn workers<R: Run<Box2>>(
     alloc: Global,
-    sessions: &mut Vec<Session<R>>,
+    sessions: &mut Vec<Session<Box2, R>>,
     storm: &Storm,
 ) -> Result<Vec<Worker<R>>, AllocError>
     requires { storm.now.sessions ≤ vec_len sessions.old }
@@ -110,7 +110,7 @@ fn workers<R: Run<Box2>>(
 /// All workers' sessions, back among the others; what they were handed.
 fn all_back<R: Run<Box2>>(
     alloc: Global,
-    sessions: &mut Vec<Session<R>>,
+    sessions: &mut Vec<Session<Box2, R>>,
     workers: Vec<Result<Worker<R>, AllocError>>,
 ) -> Result<Vec<Handed<Box2>>, AllocError>
     ensures { IfOk result (λ all. vec_len all ≡ vec_len workers) }

@@ -41,7 +41,7 @@ fn check_query<K: KeyClass>(
 }
 
 /// Queries at a bound, and what `consistent` and `matches` answer.
-pub type Queries<K> = [(Query<K>, bool, bool); 6];
+pub type Queries<K> = [(Query<K>, bool, bool); 8];
 
 /// Fails unless each query is answered so at the bound.
 pub fn check_queries<K: KeyClass>(rt: &impl Abort, bound: &K::Key, queries: &Queries<K::Key>) {
@@ -248,6 +248,8 @@ fn queries(rt: HostRuntime) {
         (Query::Equal(bound), true, true),
         (Query::Within(around), true, true),
         (Query::Overlap(beside), false, false),
+        (Query::Covers(make_box(&rt, (0, 1, 10, 9))), true, true),
+        (Query::Covers(around), false, false),
     ];
     check_queries::<Box2Class>(&rt, &bound, &queries);
 }

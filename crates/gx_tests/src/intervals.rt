@@ -75,6 +75,8 @@ fn queries(rt: HostRuntime) {
         (Query::Equal(bound), true, true),
         (Query::Within(make(&rt, -1, 11)), true, true),
         (Query::Overlap(make(&rt, 11, 12)), false, false),
+        (Query::Covers(make(&rt, 1, 10)), true, true),
+        (Query::Covers(make(&rt, -1, 11)), false, false),
     ];
     check_queries::<IntervalClass>(&rt, &bound, &queries);
 }

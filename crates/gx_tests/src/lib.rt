@@ -39,6 +39,8 @@ mod scripts;
 #[cfg(test)]
 mod small;
 #[cfg(test)]
+mod solid_scripts;
+#[cfg(test)]
 mod solids;
 #[cfg(test)]
 mod trees;

@@ -9,7 +9,7 @@ use std::test::Fail;
 /// A script and the text that it gives on a fresh index.
 type Row = (&'static [u8], &'static [u8]);
 
-static SCRIPTS: [Row; 11] = [
+static SCRIPTS: [Row; 13] = [
     // a commit is found
     (
         b"1 BEGIN\n1 INSERT 7 0 0 10 10\n1 COMMIT\n1 BEGIN\n1 OVERLAP 10 10 20 20\n",
@@ -67,6 +67,16 @@ static SCRIPTS: [Row; 11] = [
         1 found 0\n1 found 0\n1 found 0\n1 found 0\n1 found 0\n1 found 0\n\
         1 refused 9 predicates full\n1 found 1\n1 entry 1 0 0 2 2\n",
     ),
+    // what covers a box
+    (
+        b"1 BEGIN\n1 INSERT 1 0 0 2 2\n1 INSERT 2 1 1 3 3\n1 COMMIT\n1 BEGIN\n1 COVERS 0 0 1 1\n",
+        b"1 ok\n1 inserted\n1 inserted\n1 committed 1\n1 ok\n1 found 1\n1 entry 1 0 0 2 2\n",
+    ),
+    // its predicate bars a write that covers the box
+    (
+        b"1 BEGIN\n1 COVERS 5 5 6 6\n2 BEGIN\n2 INSERT 3 0 0 9 9\n",
+        b"1 ok\n1 found 0\n2 ok\n2 refused 5 busy 1\n",
+    ),
 ];
 
 /// An index with nothing committed.
@@ -82,7 +92,7 @@ pub(crate) fn runs<R: Abort + AllocGlobal, T: Read>(rt: &R, reader: &mut T, text
 }
 
 /// Fails unless the script gives this text on a fresh index.
-fn gives_text<R: Abort + AllocGlobal>(rt: &R, script: &[u8], text: &[u8]) {
+pub(crate) fn gives_text<R: Abort + AllocGlobal>(rt: &R, script: &[u8], text: &[u8]) {
     let mut reader = script;
     let mut writer = Vec::new(rt.alloc());
     runs(rt, &mut reader, &mut writer);

@@ -1,5 +1,5 @@
 //! A small class, for tests: keys that reach from nothing up to a number.
-ghost use Rattle.gx_machine.specs.declared.query.Query.TheVariants.{Overlap, Within, Equal};
+ghost use Rattle.gx_machine.specs.declared.query.Query.TheVariants.{Overlap, Within, Equal, Covers};
 ghost use Rattle.std.specs.Prelude.{◌≡◌, ◌≤◌, ◌<◌, ◌-◌, ◌/◌, ◌++◌, ◌∷◌, [], true};
 ghost use Rattle.std.specs.Prelude.{false, refl, length, replicate, nat_le, max};
 ghost use Rattle.std.proofs.Common.{ap, arith};
@@ -59,7 +59,12 @@ impl KeyClass for ReachClass {
 
     ghost start_key = { record { 0 = 0 } };
 
-    ghost may_match = { λ q b. elim q [ Overlap p ↦ true | Within p ↦ true | Equal p ↦ nat_le p.0 b.0 ] };
+    ghost may_match = { λ q b. elim q [
+      | Overlap p ↦ true
+      | Within p ↦ true
+      | Equal p ↦ nat_le p.0 b.0
+      | Covers p ↦ nat_le p.0 b.0
+    ] };
 
     ghost joined = { λ a b. record { 0 = max a.0 b.0 } };
 
@@ -82,7 +87,7 @@ impl KeyClass for ReachClass {
     fn consistent(query: &Query<Reach>, bound: &Reach) -> bool {
         match query {
             Query::Overlap(_) | Query::Within(_) => true,
-            Query::Equal(q) => q.0 <= bound.0,
+            Query::Equal(q) | Query::Covers(q) => q.0 <= bound.0,
         }
     }
 
@@ -91,6 +96,7 @@ impl KeyClass for ReachClass {
             Query::Overlap(_) => true,
             Query::Within(q) => key.0 <= q.0,
             Query::Equal(q) => key == q,
+            Query::Covers(q) => q.0 <= key.0,
         }
     }
 
@@ -132,6 +138,8 @@ impl KeyClass for ReachClass {
       | Overlap p ↦ λ k b _ _ m c. refl
       | Within p ↦ λ k b _ _ m c. refl
       | Equal p ↦
+          λ k b _ _ m c. Prim.grind (arith, nat_tests)
+      | Covers p ↦
           λ k b _ _ m c. Prim.grind (arith, nat_tests)
     ] };
 

@@ -2,12 +2,12 @@
 use crate::asserts::{got, holds, same};
 use gx_geom::{Box2, Refusal};
 use gx_machine::{Call, Entries, Entry, Query, Reply};
-use gx_script::{Answers, Line, Noted, ScriptFault, parse, run};
+use gx_script::{Answers, Noted, ScriptFault, run};
 use std::alloc::{AllocError, Global};
 use std::io::{self, ErrorKind, Read, Write};
 use std::process::Abort;
 
-// It keeps what was inserted. An overlap finds all of it and a search within nothing; an equal search is busy.
+// It keeps what was inserted. An overlap finds all of it, a search within or for covers nothing; an equal one is busy.
 #[derive(Drop)]
 struct List {
     alloc: Global,
@@ -29,16 +29,18 @@ impl List {
             Query::Overlap(_) => {
                 Reply::Found(Entries::new(Vec::from_slice(self.alloc, self.entries.as_slice())?))
             }
-            Query::Within(_) => Reply::Found(Entries::new(Vec::new(self.alloc))),
+            Query::Within(_) | Query::Covers(_) => Reply::Found(Entries::new(Vec::new(self.alloc))),
             Query::Equal(_) => Reply::Refused(Refusal::Busy(3)),
         })
     }
 }
 
-impl Answers for List {
+impl Answers<Box2> for List {
     ghost answered = { λ old session call reply new. Unit {0} };
 
-    fn call(&mut self, session: u8, call: Call<Box2>) -> Reply<Box2> {
+    fn call(&mut self, session: u8, call: Call<Box2>) -> Reply<Box2>
+        ensures { Unit {0} }
+    {
         self.calls = self.calls.wrapping_add(1);
         if session == 0 || session > 8 {
             return Reply::Refused(Refusal::BadSession);
@@ -207,8 +209,8 @@ static WORDS: [Row; 6] = [
         b"line 1 bad\nline 2 bad\n",
     ),
     (
-        b"1 OVERLAP 0 0 1\n1 WITHIN 0 0 1 1 1\n1 EQUAL\n",
-        b"line 1 bad\nline 2 bad\nline 3 bad\n",
+        b"1 OVERLAP 0 0 1\n1 WITHIN 0 0 1 1 1\n1 EQUAL\n1 COVERS 0 0 1 1 now\n1 COVER 0 0 1 1\n",
+        b"line 1 bad\nline 2 bad\nline 3 bad\nline 4 bad\nline 5 bad\n",
     ),
     (
         b"1 BEGIN\0\n\0\n1 BEGIN\xff\n\x80\n1\x0bBEGIN\n",
@@ -272,8 +274,8 @@ static SESSIONS: [Row; 5] = [
 // Replies of each kind.
 static REPLIES: [Row; 2] = [
     (
-        b"8 DELETE 1 0 0 0 0\n8 EQUAL 0 0 0 0\n8 WITHIN -1 -1 1 1\n",
-        b"8 deleted\n8 refused 5 busy 3\n8 found 0\n",
+        b"8 DELETE 1 0 0 0 0\n8 EQUAL 0 0 0 0\n8 WITHIN -1 -1 1 1\n8 COVERS 0 0 0 0\n",
+        b"8 deleted\n8 refused 5 busy 3\n8 found 0\n8 found 0\n",
     ),
     (
         b"1 INSERT 9 1 2 3 4\n2 INSERT 8 -4 -3 -2 -1\n3 OVERLAP 0 0 0 0\n",
@@ -397,12 +399,4 @@ fn a_writer_that_fails_ends_the_script(rt: HostRuntime) {
     for most in 0..TEXT.len() {
         stops_at(&rt, most);
     }
-}
-
-#[test]
-fn a_line_is_read_by_itself(rt: HostRuntime) {
-    holds(&rt, parse(b" \t\r") == Line::Blank);
-    holds(&rt, parse(b"2 ABORT") == Line::Asks(2, Call::Abort));
-    holds(&rt, parse(b"300 EQUAL 1 0 0 0") == Line::Reversed(300));
-    holds(&rt, parse(b"2 ABORT\n") == Line::Bad);
 }

@@ -112,6 +112,8 @@ fn solid_queries(rt: HostRuntime) {
         (Query::Within(small), true, false),
         (Query::Equal(bound), true, true),
         (Query::Equal(above), false, false),
+        (Query::Covers(small), true, true),
+        (Query::Covers(large), false, false),
     ];
     check_queries::<Box3Class>(&rt, &bound, &queries);
 }

@@ -35,7 +35,7 @@ const PAUSE: u64 = 1;
 /// What a thread did.
 #[derive(Drop)]
 struct Done<R: Ledger> {
-    session: Session<R>,
+    session: Session<Box2, R>,
     /// How many transactions it committed.
     commits: u64,
     /// The nanoseconds that each of its reads took.
@@ -139,7 +139,7 @@ struct Sums {
 /// What all threads did; their sessions go back among the others.
 fn summed<R: Run<Box2>>(
     alloc: Global,
-    sessions: &mut Vec<Session<R>>,
+    sessions: &mut Vec<Session<Box2, R>>,
     all: Vec<Result<Done<R>, Trouble>>,
 ) -> Result<Sums, Trouble> {
     let mut sums = Sums {

@@ -6,7 +6,8 @@
 //! memory.
 //!
 //! Behind the word `single` a transaction has one insert, behind `pair` a search and an insert, in place of three
-//! inserts and a search.
+//! inserts and a search. Behind `told` it has one insert too, and each commit is printed once it is acknowledged, so
+//! that the program may be killed amid them.
 //!
 //! A line may have the word `storm` first, and then a seed, how many sessions there are and how many calls each makes;
 //! so their calls are random, and the plain index replays the record.

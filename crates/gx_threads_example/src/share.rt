@@ -10,7 +10,7 @@ use gx_events::Events;
 use gx_geom::{Box2, Refusal};
 use gx_machine::{Item, Reply};
 use gx_shared::{Book, Run, Session, Shared};
-use std::alloc::{AllocError, Global};
+use std::alloc::Global;
 use std::marker::Brand;
 use std::sync::Wait;
 use std::sync::ledger::Blank;
@@ -19,7 +19,7 @@ use std::thread::{Threads, map_vec};
 /// So many workers, by the first sessions.
 pub(crate) fn workers<R: Run<Box2>>(
     alloc: Global,
-    sessions: &mut Vec<Session<R>>,
+    sessions: &mut Vec<Session<Box2, R>>,
     threads: u8,
 ) -> Result<Vec<Worker<R>>, Trouble> {
     let mut workers = Vec::new(alloc);
@@ -43,8 +43,8 @@ struct Handed {
 /// All workers' sessions back among the others; what they were handed.
 fn all_back<R: Run<Box2>>(
     alloc: Global,
-    sessions: &mut Vec<Session<R>>,
-    workers: Vec<Result<Worker<R>, AllocError>>,
+    sessions: &mut Vec<Session<Box2, R>>,
+    workers: Vec<Result<Worker<R>, Trouble>>,
 ) -> Result<Vec<Handed>, Trouble> {
     let mut handed = Vec::new(alloc);
     for worker in workers {

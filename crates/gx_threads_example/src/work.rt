@@ -1,4 +1,5 @@
 //! What one thread does.
+use crate::trouble::Trouble;
 use gx_events::Events;
 use gx_geom::{Box2, Refusal};
 use gx_machine::{Call, Entry, Query, Reply};
@@ -12,6 +13,8 @@ use std::sync::ledger::Ledger;
 pub(crate) enum Kind {
     /// One insert, at a place in no order.
     Single,
+    /// The same; its commit is printed once it is acknowledged.
+    Told,
     /// A search, and then such an insert.
     Pair,
     /// Three inserts, in order, and then a search.
@@ -19,10 +22,13 @@ pub(crate) enum Kind {
 }
 
 impl Kind {
-    /// The kind that a line's first word names, and the rest of the line. With neither word it is the last.
+    /// The kind that a line's first word names, and the rest of the line. Without such a word it is the last.
     pub(crate) fn read(line: &str) -> (Kind, &str) {
         if let Some(rest) = line.strip_prefix("single ") {
             return (Kind::Single, rest);
+        }
+        if let Some(rest) = line.strip_prefix("told ") {
+            return (Kind::Told, rest);
         }
         match line.strip_prefix("pair ") {
             Some(rest) => (Kind::Pair, rest),
@@ -35,7 +41,7 @@ impl Kind {
 /// record, and none here.
 #[derive(Drop)]
 pub(crate) struct Worker<R: Ledger> {
-    pub(crate) session: Session<R>,
+    pub(crate) session: Session<Box2, R>,
     pub(crate) replies: Vec<Reply<Box2>>,
     /// The first fault by which a call was refused.
     pub(crate) fault: Option<Refusal>,
@@ -64,7 +70,7 @@ fn scattered(turn: u16) -> i32 {
 
 impl<R: Ledger> Worker<R> {
     /// A session that was handed none.
-    pub(crate) fn new(alloc: Global, session: Session<R>) -> Self {
+    pub(crate) fn new(alloc: Global, session: Session<Box2, R>) -> Self {
         Worker {
             session,
             replies: Vec::new(alloc),
@@ -139,7 +145,7 @@ impl<R: Ledger> Worker<R> {
     {
         self.call(rt, shared, Call::Begin)?;
         match kind {
-            Kind::Single => self.insert(rt, shared, scattered(turn))?,
+            Kind::Single | Kind::Told => self.insert(rt, shared, scattered(turn))?,
             Kind::Pair => {
                 self.search(rt, shared)?;
                 self.insert(rt, shared, scattered(turn))?;
@@ -155,20 +161,32 @@ impl<R: Ledger> Worker<R> {
         self.call(rt, shared, Call::Commit)
     }
 
+    /// Prints the number of the commit that was acknowledged last, if that was the last reply.
+    fn print_commit<W: Print>(&self, rt: &W) -> Result<(), Trouble> {
+        if let Some(Reply::Committed(number)) = self.replies.as_slice().last() {
+            let session = self.session.number();
+            println!(rt; "session {session} committed {number}")?;
+        }
+        Ok(())
+    }
+
     /// Transactions, one after another.
-    pub(crate) fn work<E: Events<Box2>, W: Wait>(
+    pub(crate) fn work<E: Events<Box2>, W: Wait + Print>(
         self,
         rt: &W,
         shared: &Shared<Box2, E, R>,
         transactions: u16,
         kind: Kind,
-    ) -> Result<Self, AllocError>
+    ) -> Result<Self, Trouble>
     where
         R: Run<Box2>,
     {
         let mut worker = self;
         for turn in 0..transactions {
             worker.transact(rt, shared, turn, kind)?;
+            if matches!(kind, Kind::Told) {
+                worker.print_commit(rt)?;
+            }
         }
         Ok(worker)
     }

@@ -34,13 +34,13 @@ pub fn overlap(key: Box2) -> Call<Box2> {
 /// A session, and the replies that it was handed, in their order.
 #[derive(Drop)]
 pub struct Caller<R: Ledger> {
-    pub session: Session<R>,
+    pub session: Session<Box2, R>,
     pub replies: Vec<Reply<Box2>>,
 }
 
 impl<R: Ledger> Caller<R> {
     /// A session that was handed none.
-    pub fn new(alloc: Global, session: Session<R>) -> Self {
+    pub fn new(alloc: Global, session: Session<Box2, R>) -> Self {
         Caller {
             session,
             replies: Vec::new(alloc),
@@ -84,7 +84,7 @@ pub fn start<E: Events<Box2> + Drop, R: Run<Box2>>(
     alloc: Global,
     blank: Blank,
     engine: E,
-) -> (Shared<Box2, E, R>, Vec<Session<R>>)
+) -> (Shared<Box2, E, R>, Vec<Session<Box2, R>>)
     requires name { blank.name ≡ R.name }
     requires parts { (blank.parts ≡ R.parts) × (R.parts ≡ SESSIONS) }
     requires starts { E.granted → MayBeShared E.sees R.starts engine }
@@ -100,7 +100,7 @@ pub fn start<E: Events<Box2> + Drop, R: Run<Box2>>(
 pub fn next_caller<R: Run<Box2>>(
     rt: &impl Abort,
     alloc: Global,
-    sessions: &mut Vec<Session<R>>,
+    sessions: &mut Vec<Session<Box2, R>>,
 ) -> Caller<R> {
     let some = !sessions.is_empty();
     holds(rt, some, "no session is left");
@@ -110,7 +110,7 @@ pub fn next_caller<R: Run<Box2>>(
 /// A caller's session back among the others; its replies.
 pub fn back<R: Run<Box2>>(
     rt: &impl Abort,
-    sessions: &mut Vec<Session<R>>,
+    sessions: &mut Vec<Session<Box2, R>>,
     caller: Caller<R>,
 ) -> Vec<Reply<Box2>> {
     let Caller { session, replies } = caller;

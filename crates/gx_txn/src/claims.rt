@@ -6,7 +6,7 @@ ghost use Rattle.gx_machine.specs.Keys.{keys_of, matches};
 ghost use Rattle.gx_machine.specs.Sets.{has, InOrder};
 ghost use Rattle.gx_machine.specs.Orders.{IsSearched};
 
-use crate::lanes::{Is, LiesIn, Overlaps, some_passes};
+use crate::lanes::{Around, Is, LiesIn, Overlaps, some_passes};
 use crate::marks::RowMarks;
 use crate::search;
 use gx_geom::Shape;
@@ -80,6 +80,7 @@ impl<B: Shape> Claims<B> {
             Query::Overlap(q) => some_passes(&Overlaps(q), &self.keys),
             Query::Within(q) => some_passes(&LiesIn(q), &self.keys),
             Query::Equal(q) => some_passes(&Is(q), &self.keys),
+            Query::Covers(q) => some_passes(&Around(q), &self.keys),
         }
     }
 

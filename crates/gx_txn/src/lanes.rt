@@ -40,7 +40,7 @@ impl<B: Shape> Test<B> for Overlaps<B> {
     }
 }
 
-/// Of keys: those that lie in this one.
+/// Of keys, of entries or of queries: those that lie in this one.
 #[derive(Drop)]
 pub struct LiesIn<B>(pub B);
 
@@ -76,15 +76,15 @@ impl<B: Shape> Test<B> for OverlappedBy<B> {
     }
 }
 
-/// Of the keys of queries: those in which this key lies.
+/// Of keys, of entries or of queries: those in which this one lies.
 #[derive(Drop)]
 pub struct Around<B>(pub B);
 
 impl<B: Shape> Test<B> for Around<B> {
-    ghost test = { λ t query. B.inside t.0 query };
+    ghost test = { λ t key. B.inside t.0 key };
 
-    fn passes(&self, query: &B) -> bool {
-        self.0.within(query)
+    fn passes(&self, key: &B) -> bool {
+        self.0.within(key)
     }
 }
 

@@ -5,7 +5,7 @@ ghost use Rattle.gx_machine.specs.declared.limits.TheConstants.{MAX_PREDICATES};
 ghost use Rattle.gx_machine.specs.Keys.{keys_of, matches};
 ghost use Rattle.gx_machine.specs.Sessions.{has_query};
 
-use crate::lanes::{Around, OverlappedBy, SameAs, some_passes};
+use crate::lanes::{Around, LiesIn, OverlappedBy, SameAs, some_passes};
 use crate::search::put_last;
 use gx_geom::Shape;
 use gx_machine::{Entry, MAX_PREDICATES, Query, is_same_query};
@@ -20,6 +20,7 @@ pub struct Predicates<B: Shape> {
     overlap: Vec<B>,
     within: Vec<B>,
     equal: Vec<B>,
+    covers: Vec<B>,
 }
 
 impl<B: Shape> Model for Predicates<B> {
@@ -34,7 +35,8 @@ impl<B: Shape> Model for Predicates<B> {
 
     ghost invariant = { λ p. (MAX_PREDICATES ≤ vec_capacity p.asked) × (MAX_PREDICATES ≤ vec_capacity p.overlap)
         × (MAX_PREDICATES ≤ vec_capacity p.within) × (MAX_PREDICATES ≤ vec_capacity p.equal)
-        × AreByKind p.asked.items p.overlap.items p.within.items p.equal.items };
+        × (MAX_PREDICATES ≤ vec_capacity p.covers)
+        × AreByKind p.asked.items p.overlap.items p.within.items p.equal.items p.covers.items };
 }
 
 impl<B: Shape> Predicates<B> {
@@ -47,6 +49,7 @@ impl<B: Shape> Predicates<B> {
             overlap: Vec::with_capacity(alloc, MAX_PREDICATES)?,
             within: Vec::with_capacity(alloc, MAX_PREDICATES)?,
             equal: Vec::with_capacity(alloc, MAX_PREDICATES)?,
+            covers: Vec::with_capacity(alloc, MAX_PREDICATES)?,
         })
     }
 
@@ -71,7 +74,8 @@ impl<B: Shape> Predicates<B> {
         let overlapped = some_passes(&OverlappedBy(e.key), &self.overlap);
         let around = some_passes(&Around(e.key), &self.within);
         let same = some_passes(&SameAs(e.key), &self.equal);
-        overlapped | around | same
+        let inside = some_passes(&LiesIn(e.key), &self.covers);
+        overlapped | around | same | inside
     }
 
     /// Holds one more. There is room: fewer than all places are taken.
@@ -84,6 +88,7 @@ impl<B: Shape> Predicates<B> {
             Query::Overlap(q) => put_last(&mut self.overlap, q),
             Query::Within(q) => put_last(&mut self.within, q),
             Query::Equal(q) => put_last(&mut self.equal, q),
+            Query::Covers(q) => put_last(&mut self.covers, q),
         }
     }
 
@@ -95,5 +100,6 @@ impl<B: Shape> Predicates<B> {
         self.overlap.clear();
         self.within.clear();
         self.equal.clear();
+        self.covers.clear();
     }
 }

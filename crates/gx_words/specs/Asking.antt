@@ -1,10 +1,13 @@
 -- What the words ask for: the command that they name, and what is given to it.
-use Rattle.std.specs.Prelude.{◌≡◌, ◌<◌, ◌≤◌, ◌^◌, ◌⊎◌, ℕ, List, Option, Some, None, pos, codes}
+use Rattle.std.specs.Prelude.{◌≡◌, ◌≢◌, ◌<◌, ◌≤◌, ◌^◌, ◌⊎◌, ℕ, List, [], Option, Some, None, pos, codes}
 use Rattle.std.specs.Str.Parse.{IsNumeral, digits_value, without_leading_plus}
-use Rattle.clap.specs.Words.{IsSignedIn, Row, Text, first_of, one_of, subcommand_of, without_minus}
-use Rattle.gx_words.specs.Program.{gist_app}
+use Rattle.clap.specs.Words.{HasKind, IsSignedIn, Row, Text, fault_of, first_of, one_of, subcommand_of, without_minus}
+use Rattle.clap.specs.declared.error.Error.{Error}
+use Rattle.gx_words.specs.Program.{AreClasses, ClassWords, gist_app}
 use Rattle.gx_words.specs.declared.asking.AskedCommand.{AskedCommand}
 use Rattle.gx_words.specs.declared.asking.AskedCommand.TheVariants.{Plain, Format, Run, Dump, Verify, Storm}
+use Rattle.gx_words.specs.declared.asking.Dimensions.{Dimensions}
+use Rattle.gx_words.specs.declared.asking.Dimensions.TheVariants.{Two, Three}
 
 -- the word that was given under this name, or its default, is this number in decimal digits, and the number lies in
 -- this range
@@ -16,11 +19,21 @@ pub record IsNumber (rows : List Row) (name : Text) (lowest highest number : ℕ
   pub least : lowest ≤ number
   pub most : number ≤ highest
 
+-- the word for a class of boxes
+abbrev pub class_word : Dimensions → Text
+class_word Two = codes "1"
+class_word Three = codes "3"
+
+-- the word of `--class`, or its default, is the one for boxes of so many dimensions
+abbrev pub IsOfClass : List Row → Dimensions → Type 0
+IsOfClass rows dimensions = first_of (codes "class") rows ≡ Some (class_word dimensions)
+
 -- what is given to `format`
-pub record IsFormat (rows : List Row) (file : Text) (pages most : ℕ) : Type 0 where
+pub record IsFormat (rows : List Row) (file : Text) (pages most : ℕ) (dimensions : Dimensions) : Type 0 where
   pub file_is : first_of (codes "FILE") rows ≡ Some file
   pub pages_are : IsNumber rows (codes "PAGES") 8 65536 pages
   pub most_is : IsNumber rows (codes "M") 4 100 most
+  pub class_is : IsOfClass rows dimensions
 
 -- what is given to `run`
 pub record IsRun (rows : List Row) (file : Text) (frames : ℕ) : Type 0 where
@@ -39,8 +52,8 @@ pub record IsStorm (rows : List Row) (seed sessions calls : ℕ) : Type 0 where
 
 -- the command of this name, with what is given to it, asks for this
 abbrev pub Asks : Text → List Row → AskedCommand → Type 0
-Asks name rows Plain = name ≡ codes "plain"
-Asks name rows (Format file pages most) = (name ≡ codes "format") × IsFormat rows file.now pages most
+Asks name rows (Plain dimensions) = (name ≡ codes "plain") × IsOfClass rows dimensions
+Asks name rows (Format file pages most dimensions) = (name ≡ codes "format") × IsFormat rows file.now pages most dimensions
 Asks name rows (Run file frames) = (name ≡ codes "run") × IsRun rows file.now frames
 Asks name rows (Dump file) = (name ≡ codes "dump") × IsDump rows file.now
 Asks name rows (Verify file) = (name ≡ codes "verify") × IsDump rows file.now
@@ -58,12 +71,17 @@ pub record IsAccepted (rows : List Row) (name : Text) (lowest highest : ℕ) : T
   pub accepted : IsSignedIn (pos lowest) (pos highest) word
   pub fits : highest < 2 ^ 32
 
+-- a class was given, or is there by default: all that `plain` wants
+abbrev pub HasClass : List Row → Type 0
+HasClass rows = (dimensions : Dimensions) × IsOfClass rows dimensions
+
 -- all that `format` wants was given
 pub record HasFormat (rows : List Row) : Type 0 where
   pub file : Text
   pub file_is : first_of (codes "FILE") rows ≡ Some file
   pub pages : IsAccepted rows (codes "PAGES") 8 65536
   pub most : IsAccepted rows (codes "M") 4 100
+  pub class : HasClass rows
 
 -- all that `run` wants
 pub record HasRun (rows : List Row) : Type 0 where
@@ -86,10 +104,25 @@ pub record HasStorm (rows : List Row) : Type 0 where
 abbrev pub IsWhole : Option (Text × List Row) → Type 0
 IsWhole None = ⊥
 IsWhole (Some command) =
-    (command.0 ≡ codes "plain") ⊎ ((command.0 ≡ codes "format") × HasFormat command.1) ⊎ ((command.0 ≡ codes "run") × HasRun command.1)
+    ((command.0 ≡ codes "plain") × HasClass command.1) ⊎ ((command.0 ≡ codes "format") × HasFormat command.1) ⊎ ((command.0 ≡ codes "run") × HasRun command.1)
     ⊎ ((command.0 ≡ codes "dump") × HasDump command.1) ⊎ ((command.0 ≡ codes "verify") × HasDump command.1)
     ⊎ ((command.0 ≡ codes "storm") × HasStorm command.1)
 
--- the words ask for this
-abbrev pub WordsAsk : List Text → AskedCommand → Type 0
-WordsAsk words asked = IsAsked (subcommand_of gist_app words) asked
+-- Nothing is wrong with the words, and they ask for this.
+pub record WordsAsk (words : List Text) (asked : AskedCommand) : Type 0 where
+  pub classes : ClassWords
+  pub are : AreClasses classes
+  pub right : fault_of (gist_app classes) words ≡ []
+  pub asks : IsAsked (subcommand_of (gist_app classes) words) asked
+
+-- An error is about memory, or says what is wrong with the words.
+pub record IsErrorOf (words : List Text) (error : Error) : Type 0 where
+  pub classes : ClassWords
+  pub are : AreClasses classes
+  pub kind : HasKind (fault_of (gist_app classes) words) error
+
+-- Something is wrong with the words.
+pub record AreWrong (words : List Text) : Type 0 where
+  pub classes : ClassWords
+  pub are : AreClasses classes
+  pub wrong : fault_of (gist_app classes) words ≢ []

@@ -1,5 +1,6 @@
 -- The program: the words that it takes, as its parser reads them.
-use Rattle.std.specs.Prelude.{◌≡◌, ◌∷◌, ℕ, [], Some, pos, codes, true, false}
+use Rattle.std.specs.Prelude.{◌≡◌, ◌∷◌, ℕ, List, [], Some, map, pos, codes, true, false}
+use Rattle.std.specs.Borrow.{Bor}
 use Rattle.clap.specs.Words.{App, Rule, Text, app_of, new_app, new_rule, rule_of, with_rule, with_subcommand}
 use Rattle.clap.specs.declared.builder.arg.Arg.{Arg}
 use Rattle.clap.specs.declared.builder.command.Command.{Command}
@@ -27,14 +28,30 @@ frames_rule = record (new_rule (codes "frames")) {
   defaults = codes "64" ∷ [];
 }
 
--- `plain`
-abbrev pub plain_app : App
-plain_app = new_app (codes "plain")
+-- the words for classes of keys, wherever they lie: `1` and `3`
+abbrev pub ClassWords : Type 0
+ClassWords = Bor (List (Bor Text))
 
--- `format FILE PAGES M`, with 8 to 65,536 pages and an M from 4 to 100
-abbrev pub format_app : App
-format_app = with_rule (with_rule (with_rule (new_app (codes "format")) (wanted_rule (codes "FILE")))
-    (number_rule (codes "PAGES") 8 65536)) (number_rule (codes "M") 4 100)
+abbrev pub AreClasses : ClassWords → Type 0
+AreClasses words = map (λ word. word.now) words.now ≡ codes "1" ∷ codes "3" ∷ []
+
+-- `--class C`, one of these words, and 1 where it isn't given
+abbrev pub class_rule : ClassWords → Rule
+class_rule words = record (new_rule (codes "class")) {
+  long = Some (codes "class");
+  value_names = 1;
+  parser = Some (value.Names words);
+  defaults = codes "1" ∷ [];
+}
+
+-- `plain [--class C]`
+abbrev pub plain_app : ClassWords → App
+plain_app words = with_rule (new_app (codes "plain")) (class_rule words)
+
+-- `format FILE PAGES M [--class C]`, with 8 to 65,536 pages and an M from 4 to 100
+abbrev pub format_app : ClassWords → App
+format_app words = with_rule (with_rule (with_rule (with_rule (new_app (codes "format")) (wanted_rule (codes "FILE")))
+    (number_rule (codes "PAGES") 8 65536)) (number_rule (codes "M") 4 100)) (class_rule words)
 
 -- `run FILE [--frames N]`
 abbrev pub run_app : App
@@ -54,9 +71,9 @@ storm_app = with_rule (with_rule (with_rule (new_app (codes "storm")) (number_ru
     (number_rule (codes "SESSIONS") 1 8)) (number_rule (codes "CALLS") 1 2000)
 
 -- `gist`, which wants a command, and its six commands
-unfoldable pub gist_app : App
-gist_app = with_subcommand (with_subcommand (with_subcommand (with_subcommand (with_subcommand (with_subcommand (with_required (new_app (codes "gist")))
-    plain_app.top) format_app.top) run_app.top) dump_app.top) verify_app.top) storm_app.top
+unfoldable pub gist_app : ClassWords → App
+gist_app words = with_subcommand (with_subcommand (with_subcommand (with_subcommand (with_subcommand (with_subcommand (with_required (new_app (codes "gist")))
+    (plain_app words).top) (format_app words).top) run_app.top) dump_app.top) verify_app.top) storm_app.top
 
 -- the command is this one, and none of its arguments is for the commands below it too
 abbrev pub Is : App → Command → Type 0

@@ -1,16 +1,29 @@
 //! What the words ask for, read of what clap found in them.
-ghost use Rattle.std.specs.Prelude.{codes, ℕ};
+ghost use Rattle.std.specs.Prelude.{◌≡◌, codes, ℕ};
 ghost use Rattle.clap.specs.Words.{found_of, rows_of, subcommand_rows_of};
-ghost use Rattle.gx_words.specs.Asking.{IsAccepted, IsNumber, HasFormat, HasRun};
-ghost use Rattle.gx_words.specs.Asking.{HasDump, HasStorm, Asks, IsAsked, IsWhole};
+ghost use Rattle.gx_words.specs.Asking.{IsAccepted, IsNumber, IsOfClass, HasClass, HasFormat, HasRun};
+ghost use Rattle.gx_words.specs.Asking.{HasDump, HasStorm, Asks, IsAsked, IsWhole, class_word};
+ghost use Rattle.gx_words.specs.declared.asking.Dimensions.{Dimensions};
 
 use clap::ArgMatches;
+
+/// How many dimensions the boxes of an index have.
+#[derive(Clone, Copy, Debug, PartialEq, Eq)]
+pub enum Dimensions {
+    /// They are boxes of the plane, class 1.
+    Two,
+    /// They are boxes of space, class 3.
+    Three,
+}
 
 /// What the words ask for.
 #[derive(Clone, Copy, Debug, PartialEq, Eq)]
 pub enum AskedCommand<'a> {
     /// A script on an index in memory.
-    Plain,
+    Plain {
+        /// Of which boxes.
+        dimensions: Dimensions,
+    },
     /// A new index on a file.
     Format {
         /// The file's path.
@@ -19,6 +32,8 @@ pub enum AskedCommand<'a> {
         pages: u32,
         /// How many entries a node may have, 4 to 100.
         most: u16,
+        /// Of which boxes.
+        dimensions: Dimensions,
     },
     /// A script on the index of a file.
     Run {
@@ -59,7 +74,18 @@ pub(crate) fn what_is_asked<'a>(found: &ArgMatches<'a>) -> AskedCommand<'a>
         Some(("dump", given)) => dump_of(given),
         Some(("verify", given)) => verify_of(given),
         Some(("storm", given)) => storm_of(given),
-        _ => AskedCommand::Plain,
+        Some((_, given)) => plain_of(given),
+        None => unreachable!(),
+    }
+}
+
+// What is given to `plain`.
+fn plain_of<'a>(given: &ArgMatches<'a>) -> AskedCommand<'a>
+    requires { HasClass (rows_of (found_of given.now)) }
+    ensures { Asks (codes "plain") (rows_of (found_of given.now)) result }
+{
+    AskedCommand::Plain {
+        dimensions: dimensions_of(given),
     }
 }
 
@@ -72,6 +98,7 @@ fn format_of<'a>(given: &ArgMatches<'a>) -> AskedCommand<'a>
         file: given.get_str("FILE").unwrap(),
         pages: number(given, "PAGES"),
         most: number(given, "M") as u16,
+        dimensions: dimensions_of(given),
     }
 }
 
@@ -115,6 +142,26 @@ fn storm_of<'a>(given: &ArgMatches<'a>) -> AskedCommand<'a>
         seed: number(given, "SEED"),
         sessions: number(given, "SESSIONS") as u8,
         calls: number(given, "CALLS"),
+    }
+}
+
+// Of which boxes the class is that is given.
+fn dimensions_of(given: &ArgMatches) -> Dimensions
+    requires { HasClass (rows_of (found_of given.now)) }
+    ensures { IsOfClass (rows_of (found_of given.now)) result }
+{
+    dimensions_named(given.get_str("class").unwrap())
+}
+
+// Of which boxes the class is that has this word.
+fn dimensions_named(word: &str) -> Dimensions
+    requires { (known : Dimensions) × (class_word known ≡ word.now) }
+    ensures { class_word result ≡ word.now }
+{
+    if word == "3" {
+        Dimensions::Three
+    } else {
+        Dimensions::Two
     }
 }
 

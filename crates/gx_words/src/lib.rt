@@ -5,6 +5,6 @@ mod asking;
 mod source;
 mod words;
 
-pub use asking::AskedCommand;
+pub use asking::{AskedCommand, Dimensions};
 pub use source::{Answer, Source, WordsFault, given};
 pub use words::read;

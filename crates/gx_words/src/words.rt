@@ -1,22 +1,24 @@
 //! The words that the program takes, and what they say of it.
-ghost use Rattle.std.specs.Prelude.{◌≡◌, [], map, codes, OnOk, IfOk, IfErr};
-ghost use Rattle.clap.specs.Words.{app_of, new_app, fault_of, HasKind};
-ghost use Rattle.gx_words.specs.Asking.{WordsAsk};
+ghost use Rattle.std.specs.Prelude.{◌≡◌, map, codes, IfOk, IfErr};
+ghost use Rattle.clap.specs.Words.{app_of, new_app};
+ghost use Rattle.gx_words.specs.Asking.{IsErrorOf, WordsAsk};
 ghost use Rattle.gx_words.specs.Program.{gist_app, with_required, plain_app, format_app, run_app, dump_app};
-ghost use Rattle.gx_words.specs.Program.{verify_app, storm_app, wanted_rule, number_rule, frames_rule, Is, IsRule};
+ghost use Rattle.gx_words.specs.Program.{verify_app, storm_app, wanted_rule, number_rule, frames_rule, class_rule};
+ghost use Rattle.gx_words.specs.Program.{AreClasses, Is, IsRule};
 
 use crate::asking::{AskedCommand, what_is_asked};
+use clap::builder::ValueParser;
 use clap::{Arg, Command, Error, value_parser};
 use std::alloc::{AllocError, Global};
 use std::convert::AsStr;
 
 /// What a script looks like.
 const SCRIPT: &str =
-    "Two lines of a script, in which session 1 begins a transaction and inserts row 7 with the box from (0, 0) to (10, 10):\n\n1 BEGIN\n1 INSERT 7 0 0 10 10\n\ndocs/SCRIPT.md has all lines, replies and refusals.";
+    "Two lines of a script, in which session 1 begins a transaction and inserts row 7 with the box from (0, 0) to (10, 10):\n\n1 BEGIN\n1 INSERT 7 0 0 10 10\n\nOf boxes of space, --class 3, a line has six corners: X1 Y1 Z1 X2 Y2 Z2. docs/SCRIPT.md has all lines, replies and refusals.";
 
 /// How a file is formatted.
 const FORMAT: &str =
-    "A new index in the file places.gist, for 4,096 pages with up to 100 entries in a node:\n\ngist format places.gist 4096 100\n\nThe file gets some 19 MB then. docs/SCRIPT.md has the refusals.";
+    "A new index in the file places.gist, for 4,096 pages with up to 100 entries in a node:\n\ngist format places.gist 4096 100\n\nThe file gets some 19 MB then. Which boxes its index is of is in it: no other command has to say so. docs/SCRIPT.md has the refusals.";
 
 /// How a script is run on a file.
 const RUN: &str =
@@ -44,23 +46,25 @@ fn program<'a>(alloc: Global) -> Result<Command<'a>, AllocError>
         .bin_name("gist")
 }
 
-fn plain<'a>(alloc: Global) -> Command<'a>
-    ensures { Is plain_app result }
+fn plain<'a>(alloc: Global, classes: &'a [&'a str]) -> Result<Command<'a>, AllocError>
+    ensures { IfOk result (Is (plain_app classes.entry)) }
 {
     Command::new(alloc, "plain")
         .about("Reads a script from standard input, and prints what an index in memory replies")
         .after_help(SCRIPT)
+        .arg(class(alloc, classes))
 }
 
-fn format<'a>(alloc: Global) -> Result<Command<'a>, AllocError>
-    ensures { IfOk result (Is format_app) }
+fn format<'a>(alloc: Global, classes: &'a [&'a str]) -> Result<Command<'a>, AllocError>
+    ensures { IfOk result (Is (format_app classes.entry)) }
 {
     Command::new(alloc, "format")
         .about("Lays a new index down in a file; what the file held is lost")
         .after_help(FORMAT)
         .arg(file(alloc))?
         .arg(pages(alloc))?
-        .arg(most(alloc))
+        .arg(most(alloc))?
+        .arg(class(alloc, classes))
 }
 
 fn run<'a>(alloc: Global) -> Result<Command<'a>, AllocError>
@@ -168,13 +172,31 @@ fn frames<'a>(alloc: Global) -> Arg<'a>
         .help("How many of its pages are held in memory at once, 16 to 4096")
 }
 
-/// The command that the words are read by.
-fn command<'a>(alloc: Global) -> Result<Command<'a>, AllocError>
-    ensures { IfOk result (λ command. app_of command ≡ gist_app) }
+fn class<'a>(alloc: Global, classes: &'a [&'a str]) -> Arg<'a>
+    ensures { IsRule (class_rule classes.entry) result }
+{
+    Arg::new(alloc, "class")
+        .long("class")
+        .value_name("C")
+        .value_parser(ValueParser::Names(classes))
+        .default_value("1")
+        .help("Of which boxes the index is: 1, of the plane; 3, of space")
+}
+
+// The words for classes of keys.
+fn classes<'a>() -> &'a [&'a str]
+    ensures { AreClasses result }
+{
+    &["1", "3"]
+}
+
+/// The command that the words are read by, with these for classes of keys.
+fn command<'a>(alloc: Global, classes: &'a [&'a str]) -> Result<Command<'a>, AllocError>
+    ensures { IfOk result (λ command. app_of command ≡ gist_app classes.entry) }
 {
     program(alloc)?
-        .subcommand(plain(alloc))?
-        .subcommand(format(alloc)?)?
+        .subcommand(plain(alloc, classes)?)?
+        .subcommand(format(alloc, classes)?)?
         .subcommand(run(alloc)?)?
         .subcommand(dump(alloc)?)?
         .subcommand(verify(alloc)?)?
@@ -183,11 +205,10 @@ fn command<'a>(alloc: Global) -> Result<Command<'a>, AllocError>
 
 /// Reads the words, the program's own name first: what they ask for, or what is wrong with them.
 pub fn read<'a, S: AsStr>(alloc: Global, words: &'a [S]) -> Result<AskedCommand<'a>, Error>
-    ensures right { OnOk result (fault_of gist_app (map S.text words.now) ≡ []) }
     ensures asked { IfOk result (WordsAsk (map S.text words.now)) }
-    ensures wrong { IfErr result (HasKind (fault_of gist_app (map S.text words.now))) }
+    ensures wrong { IfErr result (IsErrorOf (map S.text words.now)) }
 {
-    let command = command(alloc)?;
+    let command = command(alloc, classes())?;
     match command.try_get_matches_from(words) {
         Ok(found) => Ok(what_is_asked(&found)),
         Err(error) => Err(error),

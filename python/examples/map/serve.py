@@ -167,6 +167,9 @@ def main() -> None:
     signal.signal(signal.SIGTERM, lambda *_: sys.exit(0))
     try:
         with gist.open(asked.index, wait=WAIT) as index:
+            if index.dimensions != 2:
+                sys.exit(f"serve.py: {asked.index} is of boxes of space, "
+                         "and a map is flat")
             with Server(index, asked.port) as server:
                 print(f"http://127.0.0.1:{server.server_port}/", flush=True)
                 server.serve_forever()

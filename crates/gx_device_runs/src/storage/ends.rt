@@ -154,7 +154,7 @@ pub(crate) fn make_run(
 ) -> Result<(bool, Stood, Counts), StorageFault> {
     let mut run = start(alloc, setting, failing)?;
     let taken = take_steps(&mut run, setting.steps);
-    let is_whole = came_to_its_end(taken)?;
     let counts = run.counts;
-    Ok((is_whole, end_run(run)?, counts))
+    let stood = end_run(run);
+    Ok((came_to_its_end(taken)?, stood?, counts))
 }

@@ -5,9 +5,8 @@ ghost use Rattle.gx_record.specs.Format.{IsInRange};
 ghost use Rattle.gx_record.specs.Seen.{rec_of};
 ghost use Rattle.gx_device_runs.specs.Ready.{IsReady};
 
-use gx_class::Probing;
+use gx_class::{Probing, ReadKeys};
 use gx_disk::SectorDisk;
-use gx_durable::ReadKeys;
 use gx_geom::Refusal;
 use gx_glog::{PLACES, Stage, Turn};
 use gx_machine::Entry;

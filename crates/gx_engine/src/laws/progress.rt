@@ -14,8 +14,8 @@ ghost use Rattle.gx_engine.specs.Helping.{WaitingLeavesAll, event_of};
 ghost use Rattle.gx_engine.specs.Made.{Makes};
 
 use crate::laws::a_class_is_lawful;
+use gx_class::ReadKeys;
 use gx_disk::SectorDisk;
-use gx_durable::ReadKeys;
 use gx_index_laws::measures::what_a_call_has_left_is_bounded;
 
 /// What there is left to flush falls by each step of the log and of a checkpoint that did work, and by each page that
@@ -25,12 +25,12 @@ use gx_index_laws::measures::what_a_call_has_left_is_bounded;
 /// after so many steps.
 pub fn each_step_leaves_less_to_flush<D: SectorDisk, K: ReadKeys>()
     ensures log { (old new : Parts K.Key D)
-        → Makes K.Key.Shape K.is_proper K.said K.KeyClass D.state old LogStep More new → backlog new < backlog old }
+        → Makes K.Key.Shape K.ReadKeys D.state old LogStep More new → backlog new < backlog old }
     ensures page { (old new : Parts K.Key D) (page : ℕ)
-        → Makes K.Key.Shape K.is_proper K.said K.KeyClass D.state old (WritePage page) More new
+        → Makes K.Key.Shape K.ReadKeys D.state old (WritePage page) More new
         → backlog new < backlog old }
     ensures checkpoint { (old new : Parts K.Key D)
-        → Makes K.Key.Shape K.is_proper K.said K.KeyClass D.state old CheckpointStep More new
+        → Makes K.Key.Shape K.ReadKeys D.state old CheckpointStep More new
         → backlog new < backlog old }
     ensures few { (e : Parts K.Key D) → dirty_count e.volume.shelf.frames ≤ FRAMES → backlog e < 8192 }
 {}
@@ -43,12 +43,12 @@ pub fn each_step_leaves_less_to_flush<D: SectorDisk, K: ReadKeys>()
 /// Over any device a move that waits leaves no more to flush, and an event that has work to do does it, and leaves
 /// less to flush, or is refused.
 pub fn a_move_that_waits_names_work<D: SectorDisk, K: ReadKeys>()
-    ensures work { (l : Limits) → NamesWork K.Key.Shape K.is_proper K.said K.KeyClass D.state l }
+    ensures work { (l : Limits) → NamesWork K.Key.Shape K.ReadKeys D.state l }
     ensures helps { (old new : Parts K.Key D) (n : Need) (given : Outcome K.Key) → HasWork n old
-        → Makes K.Key.Shape K.is_proper K.said K.KeyClass D.state old (event_of n) given new → DoesWork given old new }
-    ensures left { (l : Limits) → WaitingLeavesAll K.Key.Shape K.is_proper K.said K.KeyClass D.state l }
+        → Makes K.Key.Shape K.ReadKeys D.state old (event_of n) given new → DoesWork given old new }
+    ensures left { (l : Limits) → WaitingLeavesAll K.Key.Shape K.ReadKeys D.state l }
     ensures flush { (old new : Parts K.Key D) (s : ℕ) (n : Need)
-        → Makes K.Key.Shape K.is_proper K.said K.KeyClass D.state old (Move s) (Help n) new
+        → Makes K.Key.Shape K.ReadKeys D.state old (Move s) (Help n) new
         → backlog new ≤ backlog old }
 {}
 
@@ -58,7 +58,7 @@ pub fn a_move_that_waits_names_work<D: SectorDisk, K: ReadKeys>()
 /// Over any device what has work to do does it by its own call too, and leaves less to flush, or is refused; and what
 /// there is to flush is below 2^13 in any engine.
 pub fn a_page_that_waits_names_work<D: SectorDisk, K: ReadKeys>()
-    ensures work { (l : Limits) → PageNamesWork K.Key.Shape K.is_proper K.said K.KeyClass D.state l }
+    ensures work { (l : Limits) → PageNamesWork K.Key.Shape K.ReadKeys D.state l }
     ensures helps { (old new : Parts K.Key D) (n : Need) (given : Outcome K.Key) → HasWork n old
         → HelpComes (D.state old.volume.shelf.disk) (D.state new.volume.shelf.disk) n old new given
         → DoesWork given old new }
@@ -68,7 +68,7 @@ pub fn a_page_that_waits_names_work<D: SectorDisk, K: ReadKeys>()
 /// A session's call that is moved alone, with the events that help it, comes to its end: fewer than 2^55 events are
 /// made of it. So it is of an engine over a device that doesn't lie.
 pub fn a_call_alone_ends<D: SectorDisk, K: ReadKeys>()
-    ensures { (l : Limits) → CallEnds K.Key.Shape K.is_proper K.said K.KeyClass D.state l }
+    ensures { (l : Limits) → CallEnds K.Key.Shape K.ReadKeys D.state l }
 {
     a_class_is_lawful::<K>();
     what_a_call_has_left_is_bounded::<K::Key>();
@@ -76,7 +76,7 @@ pub fn a_call_alone_ends<D: SectorDisk, K: ReadKeys>()
 
 /// No call that is asked of an engine over a device that doesn't lie is given up.
 pub fn no_call_is_given_up<D: SectorDisk, K: ReadKeys>()
-    ensures { (l : Limits) → AskedEnds K.Key.Shape K.is_proper K.said K.KeyClass D.state l }
+    ensures { (l : Limits) → AskedEnds K.Key.Shape K.ReadKeys D.state l }
 {
     a_class_is_lawful::<K>();
     what_a_call_has_left_is_bounded::<K::Key>();

@@ -22,8 +22,8 @@ ghost use Rattle.gx_engine.specs.Setting.{SteppingAs, may_sweep, phase_in};
 use crate::Engine;
 use crate::laws::a_class_is_lawful;
 use crate::work::Work;
+use gx_class::ReadKeys;
 use gx_disk::SectorDisk;
-use gx_durable::ReadKeys;
 use gx_events::{Need, Outcome};
 use gx_geom::Refusal;
 use gx_machine::{Entry, Reply};
@@ -40,7 +40,7 @@ impl<D: SectorDisk, K: ReadKeys> Engine<D, K> {
         coming: &K::Key,
     ) -> Result<Descended<K::Key>, StepFault<StoreFault>>
         requires early { is_due self.old ≡ false }
-        ensures step { SteppingAs K.Key.Shape K.is_proper K.said K.KeyClass D.state self.old.volume self.new.volume
+        ensures step { SteppingAs K.Key.Shape K.ReadKeys D.state self.old.volume self.new.volume
             item.now coming.now result }
         ensures only { self.new ≡ record self.old { volume = self.new.volume } }
         ensures device { IsRead D.state self.old self.new }
@@ -58,7 +58,7 @@ impl<D: SectorDisk, K: ReadKeys> Engine<D, K> {
     ) -> Result<(), StepFault<StoreFault>>
         requires session { is_session session ≡ true }
         requires early { is_due self.old ≡ false }
-        ensures adds { AddingAs K.Key.Shape K.is_proper K.said K.KeyClass D.state self.old.volume self.new.volume
+        ensures adds { AddingAs K.Key.Shape K.ReadKeys D.state self.old.volume self.new.volume
             (transaction_of session self.old.sessions) entry.now item.now.page result }
         ensures only { self.new ≡ record self.old { volume = self.new.volume } }
         ensures device { IsRead D.state self.old self.new }
@@ -104,7 +104,7 @@ impl<D: SectorDisk, K: ReadKeys> Engine<D, K> {
             result }
         ensures moves { (IsSteadyAs D.state self.old.volume.shelf
             → WayAt K.cost K.joined self.old.volume.most (store_at K.KeyClass D.state self.old.volume.shelf) item
-            entry.key Add) → MovesAs K.Key.Shape K.is_proper K.said K.KeyClass D.state session self.old self.new result
+            entry.key Add) → MovesAs K.Key.Shape K.ReadKeys D.state session self.old self.new result
             (write_events session (Insert entry) result) }
         ensures device { IsRead D.state self.old self.new }
         ensures told { TellsAs D.state self.old self.new result }
@@ -124,7 +124,7 @@ impl<D: SectorDisk, K: ReadKeys> Engine<D, K> {
     // Takes out of a leaf what is marked and no session claims, as storage does.
     fn sweep_leaf(&mut self, item: &TraversalItem) -> Result<bool, StepFault<StoreFault>>
         requires early { is_due self.old ≡ false }
-        ensures sweeps { LeafSweepingAs K.Key.Shape K.is_proper K.said K.KeyClass D.state
+        ensures sweeps { LeafSweepingAs K.Key.Shape K.ReadKeys D.state
             (is_held (keys_of K.Key.Shape) self.old) self.old.volume self.new.volume item.now.page result }
         ensures only { self.new ≡ record self.old { volume = self.new.volume } }
         ensures device { IsRead D.state self.old self.new }
@@ -142,7 +142,7 @@ impl<D: SectorDisk, K: ReadKeys> Engine<D, K> {
         item: &TraversalItem,
     ) -> Result<Option<Split<K::Key>>, SplitFault<StoreFault>>
         requires early { is_due self.old ≡ false }
-        ensures splits { SplittingAs K.Key.Shape K.is_proper K.said K.KeyClass D.state self.old.volume self.new.volume
+        ensures splits { SplittingAs K.Key.Shape K.ReadKeys D.state self.old.volume self.new.volume
             item.now.page parent result }
         ensures only { self.new ≡ record self.old { volume = self.new.volume } }
         ensures fits { (self.new.volume.shelf.used ≤ self.new.volume.shelf.pages)
@@ -158,8 +158,7 @@ impl<D: SectorDisk, K: ReadKeys> Engine<D, K> {
     // Splits the root, as storage does.
     fn split_root(&mut self) -> Result<RootSplit<K::Key>, SplitFault<StoreFault>>
         requires early { is_due self.old ≡ false }
-        ensures splits { RootSplittingAs K.Key.Shape K.is_proper K.said K.KeyClass D.state self.old.volume
-            self.new.volume result }
+        ensures splits { RootSplittingAs K.Key.Shape K.ReadKeys D.state self.old.volume self.new.volume result }
         ensures only { self.new ≡ record self.old { volume = self.new.volume } }
         ensures fits { (self.new.volume.shelf.used ≤ self.new.volume.shelf.pages)
             × (self.new.volume.shelf.pages ≤ MAX_PAGES) }
@@ -183,7 +182,7 @@ impl<D: SectorDisk, K: ReadKeys> Engine<D, K> {
             → SplitsAs K.Key.Shape K.KeyClass D.state session (Insert entry) item.page self.old self.new result }
         ensures moves { (entry : Entry K.Key) → phase_in session self.old ≡ Open (Insert entry) (Descends parent item)
             → IsFullAs K.KeyClass D.state self.old item.page
-            → MovesAs K.Key.Shape K.is_proper K.said K.KeyClass D.state session self.old self.new result
+            → MovesAs K.Key.Shape K.ReadKeys D.state session self.old self.new result
             (write_events session (Insert entry) result) }
         ensures device { IsRead D.state self.old self.new }
         ensures told { TellsAs D.state self.old self.new result }
@@ -209,7 +208,7 @@ impl<D: SectorDisk, K: ReadKeys> Engine<D, K> {
             → SplitsAs K.Key.Shape K.KeyClass D.state session (Insert entry) item.page self.old self.new result }
         ensures moves { (entry : Entry K.Key) → phase_in session self.old ≡ Open (Insert entry) (Descends parent item)
             → IsFullAs K.KeyClass D.state self.old item.page
-            → MovesAs K.Key.Shape K.is_proper K.said K.KeyClass D.state session self.old self.new result
+            → MovesAs K.Key.Shape K.ReadKeys D.state session self.old self.new result
             (write_events session (Insert entry) result) }
         ensures device { IsRead D.state self.old self.new }
         ensures told { TellsAs D.state self.old self.new result }
@@ -236,7 +235,7 @@ impl<D: SectorDisk, K: ReadKeys> Engine<D, K> {
             → IsFullAs K.KeyClass D.state self.old item.page
             → (IsSteadyAs D.state self.old.volume.shelf
             → may_sweep K.Key.Shape K.KeyClass D.state item.page self.old ≡ false)
-            → MovesAs K.Key.Shape K.is_proper K.said K.KeyClass D.state session self.old self.new result
+            → MovesAs K.Key.Shape K.ReadKeys D.state session self.old self.new result
             (write_events session (Insert entry) result) }
         ensures device { IsRead D.state self.old self.new }
         ensures told { TellsAs D.state self.old self.new result }
@@ -260,7 +259,7 @@ impl<D: SectorDisk, K: ReadKeys> Engine<D, K> {
             → (IsSteadyAs D.state self.old.volume.shelf
             → (((tree_at K.KeyClass D.state self.old.volume.shelf).node item.page).level ≡ 0)
             × (self.old.volume.most ≤ length ((tree_at K.KeyClass D.state self.old.volume.shelf).node item.page).pairs))
-            → MovesAs K.Key.Shape K.is_proper K.said K.KeyClass D.state session self.old self.new result
+            → MovesAs K.Key.Shape K.ReadKeys D.state session self.old self.new result
             (write_events session (Insert entry) result) }
         ensures device { IsRead D.state self.old self.new }
         ensures told { TellsAs D.state self.old self.new result }
@@ -291,7 +290,7 @@ impl<D: SectorDisk, K: ReadKeys> Engine<D, K> {
         requires works { self.old.sessions.failed ≡ false }
         requires early { is_due self.old ≡ false }
         ensures comes { WritesAs K.Key.Shape K.KeyClass D.state session (Insert entry) self.old self.new result }
-        ensures moves { MovesAs K.Key.Shape K.is_proper K.said K.KeyClass D.state session self.old self.new result
+        ensures moves { MovesAs K.Key.Shape K.ReadKeys D.state session self.old self.new result
             (write_events session (Insert entry) result) }
         ensures device { IsRead D.state self.old self.new }
         ensures told { TellsAs D.state self.old self.new result }
@@ -338,7 +337,7 @@ impl<D: SectorDisk, K: ReadKeys> Engine<D, K> {
         requires descends { phase_in session self.old ≡ Open (Insert entry) (Descends parent item) }
         requires works { self.old.sessions.failed ≡ false }
         ensures comes { WritesAs K.Key.Shape K.KeyClass D.state session (Insert entry) self.old self.new result }
-        ensures moves { MovesAs K.Key.Shape K.is_proper K.said K.KeyClass D.state session self.old self.new result
+        ensures moves { MovesAs K.Key.Shape K.ReadKeys D.state session self.old self.new result
             (write_events session (Insert entry) result) }
         ensures device { IsRead D.state self.old self.new }
         ensures told { TellsAs D.state self.old self.new result }

@@ -19,9 +19,8 @@ ghost use Rattle.gx_engine.specs.Setting.{MovesAs, MovesOnAs, MovesSoAs, Reaches
 use crate::Engine;
 use crate::laws::a_class_is_lawful;
 use crate::work::Work;
-use gx_class::Probing;
+use gx_class::{Probing, ReadKeys};
 use gx_disk::SectorDisk;
-use gx_durable::ReadKeys;
 use gx_events::Outcome;
 use gx_geom::{Refusal, Shape};
 use gx_machine::{Entry, Reply};
@@ -60,7 +59,7 @@ impl<D: SectorDisk, K: ReadKeys + Probing> Engine<D, K> {
         ensures stays { OnOk result (StaysAs K.KeyClass D.state self.old.volume.shelf self.new.volume.shelf) }
         ensures goes_on { IfOk result (λ after. (call : Call K.Key) → WritesEntry entry.now call
             → phase_in session self.old ≡ Open call Rests
-            → MovesOnAs K.Key.Shape K.is_proper K.said K.KeyClass D.state session
+            → MovesOnAs K.Key.Shape K.ReadKeys D.state session
             (calling session call (work_before begun look) self.old) (calling session call (Looks after) self.new)) }
         ensures reads { OnErr result ((call : Call K.Key) → phase_in session self.old ≡ Open call Rests
             → OnlyReads self.old self.new) }
@@ -70,7 +69,7 @@ impl<D: SectorDisk, K: ReadKeys + Probing> Engine<D, K> {
             self.old) self.new outcome) }
         ensures moves { IfErr result (λ outcome. (call : Call K.Key) → WritesEntry entry.now call
             → phase_in session self.old ≡ Open call Rests
-            → MovesAs K.Key.Shape K.is_proper K.said K.KeyClass D.state session
+            → MovesAs K.Key.Shape K.ReadKeys D.state session
             (calling session call (work_before begun look) self.old) self.new outcome
             (write_events session call outcome)) }
         ensures device { IsRead D.state self.old self.new }
@@ -111,15 +110,14 @@ impl<D: SectorDisk, K: ReadKeys + Probing> Engine<D, K> {
         ensures stays { OnOk result (StaysAs K.KeyClass D.state self.old.volume.shelf self.new.volume.shelf) }
         ensures reaches { IfOk result (λ look. (call : Call K.Key) (work : declared.Work K.Key)
             → LooksFor entry.now call work (phase_in session self.old)
-            → ReachesAs K.Key.Shape K.is_proper K.said K.KeyClass D.state session self.old
-            (calling session call (Looks look) self.new)) }
+            → ReachesAs K.Key.Shape K.ReadKeys D.state session self.old (calling session call (Looks look) self.new)) }
         ensures reads { OnErr result (OnlyReads self.old self.new) }
         ensures comes { IfErr result (λ outcome. (call : Call K.Key) (work : declared.Work K.Key)
             → LooksFor entry.now call work (phase_in session self.old)
             → WritesAs K.Key.Shape K.KeyClass D.state session call self.old self.new outcome) }
         ensures moves { IfErr result (λ outcome. (call : Call K.Key) (work : declared.Work K.Key)
             → LooksFor entry.now call work (phase_in session self.old)
-            → MovesAs K.Key.Shape K.is_proper K.said K.KeyClass D.state session self.old self.new outcome
+            → MovesAs K.Key.Shape K.ReadKeys D.state session self.old self.new outcome
             (write_events session call outcome)) }
         ensures device { IsRead D.state self.old self.new }
         ensures told { TellsWhere D.state self.old self.new result }
@@ -148,7 +146,7 @@ impl<D: SectorDisk, K: ReadKeys + Probing> Engine<D, K> {
         ensures descends { (entry : Entry K.Key) → phase_in session self.old ≡ Open (Insert entry) Rests
             → (work : declared.Work K.Key) × (self.new ≡ calling session (Insert entry) work self.old) }
         ensures moves { (entry : Entry K.Key) → phase_in session self.old ≡ Open (Insert entry) Rests
-            → MovesAs K.Key.Shape K.is_proper K.said K.KeyClass D.state session
+            → MovesAs K.Key.Shape K.ReadKeys D.state session
             (calling session (Insert entry) (Looks look.now) self.old) self.new Outcome.More (Works ∷ []) }
         ensures device { IsRead D.state self.old self.new }
         ensures told { TellsAs D.state self.old self.new result }
@@ -169,7 +167,7 @@ impl<D: SectorDisk, K: ReadKeys + Probing> Engine<D, K> {
         ensures outcome { result ≡ Outcome.Replied (Reply.Refused Refusal.Absent) }
         ensures closed { self.new ≡ record self.old { sessions = answered_state session self.old.sessions } }
         ensures moves { (entry : Entry K.Key) → phase_in session self.old ≡ Open (Delete entry) Rests
-            → MovesAs K.Key.Shape K.is_proper K.said K.KeyClass D.state session
+            → MovesAs K.Key.Shape K.ReadKeys D.state session
             (calling session (Delete entry) (Looks look.now) self.old) self.new
             (Outcome.Replied (Reply.Refused Refusal.Absent)) (FindsAbsent session entry ∷ []) }
         ensures device { IsRead D.state self.old self.new }
@@ -195,7 +193,7 @@ impl<D: SectorDisk, K: ReadKeys + Probing> Engine<D, K> {
         requires works { self.old.sessions.failed ≡ false }
         ensures comes { WritesAs K.Key.Shape K.KeyClass D.state session (Insert entry) self.old self.new result }
         ensures reads { OnlyReads self.old self.new }
-        ensures moves { MovesSoAs K.Key.Shape K.is_proper K.said K.KeyClass D.state session self.old self.new result
+        ensures moves { MovesSoAs K.Key.Shape K.ReadKeys D.state session self.old self.new result
             (AreWriting session (Insert entry) result) }
         ensures device { IsRead D.state self.old self.new }
         ensures told { TellsAs D.state self.old self.new result }
@@ -216,7 +214,7 @@ impl<D: SectorDisk, K: ReadKeys + Probing> Engine<D, K> {
         requires works { self.old.sessions.failed ≡ false }
         ensures comes { WritesAs K.Key.Shape K.KeyClass D.state session (Delete entry) self.old self.new result }
         ensures reads { OnlyReads self.old self.new }
-        ensures moves { MovesSoAs K.Key.Shape K.is_proper K.said K.KeyClass D.state session self.old self.new result
+        ensures moves { MovesSoAs K.Key.Shape K.ReadKeys D.state session self.old self.new result
             (AreWriting session (Delete entry) result) }
         ensures device { IsRead D.state self.old self.new }
         ensures told { TellsAs D.state self.old self.new result }

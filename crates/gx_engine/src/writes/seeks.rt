@@ -20,9 +20,8 @@ ghost use Rattle.gx_engine.specs.Setting.{IsSoughtAs, IsUnsoughtAs, MovesAs, See
 use crate::Engine;
 use crate::laws::a_class_is_lawful;
 use crate::work::Work;
-use gx_class::Probing;
+use gx_class::{Probing, ReadKeys};
 use gx_disk::SectorDisk;
-use gx_durable::ReadKeys;
 use gx_events::{Need, Outcome};
 use gx_geom::Refusal;
 use gx_machine::{Entry, Reply};
@@ -96,7 +95,7 @@ impl<D: SectorDisk, K: ReadKeys + Probing> Engine<D, K> {
     ) -> Result<Sought, StepFault<StoreFault>>
         requires session { is_session session ≡ true }
         requires early { is_due self.old ≡ false }
-        ensures sought { SeekingAs K.Key.Shape K.is_proper K.said K.KeyClass D.state self.old.volume self.new.volume
+        ensures sought { SeekingAs K.Key.Shape K.ReadKeys D.state self.old.volume self.new.volume
             (transaction_of session self.old.sessions) (record { entry = entry.now; before = marked; leaf = leaf }) leaf
             result }
         ensures only { self.new ≡ record self.old { volume = self.new.volume } }
@@ -113,7 +112,7 @@ impl<D: SectorDisk, K: ReadKeys + Probing> Engine<D, K> {
         entry: &Entry<K::Key>,
         leaf: u32,
     ) -> Result<Sought, StepFault<StoreFault>>
-        ensures unlogged { UnloggedAs K.Key.Shape K.is_proper K.said K.KeyClass D.state (bringing self.old.volume)
+        ensures unlogged { UnloggedAs K.Key.Shape K.ReadKeys D.state (bringing self.old.volume)
             self.old.volume self.new.volume }
         ensures stays { StaysAs K.KeyClass D.state self.old.volume.shelf self.new.volume.shelf }
         ensures sought { IfOk result (IsSoughtAs K.Key.Shape K.KeyClass D.state self.new.volume entry.now leaf) }
@@ -143,7 +142,7 @@ impl<D: SectorDisk, K: ReadKeys + Probing> Engine<D, K> {
         requires found { (slot : ℕ) × IsSoughtAs K.Key.Shape K.KeyClass D.state self.old.volume entry leaf
             (Here slot (not marked)) }
         ensures comes { SeeksAs K.Key.Shape K.KeyClass D.state session entry leaf marked self.old self.new result }
-        ensures moves { MovesAs K.Key.Shape K.is_proper K.said K.KeyClass D.state session self.old self.new result
+        ensures moves { MovesAs K.Key.Shape K.ReadKeys D.state session self.old self.new result
             (write_events session (write_call marked entry) result) }
         ensures device { IsRead D.state self.old self.new }
         ensures told { TellsAs D.state self.old self.new result }
@@ -178,7 +177,7 @@ impl<D: SectorDisk, K: ReadKeys + Probing> Engine<D, K> {
         requires works { self.old.sessions.failed ≡ false }
         requires found { IsSoughtAs K.Key.Shape K.KeyClass D.state self.old.volume entry leaf sought }
         ensures comes { SeeksAs K.Key.Shape K.KeyClass D.state session entry leaf marked self.old self.new result }
-        ensures moves { MovesAs K.Key.Shape K.is_proper K.said K.KeyClass D.state session self.old self.new result
+        ensures moves { MovesAs K.Key.Shape K.ReadKeys D.state session self.old self.new result
             (write_events session (write_call marked entry) result) }
         ensures device { IsRead D.state self.old self.new }
         ensures told { TellsAs D.state self.old self.new result }
@@ -215,7 +214,7 @@ impl<D: SectorDisk, K: ReadKeys + Probing> Engine<D, K> {
         requires seeks { phase_in session self.old ≡ Open (write_call marked entry) (Seeks leaf) }
         requires works { self.old.sessions.failed ≡ false }
         ensures comes { SeeksAs K.Key.Shape K.KeyClass D.state session entry leaf marked self.old self.new result }
-        ensures moves { MovesAs K.Key.Shape K.is_proper K.said K.KeyClass D.state session self.old self.new result
+        ensures moves { MovesAs K.Key.Shape K.ReadKeys D.state session self.old self.new result
             (write_events session (write_call marked entry) result) }
         ensures device { IsRead D.state self.old self.new }
         ensures told { TellsAs D.state self.old self.new result }
@@ -250,7 +249,7 @@ impl<D: SectorDisk, K: ReadKeys + Probing> Engine<D, K> {
         requires seeks { phase_in session self.old ≡ Open (Insert entry) (Seeks leaf) }
         requires works { self.old.sessions.failed ≡ false }
         ensures comes { WritesAs K.Key.Shape K.KeyClass D.state session (Insert entry) self.old self.new result }
-        ensures moves { MovesAs K.Key.Shape K.is_proper K.said K.KeyClass D.state session self.old self.new result
+        ensures moves { MovesAs K.Key.Shape K.ReadKeys D.state session self.old self.new result
             (write_events session (Insert entry) result) }
         ensures device { IsRead D.state self.old self.new }
         ensures told { TellsAs D.state self.old self.new result }
@@ -270,7 +269,7 @@ impl<D: SectorDisk, K: ReadKeys + Probing> Engine<D, K> {
         requires seeks { phase_in session self.old ≡ Open (Delete entry) (Seeks leaf) }
         requires works { self.old.sessions.failed ≡ false }
         ensures comes { WritesAs K.Key.Shape K.KeyClass D.state session (Delete entry) self.old self.new result }
-        ensures moves { MovesAs K.Key.Shape K.is_proper K.said K.KeyClass D.state session self.old self.new result
+        ensures moves { MovesAs K.Key.Shape K.ReadKeys D.state session self.old self.new result
             (write_events session (Delete entry) result) }
         ensures device { IsRead D.state self.old self.new }
         ensures told { TellsAs D.state self.old self.new result }

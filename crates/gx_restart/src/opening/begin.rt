@@ -1,15 +1,16 @@
 //! An engine over what stands on a device: the gates behind its log are closed, and it starts there.
 ghost use Rattle.std.specs.Prelude.{◌≡◌, ◌≤◌, ◌+◌, ◌*◌, ℕ, false, true, length, IfOk, MatchResult};
 ghost use Rattle.gx_disk.specs.declared.layout.TheConstants.{PAGES_AT, PAGE_SECTORS};
-ghost use Rattle.gx_node.specs.Reading.{format_of};
 ghost use Rattle.gx_opening.specs.Formatted.{IsAllowed};
-ghost use Rattle.gx_opening.specs.Standing.{MayStart, Stands};
-ghost use Rattle.gx_restart.specs.Beginning.{CountsOpening, HasBegun, HasNotBegun, IsSameDevice, StartsFrom};
+ghost use Rattle.gx_opening.specs.Standing.{MayStart};
+ghost use Rattle.gx_opening.specs.Setting.{IndexStandsAs};
+ghost use Rattle.gx_restart.specs.Beginning.{CountsOpening, IsSameDevice, StartsFrom};
+ghost use Rattle.gx_restart.specs.Setting.{HasBegunAs, HasNotBegunAs};
 ghost use Rattle.gx_restart.specs.Undoing.{OnlyUndoes};
 
 use super::losers::losers_of;
+use gx_class::ReadKeys;
 use gx_disk::SectorDisk;
-use gx_durable::ReadKeys;
 use gx_engine::laws::{a_class_is_lawful, a_log_tells_who_was_cut_off};
 use gx_engine::{Engine, NotOpened, Start};
 use gx_geom::{Refusal, Shape};
@@ -63,11 +64,11 @@ pub(crate) fn begin_engine<D: SectorDisk, K: ReadKeys>(
     ensures undoes { IfOk result OnlyUndoes }
     ensures works { IfOk result (λ engine. engine.sessions.failed ≡ false) }
     ensures begun { (a : D) → (D.state disk).honest ≡ true
-        → Stands K.Key.Shape K.is_proper K.said (format_of K.KeyClass) K.CLASS (D.state a) (D.state disk) standing.now
+        → IndexStandsAs K.Key.Shape K.ReadKeys (D.state a) (D.state disk) standing.now
         → MatchResult result
-        (λ engine. HasBegun K.Key.Shape K.is_proper K.said (format_of K.KeyClass) standing.now.parameters
+        (λ engine. HasBegunAs K.Key.Shape K.ReadKeys standing.now.parameters
         (D.state a).seen (D.state disk) (D.state engine.volume.shelf.disk) engine)
-        (λ n. HasNotBegun K.Key.Shape K.is_proper K.said (format_of K.KeyClass) standing.now.parameters (D.state a).seen
+        (λ n. HasNotBegunAs K.Key.Shape K.ReadKeys standing.now.parameters (D.state a).seen
         (D.state disk) (D.state n.disk) n.why) }
 {
     a_class_is_lawful::<K>();

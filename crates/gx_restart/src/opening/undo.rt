@@ -6,9 +6,8 @@ ghost use Rattle.gx_engine.specs.Made.{Makes};
 ghost use Rattle.gx_engine.specs.Resting.{WorksOff};
 ghost use Rattle.gx_restart.specs.Undoing.{AreFreeBelow, GoesBy, IsFreeAt, OnlyUndoes, WhyStopped, undone_by};
 
-use gx_class::Probing;
+use gx_class::{Probing, ReadKeys};
 use gx_disk::SectorDisk;
-use gx_durable::ReadKeys;
 use gx_engine::{Engine, drive, repeat};
 use gx_events::Event;
 use gx_geom::Refusal;
@@ -19,11 +18,10 @@ fn end_checkpoint<D: SectorDisk, K: ReadKeys + Probing>(
     engine: &mut Engine<D, K>,
 ) -> Result<(), Refusal>
     requires works { engine.old.sessions.failed ≡ false }
-    ensures goes { GoesBy (Makes K.Key.Shape K.is_proper K.said K.KeyClass D.state) engine.old engine.new }
+    ensures goes { GoesBy (Makes K.Key.Shape K.ReadKeys D.state) engine.old engine.new }
     ensures told { TellsWhy D.state engine.old engine.new result }
     ensures ended { IfOk result (λ _. WorksOff engine.new) }
-    ensures why { IfErr result
-        (λ why. WhyStopped (Makes K.Key.Shape K.is_proper K.said K.KeyClass D.state) engine.old why engine.new) }
+    ensures why { IfErr result (λ why. WhyStopped (Makes K.Key.Shape K.ReadKeys D.state) engine.old why engine.new) }
 {
     match repeat(engine, Event::CheckpointStep) {
         Some(ends) => ends,
@@ -50,12 +48,11 @@ fn undo<D: SectorDisk, K: ReadKeys + Probing>(
     requires session { is_session session ≡ true }
     requires undoes { OnlyUndoes engine.old }
     requires works { WorksOff engine.old }
-    ensures goes { GoesBy (Makes K.Key.Shape K.is_proper K.said K.KeyClass D.state) engine.old engine.new }
+    ensures goes { GoesBy (Makes K.Key.Shape K.ReadKeys D.state) engine.old engine.new }
     ensures told { TellsWhy D.state engine.old engine.new result }
     ensures undone { IfOk result (λ _. IsFreeAt (session - 1) engine.new) }
     ensures works { IfOk result (λ _. WorksOff engine.new) }
-    ensures why { IfErr result
-        (λ why. WhyStopped (Makes K.Key.Shape K.is_proper K.said K.KeyClass D.state) engine.old why engine.new) }
+    ensures why { IfErr result (λ why. WhyStopped (Makes K.Key.Shape K.ReadKeys D.state) engine.old why engine.new) }
 {
     undone(drive(engine, session, Event::Move(session)))
 }
@@ -64,12 +61,11 @@ fn undo<D: SectorDisk, K: ReadKeys + Probing>(
 fn undo_all<D: SectorDisk, K: ReadKeys + Probing>(engine: &mut Engine<D, K>) -> Result<(), Refusal>
     requires undoes { OnlyUndoes engine.old }
     requires works { WorksOff engine.old }
-    ensures goes { GoesBy (Makes K.Key.Shape K.is_proper K.said K.KeyClass D.state) engine.old engine.new }
+    ensures goes { GoesBy (Makes K.Key.Shape K.ReadKeys D.state) engine.old engine.new }
     ensures told { TellsWhy D.state engine.old engine.new result }
     ensures free { IfOk result (λ _. AreFreeBelow 8 engine.new) }
     ensures works { IfOk result (λ _. WorksOff engine.new) }
-    ensures why { IfErr result
-        (λ why. WhyStopped (Makes K.Key.Shape K.is_proper K.said K.KeyClass D.state) engine.old why engine.new) }
+    ensures why { IfErr result (λ why. WhyStopped (Makes K.Key.Shape K.ReadKeys D.state) engine.old why engine.new) }
 {
     for place in 0..8u8 {
         undo(engine, place + 1)?;
@@ -87,12 +83,11 @@ pub(crate) fn finish<D: SectorDisk, K: ReadKeys + Probing>(
 ) -> Result<(), Refusal>
     requires undoes { OnlyUndoes engine.old }
     requires works { engine.old.sessions.failed ≡ false }
-    ensures goes { GoesBy (Makes K.Key.Shape K.is_proper K.said K.KeyClass D.state) engine.old engine.new }
+    ensures goes { GoesBy (Makes K.Key.Shape K.ReadKeys D.state) engine.old engine.new }
     ensures told { TellsWhy D.state engine.old engine.new result }
     ensures free { IfOk result (λ _. AreFreeBelow 8 engine.new) }
     ensures works { IfOk result (λ _. WorksOff engine.new) }
-    ensures why { IfErr result
-        (λ why. WhyStopped (Makes K.Key.Shape K.is_proper K.said K.KeyClass D.state) engine.old why engine.new) }
+    ensures why { IfErr result (λ why. WhyStopped (Makes K.Key.Shape K.ReadKeys D.state) engine.old why engine.new) }
 {
     end_checkpoint(engine)?;
     undo_all(engine)

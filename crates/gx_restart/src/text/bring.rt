@@ -4,15 +4,15 @@ ghost use Rattle.gx_store.specs.State.{IsHeld};
 ghost use Rattle.gx_restart.specs.Bringing.{Brings, Helps, IsBrought, IsHelped, IsTaken};
 
 use super::stop::Stop;
+use gx_class::ReadKeys;
 use gx_disk::SectorDisk;
-use gx_durable::ReadKeys;
 use gx_engine::{EVENTS, Engine};
 use gx_events::{Need, Outcome};
 use gx_geom::Refusal;
 
 // Makes the event that is named.
 fn make<D: SectorDisk, K: ReadKeys>(engine: &mut Engine<D, K>, named: Need) -> Outcome<K::Key>
-    ensures { Helps K.Key.Shape K.is_proper K.said K.KeyClass D.state named engine.old result engine.new }
+    ensures { Helps K.Key.Shape K.ReadKeys D.state named engine.old result engine.new }
 {
     match named {
         Need::Log => engine.log_step(),
@@ -23,7 +23,7 @@ fn make<D: SectorDisk, K: ReadKeys>(engine: &mut Engine<D, K>, named: Need) -> O
 
 // The same; or why it was refused.
 fn help<D: SectorDisk, K: ReadKeys>(engine: &mut Engine<D, K>, named: Need) -> Result<(), Refusal>
-    ensures { IsHelped (Helps K.Key.Shape K.is_proper K.said K.KeyClass D.state) named engine.old result engine.new }
+    ensures { IsHelped (Helps K.Key.Shape K.ReadKeys D.state) named engine.old result engine.new }
 {
     match make(engine, named) {
         Outcome::Refused(why) => Err(why),
@@ -35,8 +35,8 @@ fn help<D: SectorDisk, K: ReadKeys>(engine: &mut Engine<D, K>, named: Need) -> R
 fn take<D: SectorDisk, K: ReadKeys>(engine: &mut Engine<D, K>, page: u32) -> Result<bool, Refusal>
     requires from { 1 ≤ page }
     requires to { page ≤ engine.old.volume.shelf.used }
-    ensures taken { IsTaken (Brings K.Key.Shape K.is_proper K.said K.KeyClass D.state page)
-        (Helps K.Key.Shape K.is_proper K.said K.KeyClass D.state) engine.old result engine.new }
+    ensures taken { IsTaken (Brings K.Key.Shape K.ReadKeys D.state page)
+        (Helps K.Key.Shape K.ReadKeys D.state) engine.old result engine.new }
     ensures held { IfOk result (λ brought. brought ≡ true → IsHeld engine.new.volume.shelf page) }
 {
     match engine.bring_page(page) {
@@ -62,8 +62,8 @@ pub(crate) fn bring<D: SectorDisk, K: ReadKeys>(
 ) -> Result<(), Stop>
     requires from { 1 ≤ page }
     requires to { page ≤ engine.old.volume.shelf.used }
-    ensures brought { IsBrought (Brings K.Key.Shape K.is_proper K.said K.KeyClass D.state page)
-        (Helps K.Key.Shape K.is_proper K.said K.KeyClass D.state) engine.old result engine.new }
+    ensures brought { IsBrought (Brings K.Key.Shape K.ReadKeys D.state page)
+        (Helps K.Key.Shape K.ReadKeys D.state) engine.old result engine.new }
     ensures held { OnOk result (IsHeld engine.new.volume.shelf page) }
 {
     for _turn in 0..EVENTS {

@@ -2,17 +2,16 @@
 ghost use Rattle.std.specs.Prelude.{◌≡◌, ◌+◌, ◌≤◌, [], ◌∷◌, ◌++◌, length, decimal, codes, OnOk, IfErr, OnErr};
 ghost use Rattle.std.specs.Fmt.{signed_decimal};
 ghost use Rattle.std.specs.Io.KnownBytes.{Appends};
-ghost use Rattle.gx_geom.specs.Rectangles.{corners_text};
 ghost use Rattle.gx_node.specs.Seen.{child_seen, pair_seen};
+ghost use Rattle.gx_script.specs.Corners.{grammar_of, spaced};
 ghost use Rattle.gx_script.specs.Noting.{TakesNoMore};
 ghost use Rattle.gx_script.specs.Writes.{IsPut, IsCut};
 ghost use Rattle.gx_restart.specs.Text.{head_line, page_line, child_line, entry_line, mark_text};
 
 use super::stop::Stop;
 use arrayvec::ArrayVec;
-use gx_geom::Box2;
 use gx_machine::Entry;
-use gx_script::{Noted, write_whole};
+use gx_script::{Corners, Noted, write_whole};
 use itoa::Buffer;
 use std::io::Write;
 use std::marker::Model;
@@ -111,25 +110,23 @@ impl Lines {
     }
 
     /// Adds the line of an inner node's entry: a bound, and the page of what lies below it.
-    pub(crate) fn add_child(&mut self, key: &Box2, page: u32)
+    pub(crate) fn add_child<B: Corners>(&mut self, key: &B, page: u32)
         requires { length self.old + LONGEST ≤ WAITING }
-        ensures { self.new ≡ self.old ++ child_line (child_seen (key.now, page)) }
+        ensures { self.new ≡ self.old ++ child_line (grammar_of B.Corners) (child_seen (key.now, page)) }
     {
         self.add(b"child ");
         self.add_number(u64::from(page));
-        self.add(b" ");
         self.add_corners(key);
         self.add(b"\n");
     }
 
     /// Adds the line of a leaf's entry.
-    pub(crate) fn add_entry(&mut self, entry: &Entry<Box2>, marked: bool)
+    pub(crate) fn add_entry<B: Corners>(&mut self, entry: &Entry<B>, marked: bool)
         requires { length self.old + LONGEST ≤ WAITING }
-        ensures { self.new ≡ self.old ++ entry_line (pair_seen (entry.now, marked)) }
+        ensures { self.new ≡ self.old ++ entry_line (grammar_of B.Corners) (pair_seen (entry.now, marked)) }
     {
         self.add(b"entry ");
         self.add_number(entry.row);
-        self.add(b" ");
         self.add_corners(&entry.key);
         self.add_mark(marked);
         self.add(b"\n");
@@ -143,18 +140,16 @@ impl Lines {
         self.add(if marked { b" marked" } else { b" live" });
     }
 
-    fn add_corners(&mut self, key: &Box2)
-        requires { length self.old + 48 ≤ WAITING }
-        ensures text { self.new ≡ self.old ++ corners_text key.now }
-        ensures len { length self.new ≤ length self.old + 47 }
+    // the corners of a key, each after a space
+    fn add_corners<B: Corners>(&mut self, key: &B)
+        requires { length self.old + 126 ≤ WAITING }
+        ensures text { self.new ≡ self.old ++ spaced (B.corners key.now) }
+        ensures len { length self.new ≤ length self.old + 126 }
     {
-        self.add_corner(key.x1());
-        self.add(b" ");
-        self.add_corner(key.y1());
-        self.add(b" ");
-        self.add_corner(key.x2());
-        self.add(b" ");
-        self.add_corner(key.y2());
+        for i in 0..B::COUNT {
+            self.add(b" ");
+            self.add_corner(key.corner(i));
+        }
     }
 
     fn add_number(&mut self, number: u64)
@@ -166,10 +161,10 @@ impl Lines {
         self.add(digits.format(number).as_bytes());
     }
 
-    fn add_corner(&mut self, corner: i32)
-        requires { length self.old + 11 ≤ WAITING }
+    fn add_corner(&mut self, corner: i64)
+        requires { length self.old + 20 ≤ WAITING }
         ensures text { self.new ≡ self.old ++ signed_decimal corner }
-        ensures len { length self.new ≤ length self.old + 11 }
+        ensures len { length self.new ≤ length self.old + 20 }
     {
         let mut digits = Buffer::new();
         self.add(digits.format(corner).as_bytes());

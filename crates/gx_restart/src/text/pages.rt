@@ -3,6 +3,7 @@ ghost use Rattle.std.specs.Prelude.{◌≡◌, ◌++◌, OnOk, IfErr, OnErr};
 ghost use Rattle.std.specs.List.{flat_map};
 ghost use Rattle.gx_node.specs.Reading.{format_of};
 ghost use Rattle.gx_node.specs.Store.{node_of};
+ghost use Rattle.gx_script.specs.Corners.{grammar_of};
 ghost use Rattle.gx_script.specs.Noting.{TakesNoMore};
 ghost use Rattle.gx_script.specs.Writes.{IsPut, IsCut};
 ghost use Rattle.gx_restart.specs.Pages.{IsNode};
@@ -11,10 +12,9 @@ ghost use Rattle.gx_restart.specs.Text.{head_line, child_line, entry_line, node_
 use super::lines::Lines;
 use super::stop::Stop;
 use gx_class::KeyClass;
-use gx_geom::Box2;
 use gx_node::{Inner, Leaf};
 use gx_page::Page;
-use gx_script::Noted;
+use gx_script::{Corners, Noted};
 use std::io::Write;
 
 /// Adds the first line of a tree: the number of the last commit, the greatest page that is taken, and the counter of
@@ -45,7 +45,7 @@ pub(crate) fn put_head<W: Write>(
 ///
 /// `Write` where the writer fails or takes nothing; what was written then is a beginning of what waited with those
 /// lines behind it.
-pub(crate) fn put_page<W: Write, K: KeyClass<Key = Box2>>(
+pub(crate) fn put_page<W: Write, B: Corners, K: KeyClass<Key = B>>(
     writer: &mut Noted<W>,
     lines: &mut Lines,
     number: u32,
@@ -54,35 +54,36 @@ pub(crate) fn put_page<W: Write, K: KeyClass<Key = Box2>>(
     requires { IsNode (format_of K.KeyClass) page.now }
     ensures ok { OnOk result (IsPut
         (W.contents writer.old.inner) (W.contents writer.new.inner) lines.old
-        (node_text number (node_of (format_of K.KeyClass) page.now)) lines.new) }
+        (node_text (grammar_of B.Corners) number (node_of (format_of K.KeyClass) page.now)) lines.new) }
     ensures cut { IfErr result (λ e. (e ≡ Stop.Write)
         × IsCut
         (W.contents writer.old.inner) (W.contents writer.new.inner)
-        (lines.old ++ node_text number (node_of (format_of K.KeyClass) page.now))) }
+        (lines.old ++ node_text (grammar_of B.Corners) number (node_of (format_of K.KeyClass) page.now))) }
     ensures stuck { OnErr result (TakesNoMore writer.new) }
 {
     lines.make_room(writer)?;
     let count = page.count();
     lines.add_page(number, page.level(), page.nsn(), page.right(), count);
     if page.level() == 0 {
-        put_pairs::<W, K>(writer, lines, &Leaf::of(page))
+        put_pairs::<W, B, K>(writer, lines, &Leaf::of(page))
     } else {
         // which pages its entries name was tested when the page was brought
-        put_children::<W, K>(writer, lines, &Inner::of(page, u32::MAX))
+        put_children::<W, B, K>(writer, lines, &Inner::of(page, u32::MAX))
     }
 }
 
 // Adds the lines of a leaf's entries.
-fn put_pairs<W: Write, K: KeyClass<Key = Box2>>(
+fn put_pairs<W: Write, B: Corners, K: KeyClass<Key = B>>(
     writer: &mut Noted<W>,
     lines: &mut Lines,
     leaf: &Leaf<K>,
 ) -> Result<(), Stop>
     ensures ok { OnOk result (IsPut
         (W.contents writer.old.inner) (W.contents writer.new.inner) lines.old
-        (flat_map entry_line leaf.now.pairs) lines.new) }
+        (flat_map (entry_line (grammar_of B.Corners)) leaf.now.pairs) lines.new) }
     ensures cut { IfErr result (λ e. (e ≡ Stop.Write) × IsCut
-        (W.contents writer.old.inner) (W.contents writer.new.inner) (lines.old ++ flat_map entry_line leaf.now.pairs)) }
+        (W.contents writer.old.inner) (W.contents writer.new.inner)
+        (lines.old ++ flat_map (entry_line (grammar_of B.Corners)) leaf.now.pairs)) }
     ensures stuck { OnErr result (TakesNoMore writer.new) }
 {
     for slot in 0..leaf.len() {
@@ -94,17 +95,17 @@ fn put_pairs<W: Write, K: KeyClass<Key = Box2>>(
 }
 
 // Adds the lines of an inner node's entries.
-fn put_children<W: Write, K: KeyClass<Key = Box2>>(
+fn put_children<W: Write, B: Corners, K: KeyClass<Key = B>>(
     writer: &mut Noted<W>,
     lines: &mut Lines,
     inner: &Inner<K>,
 ) -> Result<(), Stop>
     ensures ok { OnOk result (IsPut
         (W.contents writer.old.inner) (W.contents writer.new.inner) lines.old
-        (flat_map child_line inner.now.children) lines.new) }
+        (flat_map (child_line (grammar_of B.Corners)) inner.now.children) lines.new) }
     ensures cut { IfErr result (λ e. (e ≡ Stop.Write) × IsCut
         (W.contents writer.old.inner) (W.contents writer.new.inner)
-        (lines.old ++ flat_map child_line inner.now.children)) }
+        (lines.old ++ flat_map (child_line (grammar_of B.Corners)) inner.now.children)) }
     ensures stuck { OnErr result (TakesNoMore writer.new) }
 {
     for slot in 0..inner.len() {

@@ -1,32 +1,30 @@
 //! The text of an index's tree.
 ghost use Rattle.std.specs.Prelude.{◌≡◌, ◌≤◌, ◌++◌, OnOk, IfErr};
 ghost use Rattle.std.specs.Io.KnownBytes.{Appends};
-ghost use Rattle.gx_node.specs.Reading.{format_of, is_node};
-ghost use Rattle.gx_recovery.specs.Known.{Limits};
-ghost use Rattle.gx_durable.specs.Classes.{class_of, reading_of};
+ghost use Rattle.gx_script.specs.Corners.{grammar_of};
 ghost use Rattle.gx_script.specs.Noting.{TakesNoMore};
 ghost use Rattle.gx_script.specs.Writes.{IsPut, IsCut};
 ghost use Rattle.gx_engine.specs.Resting.{KeepsSessions};
 ghost use Rattle.gx_restart.specs.Bringing.{Brings, Helps, IsRead, IsTold};
-ghost use Rattle.gx_restart.specs.Reading.{IsNotGivenUp, OfItsTree, Reads, Runs, WhereHeld};
+ghost use Rattle.gx_restart.specs.Reading.{IsNotGivenUp};
+ghost use Rattle.gx_restart.specs.Counted.{OfEachTree};
+ghost use Rattle.gx_restart.specs.Setting.{ReadsAs, RunsOnAs, WhereHeldAs};
 ghost use Rattle.gx_restart.specs.Text.{dump_text, node_text};
 
 use super::bring::bring;
 use super::lines::Lines;
 use super::pages::{put_head, put_page};
 use super::stop::Stop;
-use gx_class::KeyClass;
+use gx_class::{KeyClass, ReadKeys};
 use gx_disk::SectorDisk;
-use gx_durable::ReadKeys;
 use gx_engine::Engine;
 use gx_engine::laws::progress::a_page_that_waits_names_work;
-use gx_geom::{Box2, Shape};
-use gx_script::Noted;
+use gx_script::{Corners, Noted};
 use gx_storage::laws::a_volume_shows_the_logs_tree;
 use std::io::Write;
 
 // Brings a page, and adds its lines.
-fn dump_page<W: Write, D: SectorDisk, K: ReadKeys + KeyClass<Key = Box2>>(
+fn dump_page<W: Write, D: SectorDisk, B: Corners, K: ReadKeys + KeyClass<Key = B>>(
     engine: &mut Engine<D, K>,
     writer: &mut Noted<W>,
     lines: &mut Lines,
@@ -34,23 +32,19 @@ fn dump_page<W: Write, D: SectorDisk, K: ReadKeys + KeyClass<Key = Box2>>(
 ) -> Result<(), Stop>
     requires from { 1 ≤ page }
     requires to { page ≤ engine.old.volume.shelf.used }
-    ensures told { IsTold (Brings ⟦<Box2 as Shape>⟧ K.is_proper K.said K.KeyClass D.state)
-        (Helps ⟦<Box2 as Shape>⟧ K.is_proper K.said K.KeyClass D.state) page engine.old result engine.new }
-    ensures text { OnOk result ((l : Limits)
-        → OfItsTree (class_of ⟦<Box2 as Shape>⟧ K.is_proper l) (reading_of K.said (format_of K.KeyClass))
-        (format_of K.KeyClass) (is_node (format_of K.KeyClass))
-        D.state engine.old (λ t. IsPut (W.contents writer.old.inner) (W.contents writer.new.inner) lines.old
-        (node_text page (t.node page)) lines.new)) }
-    ensures cut { IfErr result (λ _. (l : Limits)
-        → OfItsTree (class_of ⟦<Box2 as Shape>⟧ K.is_proper l) (reading_of K.said (format_of K.KeyClass))
-        (format_of K.KeyClass) (is_node (format_of K.KeyClass))
-        D.state engine.old (λ t. IsCut (W.contents writer.old.inner) (W.contents writer.new.inner)
-        (lines.old ++ node_text page (t.node page)))) }
+    ensures told { IsTold (Brings B.Shape K.ReadKeys D.state)
+        (Helps B.Shape K.ReadKeys D.state) page engine.old result engine.new }
+    ensures text { OnOk result (OfEachTree B.Shape K.ReadKeys D.state engine.old
+        (λ t. IsPut (W.contents writer.old.inner) (W.contents writer.new.inner) lines.old
+        (node_text (grammar_of B.Corners) page (t.node page)) lines.new)) }
+    ensures cut { IfErr result (λ _. OfEachTree B.Shape K.ReadKeys D.state engine.old
+        (λ t. IsCut (W.contents writer.old.inner) (W.contents writer.new.inner)
+        (lines.old ++ node_text (grammar_of B.Corners) page (t.node page)))) }
     ensures stuck { IfErr result (λ e. e ≡ Stop.Write → TakesNoMore writer.new) }
 {
     a_volume_shows_the_logs_tree::<D, K>();
     bring(engine, page)?;
-    put_page::<W, K>(writer, lines, page, engine.held_page(page))
+    put_page::<W, B, K>(writer, lines, page, engine.held_page(page))
 }
 
 /// Writes the text of the tree of an index: a line with the number of the last commit, the greatest page that is taken
@@ -62,34 +56,23 @@ fn dump_page<W: Write, D: SectorDisk, K: ReadKeys + KeyClass<Key = Box2>>(
 /// was, with `Device`, `Failed` or `Damaged`, and `GivenUp` where a page isn't brought within `gx_engine::EVENTS` turns
 /// of one or two events, which never is where the engine holds an index over a device that doesn't lie. What was
 /// written then is a beginning of the text. It takes no memory.
-pub fn dump<W: Write, D: SectorDisk, K: ReadKeys + KeyClass<Key = Box2>>(
+pub fn dump<W: Write, D: SectorDisk, B: Corners, K: ReadKeys + KeyClass<Key = B>>(
     engine: &mut Engine<D, K>,
     writer: &mut Noted<W>,
 ) -> Result<(), Stop>
-    ensures read { IsRead (Brings ⟦<Box2 as Shape>⟧ K.is_proper K.said K.KeyClass D.state)
-        (Helps ⟦<Box2 as Shape>⟧ K.is_proper K.said K.KeyClass D.state) engine.old result engine.new }
-    ensures text { OnOk result ((l : Limits)
-        → OfItsTree (class_of ⟦<Box2 as Shape>⟧ K.is_proper l) (reading_of K.said (format_of K.KeyClass))
-        (format_of K.KeyClass) (is_node (format_of K.KeyClass))
-        D.state engine.old (λ t. Appends (W.contents writer.old.inner) (W.contents writer.new.inner)
-        (dump_text engine.old.sessions.latest t))) }
-    ensures cut { IfErr result (λ _. (l : Limits)
-        → OfItsTree (class_of ⟦<Box2 as Shape>⟧ K.is_proper l) (reading_of K.said (format_of K.KeyClass))
-        (format_of K.KeyClass) (is_node (format_of K.KeyClass))
-        D.state engine.old (λ t. IsCut (W.contents writer.old.inner) (W.contents writer.new.inner)
-        (dump_text engine.old.sessions.latest t))) }
+    ensures read { IsRead (Brings B.Shape K.ReadKeys D.state)
+        (Helps B.Shape K.ReadKeys D.state) engine.old result engine.new }
+    ensures text { OnOk result (OfEachTree B.Shape K.ReadKeys D.state engine.old
+        (λ t. Appends (W.contents writer.old.inner) (W.contents writer.new.inner)
+        (dump_text (grammar_of B.Corners) engine.old.sessions.latest t))) }
+    ensures cut { IfErr result (λ _. OfEachTree B.Shape K.ReadKeys D.state engine.old
+        (λ t. IsCut (W.contents writer.old.inner) (W.contents writer.new.inner)
+        (dump_text (grammar_of B.Corners) engine.old.sessions.latest t))) }
     ensures stuck { IfErr result (λ e. e ≡ Stop.Write → TakesNoMore writer.new) }
-    ensures reads { OnOk result ((l : Limits)
-        → Reads (class_of ⟦<Box2 as Shape>⟧ K.is_proper l) (reading_of K.said (format_of K.KeyClass))
-        (format_of K.KeyClass) (is_node (format_of K.KeyClass))
-        D.state engine.old engine.new) }
-    ensures runs { (l : Limits) → Runs (class_of ⟦<Box2 as Shape>⟧ K.is_proper l)
-        (reading_of K.said (format_of K.KeyClass)) (format_of K.KeyClass) (is_node (format_of K.KeyClass))
-        D.state engine.old engine.new }
+    ensures reads { OnOk result (ReadsAs B.Shape K.ReadKeys D.state engine.old engine.new) }
+    ensures runs { RunsOnAs B.Shape K.ReadKeys D.state engine.old engine.new }
     ensures keeps { KeepsSessions engine.old engine.new }
-    ensures ends { (l : Limits) → WhereHeld (class_of ⟦<Box2 as Shape>⟧ K.is_proper l)
-        (reading_of K.said (format_of K.KeyClass)) (format_of K.KeyClass) (is_node (format_of K.KeyClass))
-        D.state engine.old (IsNotGivenUp result) }
+    ensures ends { WhereHeldAs B.Shape K.ReadKeys D.state engine.old (IsNotGivenUp result) }
 {
     a_page_that_waits_names_work::<D, K>();
     let mut lines = Lines::new();

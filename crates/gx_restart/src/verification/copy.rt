@@ -2,14 +2,13 @@
 ghost use Rattle.std.specs.Prelude.{◌≡◌, ◌≤◌, ◌*◌, length, true, IfErr, IfOk, OnOk};
 ghost use Rattle.gx_disk.specs.Looks.{Looks};
 ghost use Rattle.gx_disk.specs.Sectors.{span_of};
-ghost use Rattle.gx_node.specs.Reading.{format_of};
 ghost use Rattle.gx_opening.specs.Formatted.{Counted};
 ghost use Rattle.gx_restart.specs.Beginning.{HasFailed};
 ghost use Rattle.gx_restart.specs.Copied.{IsFront, memory_state};
-ghost use Rattle.gx_restart.specs.Verified.{IsCopyOf, IsUncopied};
+ghost use Rattle.gx_restart.specs.Setting.{IsCopyOfAs, IsUncopiedAs};
 
+use gx_class::ReadKeys;
 use gx_disk::{MIN_SECTORS, MemDisk, SECTOR_SIZE, SectorDisk};
-use gx_durable::ReadKeys;
 use gx_format::sectors_for;
 use gx_geom::Refusal;
 use gx_opening::read_parameters;
@@ -71,10 +70,9 @@ pub(crate) fn copied<D: SectorDisk, K: ReadKeys>(
     ensures looks { (D.state disk.old).honest ≡ true → Looks (D.state disk.old) (D.state disk.new) }
     ensures large { IfOk result (λ copy. MIN_SECTORS ≤ (memory_state copy).sectors) }
     ensures copy { (D.state disk.old).honest ≡ true
-        → IfOk result (λ copy. IsCopyOf K.Key.Shape K.is_proper K.said (format_of K.KeyClass) K.CLASS
-        (D.state disk.old) (memory_state copy)) }
+        → IfOk result (λ copy. IsCopyOfAs K.Key.Shape K.ReadKeys (D.state disk.old) (memory_state copy)) }
     ensures refused { (D.state disk.old).honest ≡ true
-        → IfErr result (IsUncopied K.Key.Shape K.is_proper K.said (format_of K.KeyClass) K.CLASS (D.state disk.old)) }
+        → IfErr result (IsUncopiedAs K.Key.Shape K.ReadKeys (D.state disk.old)) }
 {
     let parameters = read_parameters::<D, K>(disk)?;
     copy_first(alloc, disk, sectors_for(parameters.pages))

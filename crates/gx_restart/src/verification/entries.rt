@@ -10,9 +10,8 @@ ghost use Rattle.gx_node.specs.Lists.{one_if};
 
 use crate::text::Stop;
 use crate::text::bring::bring;
-use gx_class::KeyClass;
+use gx_class::{KeyClass, ReadKeys};
 use gx_disk::SectorDisk;
-use gx_durable::ReadKeys;
 use gx_engine::Engine;
 use gx_node::Leaf;
 use gx_page::Page;
@@ -55,9 +54,9 @@ fn count_page<K: KeyClass>(page: &Page) -> usize
 fn count_on<D: SectorDisk, K: ReadKeys>(engine: &mut Engine<D, K>, page: u32) -> Result<usize, Stop>
     requires from { 1 ≤ page }
     requires to { page ≤ engine.old.volume.shelf.used }
-    ensures brought { OnOk result (IsBrought (Brings K.Key.Shape K.is_proper K.said K.KeyClass D.state page)
-        (Helps K.Key.Shape K.is_proper K.said K.KeyClass D.state) engine.old (Ok tt) engine.new) }
-    ensures live { IfOk result (HasLiveOn K.Key.Shape K.is_proper K.said K.KeyClass D.state engine.old page) }
+    ensures brought { OnOk result (IsBrought (Brings K.Key.Shape K.ReadKeys D.state page)
+        (Helps K.Key.Shape K.ReadKeys D.state) engine.old (Ok tt) engine.new) }
+    ensures live { IfOk result (HasLiveOn K.Key.Shape K.ReadKeys D.state engine.old page) }
     ensures few { IfOk result (λ live. live ≤ 812) }
 {
     a_volume_shows_the_logs_tree::<D, K>();
@@ -74,7 +73,7 @@ fn count_on<D: SectorDisk, K: ReadKeys>(engine: &mut Engine<D, K>, page: u32) ->
 pub(crate) fn count_entries<D: SectorDisk, K: ReadKeys>(
     engine: &mut Engine<D, K>,
 ) -> Result<u64, Stop>
-    ensures { IfOk result (HasLive K.Key.Shape K.is_proper K.said K.KeyClass D.state engine.old) }
+    ensures { IfOk result (HasLive K.Key.Shape K.ReadKeys D.state engine.old) }
 {
     let used = engine.used();
     let mut entries = 0;

@@ -15,8 +15,8 @@ ghost use Rattle.gx_storage.specs.Small.{IsSpelled, add_room, add_said};
 use crate::Storage;
 use crate::changes::added::{add_size, write_add};
 use crate::changes::room::begin_event;
+use gx_class::ReadKeys;
 use gx_disk::SectorDisk;
-use gx_durable::ReadKeys;
 use gx_machine::Entry;
 use gx_node::laws::leaves;
 use gx_store::StoreFault;
@@ -37,11 +37,11 @@ impl<D: SectorDisk, K: ReadKeys> Storage<D, K> {
         entry: &Entry<K::Key>,
     ) -> Result<(), StepFault<StoreFault>>
         requires still { self.old.log.turn ≡ Closed }
-        ensures logged { OnOk result (LogsAs K.Key.Shape K.is_proper K.said K.KeyClass D.state
+        ensures logged { OnOk result (LogsAs K.Key.Shape K.ReadKeys D.state
             (add_room (is_imaged self.old.imaged page) K.KEY) self.old self.new
             (add_said K.spelling (is_imaged self.old.imaged page) transaction entry.now.row entry.now.key page
             (D.state self.new.shelf.disk).seen self.new.shelf)) }
-        ensures unlogged { OnErr result (UnloggedAs K.Key.Shape K.is_proper K.said K.KeyClass D.state
+        ensures unlogged { OnErr result (UnloggedAs K.Key.Shape K.ReadKeys D.state
             (begun self.old (add_room (is_imaged self.old.imaged page) K.KEY)) self.old self.new) }
         ensures added { IsSteadyAs D.state self.old.shelf
             → OnOk result (Appends self.old.most (tree_at K.KeyClass D.state self.old.shelf)

@@ -14,9 +14,10 @@ ghost use Rattle.gx_storage.specs.Small.{IsSpelled, add_room, add_said};
 use crate::changes::given::has_image;
 use crate::changes::written::{spell, write_record, write_size};
 use crate::imaged::Imaged;
+use gx_class::ReadKeys;
 use gx_disk::SectorDisk;
+use gx_durable::OfClass;
 use gx_durable::calls::append;
-use gx_durable::{OfClass, ReadKeys};
 use gx_glog::Glog;
 use gx_record::{ADD_BESIDE_KEY, Mark, Record};
 use gx_store::PageStore;
@@ -47,8 +48,7 @@ fn append_add<D: SectorDisk, K: ReadKeys>(
     requires room { length log.old.filling + (K.KEY + ADD_BESIDE_KEY) ≤ BODY_ROOM }
     requires held { IsHeld store.now leaf }
     requires spelled { length spelled.old ≡ K.KEY }
-    ensures last { IsLastAs K.Key.Shape K.is_proper K.said K.KeyClass (Add transaction row (K.spelling key) leaf)
-        log.old log.new }
+    ensures last { IsLastAs K.Key.Shape K.ReadKeys (Add transaction row (K.spelling key) leaf) log.old log.new }
     ensures formed { IsWellFormed (standing store.now.frames (D.state store.now.disk).seen leaf) }
     ensures spelled { length spelled.new ≡ K.KEY }
     ensures own { OwnNumberAs D.state store.now leaf }
@@ -86,7 +86,7 @@ pub(crate) fn write_add<D: SectorDisk, K: ReadKeys>(
     requires room { length log.old.filling + add_room small K.KEY ≤ BODY_ROOM }
     requires held { IsHeld store.now leaf }
     requires spelled { length spelled.old ≡ K.KEY }
-    ensures last { IsLastAs K.Key.Shape K.is_proper K.said K.KeyClass
+    ensures last { IsLastAs K.Key.Shape K.ReadKeys
         (add_said K.spelling small transaction row key leaf (D.state store.now.disk).seen store.now) log.old log.new }
     ensures formed { IsWellFormed (standing store.now.frames (D.state store.now.disk).seen leaf) }
     ensures spelled { length spelled.new ≡ K.KEY }

@@ -15,8 +15,8 @@ ghost use Rattle.gx_storage.specs.Small.{widen_room};
 use crate::Storage;
 use crate::changes::room::{begin_event, begin_reading, has_room};
 use crate::changes::widened::{widen_size, write_widen};
+use gx_class::ReadKeys;
 use gx_disk::SectorDisk;
-use gx_durable::ReadKeys;
 use gx_geom::Shape;
 use gx_glog::Glog;
 use gx_node::laws::inners;
@@ -79,9 +79,8 @@ impl<D: SectorDisk, K: ReadKeys> Storage<D, K> {
         coming: &K::Key,
     ) -> Result<Descended<K::Key>, StepFault<StoreFault>>
         requires still { self.old.log.turn ≡ Closed }
-        ensures logged { IfOk result (LogsDescentAs K.Key.Shape K.is_proper K.said K.KeyClass D.state item.now.page
-            self.old self.new) }
-        ensures unlogged { OnErr result (UnloggedAs K.Key.Shape K.is_proper K.said K.KeyClass D.state
+        ensures logged { IfOk result (LogsDescentAs K.Key.Shape K.ReadKeys D.state item.now.page self.old self.new) }
+        ensures unlogged { OnErr result (UnloggedAs K.Key.Shape K.ReadKeys D.state
             (begun self.old (widen_room (is_imaged self.old.imaged item.now.page) K.KEY)) self.old self.new) }
         ensures descended { IsSteadyAs D.state self.old.shelf
             → IfOk result (StepsDown K.cost K.joined self.old.most (store_at K.KeyClass D.state self.old.shelf)

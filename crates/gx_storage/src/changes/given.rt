@@ -10,9 +10,10 @@ ghost use Rattle.gx_storage.specs.Imaged.{imaged_with};
 ghost use Rattle.gx_storage.specs.Setting.{IsLastAs, OwnNumberAs, page_given_at};
 
 use crate::imaged::Imaged;
+use gx_class::ReadKeys;
 use gx_disk::SectorDisk;
+use gx_durable::OfClass;
 use gx_durable::calls::append;
-use gx_durable::{OfClass, ReadKeys};
 use gx_glog::Glog;
 use gx_record::{PageImage, PageImages, Record};
 use gx_store::PageStore;
@@ -43,8 +44,7 @@ pub(crate) fn give_page<D: SectorDisk, K: ReadKeys>(
     requires room { length log.old.filling + PAGE_RECORD ≤ BODY_ROOM }
     requires held { IsHeld store.now page }
     requires numbers { (counter ≡ store.now.counter) × (used ≡ store.now.used) }
-    ensures last { IsLastAs K.Key.Shape K.is_proper K.said K.KeyClass (page_given_at D.state page store.now) log.old
-        log.new }
+    ensures last { IsLastAs K.Key.Shape K.ReadKeys (page_given_at D.state page store.now) log.old log.new }
     ensures formed { IsWellFormed (standing store.now.frames (D.state store.now.disk).seen page) }
     ensures imaged { imaged.new ≡ imaged_with (page_given_at D.state page store.now) imaged.old }
     ensures own { OwnNumberAs D.state store.now page }

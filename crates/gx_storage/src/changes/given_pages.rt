@@ -13,9 +13,10 @@ ghost use Rattle.gx_storage.specs.Imaged.{imaged_with};
 ghost use Rattle.gx_storage.specs.Setting.{IsLastAs, pages_given_at};
 
 use crate::imaged::Imaged;
+use gx_class::ReadKeys;
 use gx_disk::SectorDisk;
+use gx_durable::OfClass;
 use gx_durable::calls::append;
-use gx_durable::{OfClass, ReadKeys};
 use gx_glog::Glog;
 use gx_record::{PageImage, PageImages, Record};
 use gx_store::PageStore;
@@ -68,7 +69,7 @@ pub(crate) fn give_three<D: SectorDisk, K: ReadKeys>(
     requires room { length log.old.filling + SPLIT_RECORD ≤ BODY_ROOM }
     requires held { IsHeld store.now first × IsHeld store.now second × IsHeld store.now third }
     requires rise { (first < second) × (second < third) }
-    ensures last { IsLastAs K.Key.Shape K.is_proper K.said K.KeyClass
+    ensures last { IsLastAs K.Key.Shape K.ReadKeys
         (pages_given_at D.state (first ∷ second ∷ third ∷ []) store.now) log.old log.new }
     ensures imaged { imaged.new ≡ imaged_with (pages_given_at D.state (first ∷ second ∷ third ∷ []) store.now)
         imaged.old }

@@ -15,9 +15,10 @@ ghost use Rattle.gx_storage.specs.Small.{mark_room, mark_said};
 use crate::changes::given::has_image;
 use crate::changes::written::{write_record, write_size};
 use crate::imaged::Imaged;
+use gx_class::ReadKeys;
 use gx_disk::SectorDisk;
+use gx_durable::OfClass;
 use gx_durable::calls::append;
-use gx_durable::{OfClass, ReadKeys};
 use gx_glog::Glog;
 use gx_record::{BIT_BESIDE_KEY, Mark, Record};
 use gx_store::PageStore;
@@ -57,7 +58,7 @@ fn append_bit<D: SectorDisk, K: ReadKeys>(
     requires room { length log.old.filling + (K.KEY + BIT_BESIDE_KEY) ≤ BODY_ROOM }
     requires held { IsHeld store.now leaf }
     requires spelled { length spelled.old ≡ K.KEY }
-    ensures last { IsLastAs K.Key.Shape K.is_proper K.said K.KeyClass
+    ensures last { IsLastAs K.Key.Shape K.ReadKeys
         (Bit transaction row (K.spelling key) before after leaf) log.old log.new }
     ensures formed { IsWellFormed (standing store.now.frames (D.state store.now.disk).seen leaf) }
     ensures spelled { length spelled.new ≡ K.KEY }
@@ -99,7 +100,7 @@ pub(crate) fn write_mark<D: SectorDisk, K: ReadKeys>(
     requires room { length log.old.filling + mark_room small K.KEY ≤ BODY_ROOM }
     requires held { IsHeld store.now leaf }
     requires spelled { length spelled.old ≡ K.KEY }
-    ensures last { IsLastAs K.Key.Shape K.is_proper K.said K.KeyClass
+    ensures last { IsLastAs K.Key.Shape K.ReadKeys
         (mark_said K.spelling small transaction row key before after leaf (D.state store.now.disk).seen store.now)
         log.old log.new }
     ensures formed { IsWellFormed (standing store.now.frames (D.state store.now.disk).seen leaf) }

@@ -2,8 +2,8 @@
 ghost use Rattle.std.specs.Prelude.{◌≡◌, true};
 ghost use Rattle.gx_storage.specs.Changes.{has_room};
 
+use gx_class::ReadKeys;
 use gx_disk::SectorDisk;
-use gx_durable::ReadKeys;
 use gx_glog::{Glog, PLACES};
 use gx_store::PageStore;
 

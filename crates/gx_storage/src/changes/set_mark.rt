@@ -16,9 +16,8 @@ ghost use Rattle.gx_storage.specs.Small.{mark_room};
 use crate::Storage;
 use crate::changes::marked::{mark_size, write_mark};
 use crate::changes::room::{begin_event, begin_reading, has_room};
-use gx_class::Probing;
+use gx_class::{Probing, ReadKeys};
 use gx_disk::SectorDisk;
-use gx_durable::ReadKeys;
 use gx_glog::Glog;
 use gx_machine::Entry;
 use gx_node::laws::{leaves, small_marks};
@@ -67,9 +66,9 @@ impl<D: SectorDisk, K: ReadKeys + Probing> Storage<D, K> {
         marked: bool,
     ) -> Result<Sought, StepFault<StoreFault>>
         requires still { self.old.log.turn ≡ Closed }
-        ensures logged { IfOk result (LogsMarkAs K.Key.Shape K.is_proper K.said K.KeyClass D.state transaction entry.now
+        ensures logged { IfOk result (LogsMarkAs K.Key.Shape K.ReadKeys D.state transaction entry.now
             page marked self.old self.new) }
-        ensures unlogged { OnErr result (UnloggedAs K.Key.Shape K.is_proper K.said K.KeyClass D.state
+        ensures unlogged { OnErr result (UnloggedAs K.Key.Shape K.ReadKeys D.state
             (begun self.old (mark_room (is_imaged self.old.imaged page) K.KEY)) self.old self.new) }
         ensures marked { IfOk result (MarksEntryAs K.Key.Shape K.KeyClass D.state self.old self.new entry.now page
             marked) }

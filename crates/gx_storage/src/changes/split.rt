@@ -20,8 +20,8 @@ ghost use Rattle.gx_storage.specs.Setting.{ToldAs, pages_given_at, store_at, tre
 use crate::Storage;
 use crate::changes::given_pages::{give_three, in_rising_order};
 use crate::changes::room::begin_event;
+use gx_class::ReadKeys;
 use gx_disk::SectorDisk;
-use gx_durable::ReadKeys;
 use gx_record::SPLIT_RECORD;
 use gx_store::StoreFault;
 use gx_tree::{Split, SplitFault, StepFault, split_step};
@@ -45,10 +45,10 @@ impl<D: SectorDisk, K: ReadKeys> Storage<D, K> {
         requires still { self.old.log.turn ≡ Closed }
         requires most { 4 ≤ self.old.most }
         requires space { MAX_ENTRIES ≤ length keys.old }
-        ensures logged { IfOk result (λ did. LogsIfAs K.Key.Shape K.is_proper K.said K.KeyClass D.state SPLIT_RECORD
+        ensures logged { IfOk result (λ did. LogsIfAs K.Key.Shape K.ReadKeys D.state SPLIT_RECORD
             self.old self.new (pages_given_at D.state (rising page parent (suc self.old.shelf.used)) self.new.shelf)
             (has_split did)) }
-        ensures unlogged { OnErr result (UnloggedAs K.Key.Shape K.is_proper K.said K.KeyClass D.state
+        ensures unlogged { OnErr result (UnloggedAs K.Key.Shape K.ReadKeys D.state
             (begun self.old SPLIT_RECORD) self.old self.new) }
         ensures split { IsSteadyAs D.state self.old.shelf
             → IfOk result (Splits (rules_of K.Key.Shape self.old.most) K.sides_of

@@ -19,8 +19,8 @@ ghost use Rattle.gx_storage.specs.Setting.{ToldAs, pages_given_at, store_at, tre
 use crate::Storage;
 use crate::changes::given_pages::give_three;
 use crate::changes::room::begin_event;
+use gx_class::ReadKeys;
 use gx_disk::SectorDisk;
-use gx_durable::ReadKeys;
 use gx_record::SPLIT_RECORD;
 use gx_store::StoreFault;
 use gx_tree::{Pages, RootSplit, SplitFault, StepFault, split_root_step};
@@ -40,10 +40,10 @@ impl<D: SectorDisk, K: ReadKeys> Storage<D, K> {
         requires still { self.old.log.turn ≡ Closed }
         requires most { 4 ≤ self.old.most }
         requires space { MAX_ENTRIES ≤ length keys.old }
-        ensures logged { OnOk result (LogsAs K.Key.Shape K.is_proper K.said K.KeyClass D.state SPLIT_RECORD self.old
+        ensures logged { OnOk result (LogsAs K.Key.Shape K.ReadKeys D.state SPLIT_RECORD self.old
             self.new (pages_given_at D.state (1 ∷ suc self.old.shelf.used ∷ suc (suc self.old.shelf.used) ∷ [])
             self.new.shelf)) }
-        ensures unlogged { OnErr result (UnloggedAs K.Key.Shape K.is_proper K.said K.KeyClass D.state
+        ensures unlogged { OnErr result (UnloggedAs K.Key.Shape K.ReadKeys D.state
             (begun self.old SPLIT_RECORD) self.old self.new) }
         ensures split { IsSteadyAs D.state self.old.shelf
             → IfOk result (DidSplitRoot (rules_of K.Key.Shape self.old.most) K.sides_of

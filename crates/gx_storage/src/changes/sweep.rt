@@ -21,8 +21,8 @@ ghost use Rattle.gx_storage.specs.Sweeping.{Answers, slots_planned};
 use crate::Storage;
 use crate::changes::room::{begin_event, begin_reading};
 use crate::changes::swept::{sweep_size, write_sweep};
+use gx_class::ReadKeys;
 use gx_disk::SectorDisk;
-use gx_durable::ReadKeys;
 use gx_glog::Glog;
 use gx_machine::Entry;
 use gx_node::laws::leaves;
@@ -89,9 +89,9 @@ impl<D: SectorDisk, K: ReadKeys> Storage<D, K> {
     ) -> Result<bool, StepFault<StoreFault>>
         requires still { self.old.log.turn ≡ Closed }
         requires claimed { F.IsAlwaysCallable claimed }
-        ensures logged { IfOk result (LogsSweepAs K.Key.Shape K.is_proper K.said K.KeyClass D.state
+        ensures logged { IfOk result (LogsSweepAs K.Key.Shape K.ReadKeys D.state
             (Answers F.post claimed) self.old self.new page) }
-        ensures unlogged { IfErr result (RefusesSweepAs K.Key.Shape K.is_proper K.said K.KeyClass D.state
+        ensures unlogged { IfErr result (RefusesSweepAs K.Key.Shape K.ReadKeys D.state
             (Answers F.post claimed) self.old self.new page) }
         ensures swept { IsSteadyAs D.state self.old.shelf → (test : Entry K.Key → Bool) → Answers F.post claimed test
             → IfOk result (Swept test (store_at K.KeyClass D.state self.old.shelf)

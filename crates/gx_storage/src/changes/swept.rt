@@ -15,9 +15,10 @@ ghost use Rattle.gx_storage.specs.Small.{sweep_room, sweep_said};
 
 use crate::changes::given::{give_page, has_image};
 use crate::imaged::Imaged;
+use gx_class::ReadKeys;
 use gx_disk::SectorDisk;
+use gx_durable::OfClass;
 use gx_durable::calls::append;
-use gx_durable::{OfClass, ReadKeys};
 use gx_glog::Glog;
 use gx_record::{MOST_SLOTS, PAGE_RECORD, Record, SLOT_NUMBER, SWEEP_BESIDE_SLOTS, Slots};
 use gx_store::PageStore;
@@ -60,7 +61,7 @@ fn append_sweep<D: SectorDisk, K: ReadKeys>(
     requires some { 0 < length slots.now }
     requires few { length slots.now ≤ MOST_SLOTS }
     requires rising { rise_from 0 slots.now ≡ true }
-    ensures last { IsLastAs K.Key.Shape K.is_proper K.said K.KeyClass (SweepSlots page slots.now) log.old log.new }
+    ensures last { IsLastAs K.Key.Shape K.ReadKeys (SweepSlots page slots.now) log.old log.new }
     ensures formed { IsWellFormed (standing store.now.frames (D.state store.now.disk).seen page) }
     ensures own { OwnNumberAs D.state store.now page }
 {
@@ -92,7 +93,7 @@ pub(crate) fn write_sweep<D: SectorDisk, K: ReadKeys>(
     requires room { length log.old.filling + sweep_room small (length (slots_of sweep.now)) ≤ BODY_ROOM }
     requires held { IsHeld store.now sweep.now.page }
     requires some { takes_none sweep.now ≡ false }
-    ensures last { IsLastAs K.Key.Shape K.is_proper K.said K.KeyClass
+    ensures last { IsLastAs K.Key.Shape K.ReadKeys
         (sweep_said small sweep.now.page (slots_of sweep.now) (D.state store.now.disk).seen store.now) log.old log.new }
     ensures formed { IsWellFormed (standing store.now.frames (D.state store.now.disk).seen sweep.now.page) }
     ensures imaged { imaged.new ≡ imaged_with (sweep_said small sweep.now.page (slots_of sweep.now)

@@ -14,9 +14,10 @@ ghost use Rattle.gx_storage.specs.Small.{widen_room, widen_said};
 
 use crate::changes::given::{give_page, has_image};
 use crate::imaged::Imaged;
+use gx_class::ReadKeys;
 use gx_disk::SectorDisk;
+use gx_durable::OfClass;
 use gx_durable::calls::append;
-use gx_durable::{OfClass, ReadKeys};
 use gx_glog::Glog;
 use gx_record::{PAGE_RECORD, Record, WIDEN_BESIDE_KEY};
 use gx_store::PageStore;
@@ -48,8 +49,7 @@ fn append_widen<D: SectorDisk, K: ReadKeys>(
     requires held { IsHeld store.now page }
     requires slot { slot < MAX_ENTRIES }
     requires spelled { length spelled.old ≡ K.KEY }
-    ensures last { IsLastAs K.Key.Shape K.is_proper K.said K.KeyClass (Widen page slot (K.spelling key)) log.old
-        log.new }
+    ensures last { IsLastAs K.Key.Shape K.ReadKeys (Widen page slot (K.spelling key)) log.old log.new }
     ensures formed { IsWellFormed (standing store.now.frames (D.state store.now.disk).seen page) }
     ensures spelled { length spelled.new ≡ K.KEY }
     ensures own { OwnNumberAs D.state store.now page }
@@ -85,7 +85,7 @@ pub(crate) fn write_widen<D: SectorDisk, K: ReadKeys>(
     requires held { IsHeld store.now page }
     requires slot { slot < MAX_ENTRIES }
     requires spelled { length spelled.old ≡ K.KEY }
-    ensures last { IsLastAs K.Key.Shape K.is_proper K.said K.KeyClass
+    ensures last { IsLastAs K.Key.Shape K.ReadKeys
         (widen_said K.spelling small page slot key (D.state store.now.disk).seen store.now) log.old log.new }
     ensures formed { IsWellFormed (standing store.now.frames (D.state store.now.disk).seen page) }
     ensures spelled { length spelled.new ≡ K.KEY }

@@ -14,9 +14,10 @@ ghost use Rattle.gx_storage.specs.Setting.{IsLastAs, OwnNumberAs};
 ghost use Rattle.gx_storage.specs.Small.{IsSpelled};
 
 use crate::imaged::Imaged;
+use gx_class::ReadKeys;
 use gx_disk::SectorDisk;
+use gx_durable::OfClass;
 use gx_durable::calls::append;
-use gx_durable::{OfClass, ReadKeys};
 use gx_glog::Glog;
 use gx_record::{Mark, Record, WRITE_BESIDE_KEY};
 use gx_store::PageStore;
@@ -56,7 +57,7 @@ pub(crate) fn write_record<D: SectorDisk, K: ReadKeys>(
     requires room { length log.old.filling + write_record K.KEY ≤ BODY_ROOM }
     requires held { IsHeld store.now leaf }
     requires spelled { length spelled.old ≡ K.KEY }
-    ensures last { IsLastAs K.Key.Shape K.is_proper K.said K.KeyClass
+    ensures last { IsLastAs K.Key.Shape K.ReadKeys
         (write_of K.spelling transaction row key (is_marked before) (is_marked after) leaf (D.state store.now.disk).seen
         store.now) log.old log.new }
     ensures formed { IsWellFormed (standing store.now.frames (D.state store.now.disk).seen leaf) }

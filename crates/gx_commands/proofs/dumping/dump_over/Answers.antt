@@ -7,7 +7,7 @@ returns-in-Ok g c =
     inr (record {
       engine = c.in-Ok.engine;
       opening = c.in-Ok.ensures;
-      dump = dumps_over _ _ _ _ _ c.in-Ok.engine c.new-index.result c.new-index.ensures _ _ _ _ c.dump_index.ensures;
+      dump = dumps_over _ _ g.K.ReadKeys.is_proper g.K.ReadKeys.said g.K.KeyClass _ c.in-Ok.engine c.new-index.result c.new-index.ensures _ _ _ _ c.dump_index.ensures;
     })
 
 pub returns-in-Err : goal.returns-in-Err

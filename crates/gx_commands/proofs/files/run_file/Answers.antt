@@ -7,8 +7,8 @@ pub returns-in-Ok : goal.returns-in-Ok
 returns-in-Ok g c =
     inr (record {
       disk = c.in-Ok.disk;
-      after = c.run_over-disk.result.0;
-      between = outputs_of g.W.Write.contents g.E.Write.contents c.run_over-disk.new.writer c.run_over-disk.new.faults;
-      uses = used _ _ c.in-Ok.disk c.run_over-disk.result.0 _ _ _ _ _ c.in-Ok.ensures.tries c.in-Ok.ensures.opened c.leave.ensures refl;
-      runs = c.run_over-disk.ensures;
+      after = c.run_device-disk.result.0;
+      between = outputs_of g.W.Write.contents g.E.Write.contents c.run_device-disk.new.writer c.run_device-disk.new.faults;
+      uses = used _ _ c.in-Ok.disk c.run_device-disk.result.0 _ _ _ _ _ c.in-Ok.ensures.tries c.in-Ok.ensures.opened c.leave.ensures refl;
+      runs = c.run_device-disk.ensures;
     })

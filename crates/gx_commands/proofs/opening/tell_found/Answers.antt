@@ -9,4 +9,4 @@ returns-in-Some g c =
     let tells : TellsPerson (damage_sentence c.in-Some.damage) (stream_of g.E.Write.contents c.args.faults.now) (stream_of g.E.Write.contents c.tell_person.new.faults) =
     subst (λ (s : List ℕ). TellsPerson s (stream_of g.E.Write.contents c.args.faults.now) (stream_of g.E.Write.contents c.tell_person.new.faults)) words
     c.tell_person.ensures in
-    rw c.in-Some.is tells
+    rw c.in-Ok.is (rw c.in-Some.is tells)

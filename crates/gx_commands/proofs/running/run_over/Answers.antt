@@ -7,7 +7,7 @@ returns-in-Ok g c =
     inr (record {
       engine = c.in-Ok.engine;
       opening = c.in-Ok.ensures;
-      script = runs_over _ _ _ _ _ c.in-Ok.engine c.new-index.result c.new-index.ensures c.new-watched.result _ _ _ _ _ _ c.new-watched.ensures c.run_watched.ensures;
+      script = runs_over _ _ g.K.ReadKeys.is_proper g.K.ReadKeys.said g.K.KeyClass _ c.in-Ok.engine c.new-index.result c.new-index.ensures c.new-watched.result _ _ _ _ _ _ c.new-watched.ensures c.run_watched.ensures;
     })
 
 pub returns-in-Err : goal.returns-in-Err

@@ -10,5 +10,5 @@ returns-in-Err g c = record {
   result = Err c.in-Err.refused.why;
   verifies = c.in-Err.ensures.told;
   told = so_told _ _ c.in-Err.refused.why
-      (λ is damage found honest. shown_of _ _ _ g.K.KeyClass _ (g.D.SectorDisk.state c.args.disk.now) c.in-Err.refused.copy (c.in-Err.ensures.damaged honest is) damage found) _ _ _ c.refuse_verified.ensures;
+      (λ is found finds honest. shown_of _ g.K.ReadKeys.is_proper g.K.ReadKeys.said g.K.KeyClass _ (g.D.SectorDisk.state c.args.disk.now) c.in-Err.refused is (c.in-Err.ensures.damaged honest is) (c.in-Err.ensures.copy honest) found finds) _ _ _ c.refuse_verified.ensures;
 }

@@ -1,5 +1,6 @@
 use Rattle.std.proofs.Common.{ap, sym, ◌∙◌, arith}
 use Rattle.gx_machine.specs.Keys.{Members}
+use Rattle.gx_class.specs.Traits.{traits_of}
 use Rattle.gx_events.specs.Driven.{next_of}
 use Rattle.gx_engine.specs.Made.{Makes}
 use Rattle.gx_engine.proofs.Driving.{driven_last, under_way_first, under_way_more}
@@ -14,7 +15,7 @@ pub loop-turn-preserved : goal.loop-turn-preserved
 loop-turn-preserved g c = record {
   driver = c.in-Run.ensures.same ∙ c.loop-turn.invariant.driver;
   way =
-      under_way_more (Makes (record { partial_cmp = g.K.Key.PartialOrd.partial_cmp; eq = g.K.Key.PartialEq.eq; cmp = g.K.Key.Ord.cmp; overlap = g.K.Key.Shape.overlap; inside = g.K.Key.Shape.inside }) g.K.ReadKeys.is_proper g.K.ReadKeys.said g.K.KeyClass g.D.SectorDisk.state) c.args.session c.args.first c.args.engine.now c.loop-turn._turn c.loop-turn.next c.in-Run.event c.step.result c.loop-turn.engine c.step.new.self
+      under_way_more (Makes (record { partial_cmp = g.K.Key.PartialOrd.partial_cmp; eq = g.K.Key.PartialEq.eq; cmp = g.K.Key.Ord.cmp; overlap = g.K.Key.Shape.overlap; inside = g.K.Key.Shape.inside }) (traits_of g.K.ReadKeys.is_proper g.K.ReadKeys.said g.K.KeyClass) g.D.SectorDisk.state) c.args.session c.args.first c.args.engine.now c.loop-turn._turn c.loop-turn.next c.in-Run.event c.step.result c.loop-turn.engine c.step.new.self
       c.loop-turn.invariant.way (record { comes = c.step.ensures.comes; steps = c.step.ensures.steps; calls = c.step.ensures.calls; told = c.step.ensures.told; order = c.step.ensures.order })
       (c.in-Run.ensures.next ∙ ap (λ s. next_of s c.step.result) c.loop-turn.invariant.driver);
   told = named_told g.D.SectorDisk.state c.args.engine.now c.loop-turn.engine c.step.new.self c.args.session c.step.result c.in-Run.event
@@ -28,7 +29,7 @@ returns-in-Done-clause-told g c =
 
 pub returns-in-Done-clause-made : goal.returns-in-Done-clause-made
 returns-in-Done-clause-made g c =
-    driven_last (Makes (record { partial_cmp = g.K.Key.PartialOrd.partial_cmp; eq = g.K.Key.PartialEq.eq; cmp = g.K.Key.Ord.cmp; overlap = g.K.Key.Shape.overlap; inside = g.K.Key.Shape.inside }) g.K.ReadKeys.is_proper g.K.ReadKeys.said g.K.KeyClass g.D.SectorDisk.state) c.args.session c.args.first c.args.engine.now c.loop-turn._turn c.loop-turn.next c.step.result c.loop-turn.engine c.step.new.self c.in-Done.reply
+    driven_last (Makes (record { partial_cmp = g.K.Key.PartialOrd.partial_cmp; eq = g.K.Key.PartialEq.eq; cmp = g.K.Key.Ord.cmp; overlap = g.K.Key.Shape.overlap; inside = g.K.Key.Shape.inside }) (traits_of g.K.ReadKeys.is_proper g.K.ReadKeys.said g.K.KeyClass) g.D.SectorDisk.state) c.args.session c.args.first c.args.engine.now c.loop-turn._turn c.loop-turn.next c.step.result c.loop-turn.engine c.step.new.self c.in-Done.reply
     c.loop-turn.invariant.way (record { comes = c.step.ensures.comes; steps = c.step.ensures.steps; calls = c.step.ensures.calls; told = c.step.ensures.told; order = c.step.ensures.order })
     (c.in-Done.ensures.next ∙ ap (λ s. next_of s c.step.result) c.loop-turn.invariant.driver) (omega arith)
 

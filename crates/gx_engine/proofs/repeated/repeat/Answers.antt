@@ -4,6 +4,7 @@ use Rattle.gx_engine.specs.Repeated.{GoesOn}
 use Rattle.gx_engine.proofs.Lessening.{going_on_few}
 use Rattle.gx_engine.proofs.Repeating.{going_on_first, going_on_more}
 use Rattle.gx_engine.proofs.repeated.repeat.Goals as goal
+use Rattle.gx_class.specs.Traits.{traits_of}
 
 pub loop-turn-init : goal.loop-turn-init
 loop-turn-init g c = going_on_first _ _ _
@@ -33,7 +34,7 @@ loop-turn-preserved g c =
       | inl r ↦ subst GoesOn (sym r.1) tt
       | inr rest ↦ elim rest [ inl m ↦ subst GoesOn (sym m) tt | inr h ↦ subst GoesOn (sym h.1) tt ]
     ] in
-    going_on_more (Makes (record { partial_cmp = g.K.Key.PartialOrd.partial_cmp; eq = g.K.Key.PartialEq.eq; cmp = g.K.Key.Ord.cmp; overlap = g.K.Key.Shape.overlap; inside = g.K.Key.Shape.inside }) g.K.ReadKeys.is_proper g.K.ReadKeys.said g.K.KeyClass g.D.SectorDisk.state) c.args.event c.args.engine.now c.loop-turn._turn c.step.result c.loop-turn.engine c.step.new.self c.loop-turn.invariant
+    going_on_more (Makes (record { partial_cmp = g.K.Key.PartialOrd.partial_cmp; eq = g.K.Key.PartialEq.eq; cmp = g.K.Key.Ord.cmp; overlap = g.K.Key.Shape.overlap; inside = g.K.Key.Shape.inside }) (traits_of g.K.ReadKeys.is_proper g.K.ReadKeys.said g.K.KeyClass) g.D.SectorDisk.state) c.args.event c.args.engine.now c.loop-turn._turn c.step.result c.loop-turn.engine c.step.new.self c.loop-turn.invariant
     (record { comes = c.step.ensures.comes; steps = c.step.ensures.steps; calls = c.step.ensures.calls; told = c.step.ensures.told; order = c.step.ensures.order }) on
 
 pub returns-clause-ends : goal.returns-clause-ends

@@ -9,8 +9,13 @@ pub returns-in-Err-2-clause-ended : goal.returns-in-Err-2-clause-ended
 returns-in-Err-2-clause-ended g c =
     let other = λ (same : kind_of c.in-Err-2.error ≡ OutOfMemory).
     no_memory_fault c.kind.result c.if-eq.ensures (c.kind.ensures ∙ (ap kind_of c.in-Err-2.error-is ∙ same)) in
+    let wrong = c.in-Err-2.ensures.wrong in
     rw c.in-Ok.is (inl (
-      some_fault (fault_of gist_app (map g.S.AsStr.text c.in-Ok.given.now)) c.in-Err-2.error c.in-Err-2.ensures.wrong other,
+      record {
+        classes = wrong.classes;
+        are = wrong.are;
+        wrong = some_fault (fault_of (gist_app wrong.classes) (map g.S.AsStr.text c.in-Ok.given.now)) c.in-Err-2.error wrong.kind other;
+      },
       record {
         status_is = c.refuse_words.ensures.status;
         untouched = record { unopened = search rules; unread = search rules };

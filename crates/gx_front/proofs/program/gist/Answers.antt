@@ -12,4 +12,4 @@ tell_storm-requires-clause-calls g c = λ κs. λ live.
 
 pub returns-in-Err : goal.returns-in-Err
 returns-in-Err g c =
-    stormed (λ given. map g.S.AsStr.text given.now) c.in-Err.storm _ _ _ _ _ _ c.args.words _ c.tell_storm.result c.in-Err.ensures.storm c.tell_storm.ensures
+    stormed (λ given. map g.S.AsStr.text given.now) c.in-Err.storm _ _ _ _ _ _ _ _ c.args.words _ c.tell_storm.result c.in-Err.ensures.storm c.tell_storm.ensures

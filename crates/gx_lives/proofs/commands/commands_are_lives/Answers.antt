@@ -8,4 +8,4 @@ returns g c = λ p allowed m disk after command bears is.
     let large = bears.large in
     let pages = allowed.range.least_pages in
     let room : MIN_SECTORS ≤ (g.D.SectorDisk.state disk).sectors = omega (arith, large, pages) in
-    given _ _ _ _ _ _ disk bears.honest room (λ left why refused. c.an_opening_finds_no_damage.ensures p allowed m disk left why bears refused) command after is
+    given _ _ g.K.ReadKeys.is_proper g.K.ReadKeys.said g.K.KeyClass _ disk bears.honest room (λ left why refused. c.an_opening_finds_no_damage.ensures p allowed m disk left why bears refused) command after is

@@ -11,5 +11,5 @@ returns g c = λ p allowed m old new why bears refused.
     let few : code < 2 ^ 16 = subst (λ n. n < 2 ^ 16) c.CLASS.ensures c.is_class.ensures in
     let lawful = c.a_class_is_lawful.ensures (limits_of p) allowed.range.least_entries in
     let state = g.D.SectorDisk.state in
-    let formatted = formatted_so _ _ _ g.K.KeyClass state p lawful m (state old) bears code allowed (fit_of code p few allowed) in
-    only_fails _ _ _ g.K.KeyClass state p lawful m (state old) bears code formatted (new ≡ old) (state new) why refused
+    let formatted = formatted_so _ g.K.ReadKeys.is_proper g.K.ReadKeys.said g.K.KeyClass state p lawful m (state old) bears code allowed (fit_of code p few allowed) in
+    only_fails _ g.K.ReadKeys.is_proper g.K.ReadKeys.said g.K.KeyClass state p lawful m (state old) bears code formatted (new ≡ old) (state new) why refused

@@ -1,5 +1,4 @@
-use Rattle.std.proofs.Common.{◌≡◌, ◌∙◌, List, refl, sym, subst}
-use Rattle.gx_geom.specs.declared.refusal.Refusal.TheVariants.{Device}
+use Rattle.std.proofs.Common.{◌∙◌, List, refl, sym, subst}
 use Rattle.gx_legality.specs.Gathered.{Ascends}
 use Rattle.gx_legality.specs.Owner.{IsFound}
 use Rattle.gx_legality.specs.Placing.{BreaksOrLeavesOut, IsPlaced, noted}

@@ -4,7 +4,7 @@ use Rattle.gx_node.specs.Reading.{format_of}
 use Rattle.gx_opening.specs.Standing.{known_for, limits_of, reading}
 use Rattle.gx_opening.proofs.Faults.{told_later}
 use Rattle.gx_opening.proofs.Ordering.{tested_in_order}
-use Rattle.gx_opening.proofs.Stood.{cut_off_others, may_start, read_safe, tested_so}
+use Rattle.gx_opening.proofs.Stood.{cut_off_others, may_start, read_safe, tested_so, unsound_left}
 use Rattle.gx_opening.proofs.standing.find_in.Goals as goal
 
 pub returns-in-Ok-clause-safe : goal.returns-in-Ok-clause-safe
@@ -32,7 +32,24 @@ returns-in-Ok-clause-tested g c = λ honest.
     let e = state c.tested.result.0 in
     let stood = c.in-Ok.ensures.stood honest in
     let others = cut_off_others shape proper said f 0 a b e s (c.what_stands_is_legal.ensures.lawful (limits_of s.parameters)) stood.1 in
-    tested_so shape proper said f _ a b e s stood.0 stood.1 (c.tested.ensures.read.rests other) (c.tested.ensures.read.pending other) _ c.tested.result.1 c.tested.ensures.ok c.tested.ensures.cause
+    tested_so shape proper said f _ a b e s stood.0 stood.1 (c.tested.ensures.read.rests other) (c.tested.ensures.read.pending other) _ c.tested.result.1 c.tested.ensures.ok c.tested.ensures.cause c.tested.ensures.memory
+    (c.tested.ensures.tested other others))
+
+pub returns-in-Ok-clause-damaged : goal.returns-in-Ok-clause-damaged
+returns-in-Ok-clause-damaged g c = λ honest.
+    (let shape : Members g.row.K-Key.Denot = record { partial_cmp = g.K.Key.PartialOrd.partial_cmp; eq = g.K.Key.PartialEq.eq; cmp = g.K.Key.Ord.cmp; overlap = g.K.Key.Shape.overlap; inside = g.K.Key.Shape.inside } in
+    let proper = g.K.ReadKeys.is_proper in
+    let said = g.K.ReadKeys.said in
+    let f = format_of g.K.KeyClass in
+    let state = g.D.SectorDisk.state in
+    let other = c.stand.ensures.device.1 ∙ honest in
+    let s = c.in-Ok.standing in
+    let a = state c.args.disk in
+    let b = state c.stand.new.disk in
+    let e = state c.tested.result.0 in
+    let stood = c.in-Ok.ensures.stood honest in
+    let others = cut_off_others shape proper said f 0 a b e s (c.what_stands_is_legal.ensures.lawful (limits_of s.parameters)) stood.1 in
+    unsound_left shape proper said f _ a b e s stood.0 stood.1 (c.tested.ensures.read.rests other) (c.tested.ensures.read.pending other) (c.tested.ensures.read.sectors ∙ c.stand.ensures.device.0) c.tested.result.1
     (c.tested.ensures.tested other others))
 
 pub returns-in-Ok-clause-starts : goal.returns-in-Ok-clause-starts

@@ -10,7 +10,7 @@ use Rattle.gx_node.specs.Reading.{format_of}
 use Rattle.gx_opening.specs.Standing.{limits_of}
 use Rattle.gx_opening.proofs.Faults.{found_told, told_later}
 use Rattle.gx_opening.proofs.Ordering.{laid_in_order, synced_so, unlaid_in_order, unwritten_so}
-use Rattle.gx_opening.proofs.Stood.{formatted_so, laid_so, one_cause, stood_safe, told_cause, unlaid_so}
+use Rattle.gx_opening.proofs.Stood.{formatted_so, laid_so, never_damaged, one_cause, stood_safe, told_cause, unlaid_left, unlaid_so}
 use Rattle.gx_opening.proofs.standing.stand.Goals as goal
 
 pub returns-clause-safe : goal.returns-clause-safe
@@ -85,6 +85,31 @@ returns-in_err-log-clause-stood g c = λ honest.
     let formatted = formatted_so shape proper said f _ a b p enough settles in
     let lays = c.in_err-log.ensures.lays (limits_of p) refl refl (c.what_stands_is_legal.ensures.lawful (limits_of p)) (c.in_ok-parameters.ensures.counted.honest ∙ honest) settles.settled in
     inr (unlaid_so shape proper said f _ a b e p formatted.says settles.only c.in_err-log.field-0.0 c.in_err-log.ensures.memory formatted c.in_err-log.ensures.faults lays)))
+
+pub returns-in_err-parameters-clause-damaged : goal.returns-in_err-parameters-clause-damaged
+returns-in_err-parameters-clause-damaged g c = λ honest.
+    let q = err_from_is_err_and c.from_residual.result c.from_residual.ensures.1 in
+    rw (q.1, q.2) ((let a = g.D.SectorDisk.state c.args.disk.now in
+    let enough : MIN_SECTORS ≤ a.sectors = c.requires in
+    λ is. absurd (never_damaged _ a.sectors a.seen c.in_err-parameters.field-0.0 ((c.in_err-parameters.ensures.settles honest).told enough) is)))
+
+pub returns-in_err-log-clause-damaged : goal.returns-in_err-log-clause-damaged
+returns-in_err-log-clause-damaged g c = λ honest.
+    let q = err_from_is_err_and c.from_residual-in_err-log.result c.from_residual-in_err-log.ensures.1 in
+    rw (q.1, q.2) ((let shape : Members g.row.K-Key.Denot = record { partial_cmp = g.K.Key.PartialOrd.partial_cmp; eq = g.K.Key.PartialEq.eq; cmp = g.K.Key.Ord.cmp; overlap = g.K.Key.Shape.overlap; inside = g.K.Key.Shape.inside } in
+    let proper = g.K.ReadKeys.is_proper in
+    let said = g.K.ReadKeys.said in
+    let f = format_of g.K.KeyClass in
+    let state = g.D.SectorDisk.state in
+    let a = state c.args.disk.now in
+    let b = state c.formatted_behind.new.disk in
+    let e = state c.lay_log.new.disk in
+    let p = c.in_ok-parameters.parameters in
+    let settles = c.in_ok-parameters.ensures.settles honest in
+    let enough : MIN_SECTORS ≤ a.sectors = c.requires in
+    let formatted = formatted_so shape proper said f _ a b p enough settles in
+    let lays = c.in_err-log.ensures.lays (limits_of p) refl refl (c.what_stands_is_legal.ensures.lawful (limits_of p)) (c.in_ok-parameters.ensures.counted.honest ∙ honest) settles.settled in
+    unlaid_left shape proper said f _ a b e p formatted.says settles.only c.in_err-log.field-0.0 (c.in_err-log.ensures.device.0 ∙ c.in_ok-parameters.ensures.counted.sectors) formatted lays))
 
 pub returns-clause-faults : goal.returns-clause-faults
 returns-clause-faults g c =

@@ -1,7 +1,8 @@
-use Rattle.std.proofs.Common.{◌≤◌, refl}
+use Rattle.std.proofs.Common.{◌≡◌, ◌≤◌, refl}
+use Rattle.gx_geom.specs.declared.refusal.Refusal.TheVariants.{Memory}
 use Rattle.gx_opening.specs.Standing.{limits_of}
 use Rattle.gx_opening.proofs.Faults.{with_faults}
-use Rattle.gx_opening.proofs.Stood.{with_cause, with_known, with_same, with_told}
+use Rattle.gx_opening.proofs.Stood.{with_cause, with_known, with_same, with_told, with_why}
 use Rattle.gx_opening.proofs.standing.tested.Goals as goal
 
 pub returns-clause-ok : goal.returns-clause-ok
@@ -9,6 +10,10 @@ returns-clause-ok g c = rw c.with_standing.ensures (with_same c.test_pages-disk.
 
 pub returns-clause-cause : goal.returns-clause-cause
 returns-clause-cause g c = rw c.with_standing.ensures (with_cause c.test_pages-disk.result.1 c.args.standing c.test_pages-disk.ensures.cause)
+
+pub returns-clause-memory : goal.returns-clause-memory
+returns-clause-memory g c =
+    rw c.with_standing.ensures (with_why (λ why. why ≡ Memory → c.args.standing.log.analysis.told.used ≤ c.args.standing.parameters.pages) c.test_pages-disk.result.1 c.args.standing c.test_pages-disk.ensures.memory)
 
 pub returns-clause-tested : goal.returns-clause-tested
 returns-clause-tested g c = λ honest others.

@@ -1,11 +1,13 @@
 use Rattle.std.proofs.Common.{◌∙◌, Result, subst}
+use Rattle.std.specs.Prelude.{IfErr}
+use Rattle.gx_opening.specs.Shown.{LeavesDamaged}
 use Rattle.gx_geom.specs.declared.refusal.Refusal.{Refusal}
 use Rattle.gx_machine.specs.Keys.{Members}
 use Rattle.gx_node.specs.Reading.{format_of}
 use Rattle.gx_opening.specs.Formatted.{FaultsAre}
 use Rattle.gx_opening.specs.Standing.{FindsInOrder, limits_of}
 use Rattle.gx_opening.specs.declared.standing.Standing.{Standing}
-use Rattle.gx_restart.proofs.Ends.{came_opened, came_refused, came_safe, enough_of, stands_of, told_later}
+use Rattle.gx_restart.proofs.Ends.{came_opened, came_refused, came_safe, came_undamaged, enough_of, stands_of, told_later}
 use Rattle.gx_restart.proofs.Ordered.{found_in_order, not_found}
 use Rattle.gx_restart.proofs.opening.open_with.Goals as goal
 
@@ -52,6 +54,28 @@ returns-in-Ok-clause-refused g c = λ honest enough.
     let st = stands_of shape proper said (format_of class) _ (state a) (state m) c.find-disk.result.1 s c.in-Ok.is _ (c.find-disk.ensures.tested honest enough) in
     let came = c.open_over.ensures.keeps a (c.find-disk.ensures.device.1 ∙ honest) st in
     came_refused shape proper said class state _ a m s st c.open_over.result came)
+
+pub returns-in-Ok-clause-damaged : goal.returns-in-Ok-clause-damaged
+returns-in-Ok-clause-damaged g c = λ honest.
+    (let shape : Members g.row.K-Key.Denot = (record { partial_cmp = g.K.Key.PartialOrd.partial_cmp; eq = g.K.Key.PartialEq.eq; cmp = g.K.Key.Ord.cmp; overlap = g.K.Key.Shape.overlap; inside = g.K.Key.Shape.inside }) in
+    let proper = g.K.ReadKeys.is_proper in
+    let said = g.K.ReadKeys.said in
+    let class = g.K.KeyClass in
+    let state = g.D.SectorDisk.state in
+    let a = c.args.disk in
+    let m = c.find-disk.result.0 in
+    let s = c.in-Ok.standing in
+    let enough = enough_of shape proper said (format_of class) _ (state a) (state m) c.find-disk.result.1 s c.in-Ok.is c.find-disk.ensures.allowed in
+    let st = stands_of shape proper said (format_of class) _ (state a) (state m) c.find-disk.result.1 s c.in-Ok.is _ (c.find-disk.ensures.tested honest enough) in
+    let came = c.open_over.ensures.keeps a (c.find-disk.ensures.device.1 ∙ honest) st in
+    came_undamaged shape proper said class state _ a m s st c.open_over.result came)
+
+pub returns-in-Err-clause-damaged : goal.returns-in-Err-clause-damaged
+returns-in-Err-clause-damaged g c = λ honest.
+    (let shape : Members g.row.K-Key.Denot = (record { partial_cmp = g.K.Key.PartialOrd.partial_cmp; eq = g.K.Key.PartialEq.eq; cmp = g.K.Key.Ord.cmp; overlap = g.K.Key.Shape.overlap; inside = g.K.Key.Shape.inside }) in
+    let state = g.D.SectorDisk.state in
+    subst (λ (x : Result (Standing g.row.K-Key.Denot) Refusal). IfErr x (LeavesDamaged shape g.K.ReadKeys.is_proper g.K.ReadKeys.said (format_of g.K.KeyClass) g.K.KeyClass.CLASS (state c.find-disk.result.0))) c.in-Err.is
+    (c.find-disk.ensures.damaged honest))
 
 pub returns-in-Ok-clause-faults : goal.returns-in-Ok-clause-faults
 returns-in-Ok-clause-faults g c =

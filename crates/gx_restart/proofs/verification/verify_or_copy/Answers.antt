@@ -1,5 +1,6 @@
+use Rattle.std.proofs.Common.{refl}
 use Rattle.gx_node.specs.Reading.{format_of}
-use Rattle.gx_restart.proofs.Copied.{few_there, left_there, uncopied_unverified, unverified_there, verified_there}
+use Rattle.gx_restart.proofs.Copied.{few_there, left_there, uncopied_undamaged, uncopied_unverified, unverified_there, verified_there}
 use Rattle.gx_restart.proofs.Verified.{counted_refused, counted_then, refused_then}
 use Rattle.gx_restart.proofs.verification.verify_or_copy.Goals as goal
 
@@ -35,3 +36,11 @@ pub returns-in-Err-verify_copy-clause-few : goal.returns-in-Err-verify_copy-clau
 returns-in-Err-verify_copy-clause-few g c = λ honest is.
     (let copy = (c.in-Ok.ensures.copy honest).0 in
     few_there (record { partial_cmp = g.K.Key.PartialOrd.partial_cmp; eq = g.K.Key.PartialEq.eq; cmp = g.K.Key.Ord.cmp; overlap = g.K.Key.Shape.overlap; inside = g.K.Key.Shape.inside }) g.K.ReadKeys.is_proper g.K.ReadKeys.said (format_of g.K.KeyClass) g.K.KeyClass.CLASS _ _ copy _ (c.in-Err-verify_copy.ensures.damaged copy.honest is))
+
+pub returns-in-Err-verify_copy-clause-copy : goal.returns-in-Err-verify_copy-clause-copy
+returns-in-Err-verify_copy-clause-copy g c = λ honest is. (c.in-Err-verify_copy.refused.disk, (refl, c.in-Err-verify_copy.ensures.left refl is))
+
+pub returns-in-Err-clause-copy : goal.returns-in-Err-clause-copy
+returns-in-Err-clause-copy g c = λ honest is.
+    absurd
+    (uncopied_undamaged (record { partial_cmp = g.K.Key.PartialOrd.partial_cmp; eq = g.K.Key.PartialEq.eq; cmp = g.K.Key.Ord.cmp; overlap = g.K.Key.Shape.overlap; inside = g.K.Key.Shape.inside }) g.K.ReadKeys.is_proper g.K.ReadKeys.said (format_of g.K.KeyClass) _ _ c.in-Err.why (c.in-Err.ensures.refused honest) is)

@@ -1,27 +1,30 @@
 use Rattle.std.proofs.Common.{refl}
-use Rattle.gx_script.proofs.PrintedLemmas.{number_of-decimal, box_words-printed}
+use Rattle.gx_script.proofs.PrintedLemmas.{number_of-decimal, key_words-printed}
 use Rattle.gx_script.proofs.laws.each_command_asks_its_call.Goals as goal
 
 pub returns-clause-begin : goal.returns-clause-begin
-returns-clause-begin c = λ s h. rw (number_of-decimal s h) refl
+returns-clause-begin g c = λ k s h. rw (number_of-decimal s h) refl
 
 pub returns-clause-commit : goal.returns-clause-commit
-returns-clause-commit c = λ s h. rw (number_of-decimal s h) refl
+returns-clause-commit g c = λ k s h. rw (number_of-decimal s h) refl
 
 pub returns-clause-abort : goal.returns-clause-abort
-returns-clause-abort c = λ s h. rw (number_of-decimal s h) refl
+returns-clause-abort g c = λ k s h. rw (number_of-decimal s h) refl
 
 pub returns-clause-insert : goal.returns-clause-insert
-returns-clause-insert c = λ s e h row is. rw (number_of-decimal s h) (rw (number_of-decimal e.row row) (rw (box_words-printed e.key is) refl))
+returns-clause-insert g c = λ k s e h row is. rw (number_of-decimal s h) (rw (number_of-decimal e.row row) (rw (key_words-printed k e.key is) refl))
 
 pub returns-clause-delete : goal.returns-clause-delete
-returns-clause-delete c = λ s e h row is. rw (number_of-decimal s h) (rw (number_of-decimal e.row row) (rw (box_words-printed e.key is) refl))
+returns-clause-delete g c = λ k s e h row is. rw (number_of-decimal s h) (rw (number_of-decimal e.row row) (rw (key_words-printed k e.key is) refl))
 
 pub returns-clause-overlap : goal.returns-clause-overlap
-returns-clause-overlap c = λ s b h is. rw (number_of-decimal s h) (rw (box_words-printed b is) refl)
+returns-clause-overlap g c = λ k s b h is. rw (number_of-decimal s h) (rw (key_words-printed k b is) refl)
 
 pub returns-clause-within : goal.returns-clause-within
-returns-clause-within c = λ s b h is. rw (number_of-decimal s h) (rw (box_words-printed b is) refl)
+returns-clause-within g c = λ k s b h is. rw (number_of-decimal s h) (rw (key_words-printed k b is) refl)
 
 pub returns-clause-equal : goal.returns-clause-equal
-returns-clause-equal c = λ s b h is. rw (number_of-decimal s h) (rw (box_words-printed b is) refl)
+returns-clause-equal g c = λ k s b h is. rw (number_of-decimal s h) (rw (key_words-printed k b is) refl)
+
+pub returns-clause-covers : goal.returns-clause-covers
+returns-clause-covers g c = λ k s b h is. rw (number_of-decimal s h) (rw (key_words-printed k b is) refl)

@@ -1,4 +1,4 @@
-use Rattle.std.proofs.Common.{arith, ℕ, ◌+◌, ap}
+use Rattle.std.proofs.Common.{arith, ◌+◌}
 use Rattle.gx_shared.proofs.Sharing.{next_sessions}
 use Rattle.gx_shared.proofs.shared.all_sessions.Goals as goal
 
@@ -11,6 +11,5 @@ loop-place-preserved g c =
     let given = c.split_off-share.ensures in (
       omega (arith, given.parts_left, inv.0),
       omega (arith, given.amount_left, inv.1),
-      next_sessions c.loop-place.place (c.loop-place.place + 1) c.loop-place.sessions.items c.push.new.self.items c.new.result (omega arith)
-          (ap (λ (s : ℕ × ℕ). s.0) c.new.ensures) (ap (λ (s : ℕ × ℕ). s.1) c.new.ensures) inv.2 c.in_ok-push.ensures.items,
+      next_sessions c.loop-place.place (c.loop-place.place + 1) c.loop-place.sessions.items c.push.new.self.items c.new.result (omega arith) c.new.ensures inv.2 c.in_ok-push.ensures.items,
     )

@@ -17,5 +17,6 @@ returns c = (
     file_is = a_word (found_of c.args.given.now) (codes "FILE") c.unwrap.result.now (let found = c.get_str.ensures in rw c.unwrap.ensures at found);
     pages_are = c.number.ensures 8 65536 c.requires.pages;
     most_is = c.number-2.ensures 4 100 c.requires.most;
+    class_is = c.dimensions_of.ensures;
   },
 )

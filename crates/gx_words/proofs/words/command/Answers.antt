@@ -7,8 +7,8 @@ use Rattle.gx_words.proofs.words.command.Goals as goal
 pub returns : goal.returns
 unfolding gist_app
 returns c =
-    let with_plain = c.in_ok-subcommand.ensures.shape c.plain.ensures.1
-    ∙ ap₂ with_subcommand c.in_ok-program.ensures (ap (λ (a : App). a.top) c.plain.ensures.0) in
+    let with_plain = c.in_ok-subcommand.ensures.shape c.in_ok-plain.ensures.1
+    ∙ ap₂ with_subcommand c.in_ok-program.ensures (ap (λ (a : App). a.top) c.in_ok-plain.ensures.0) in
     let with_format = c.in_ok-subcommand-2.ensures.shape c.in_ok-format.ensures.1
     ∙ ap₂ with_subcommand with_plain (ap (λ (a : App). a.top) c.in_ok-format.ensures.0) in
     let with_run = c.in_ok-subcommand-3.ensures.shape c.in_ok-run.ensures.1

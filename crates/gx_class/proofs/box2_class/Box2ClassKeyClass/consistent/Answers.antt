@@ -9,4 +9,7 @@ returns-in-Overlap c = elim c.in-Overlap.is [
 ]
 
 pub returns-in-Equal : goal.returns-in-Equal
-returns-in-Equal c = c.covers.ensures.test ∙ ap (λ q. may_match q c.args.bound.now) (sym c.in-Equal.is)
+returns-in-Equal c = elim c.in-Equal.is [
+  | inl e ↦ c.covers.ensures.test ∙ ap (λ q. may_match q c.args.bound.now) (sym e)
+  | inr e ↦ c.covers.ensures.test ∙ ap (λ q. may_match q c.args.bound.now) (sym e)
+]

@@ -10,5 +10,7 @@ returns-in-Overlap c bound is = elim c.in-Overlap.is [
 ]
 
 pub returns-in-Equal : goal.returns-in-Equal
-returns-in-Equal c bound is =
-    ap (λ l. lie_between l bound) (c.covering.ensures ∙ ap bound_limits (sym c.in-Equal.is)) ∙ bound_limits_tell c.args.query.now bound is
+returns-in-Equal c bound is = elim c.in-Equal.is [
+  | inl e ↦ ap (λ l. lie_between l bound) (c.covering.ensures ∙ ap bound_limits (sym e)) ∙ bound_limits_tell c.args.query.now bound is
+  | inr e ↦ ap (λ l. lie_between l bound) (c.covering.ensures ∙ ap bound_limits (sym e)) ∙ bound_limits_tell c.args.query.now bound is
+]

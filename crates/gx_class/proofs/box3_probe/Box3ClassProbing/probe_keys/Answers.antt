@@ -14,3 +14,7 @@ returns-in-Within c key is =
 pub returns-in-Equal : goal.returns-in-Equal
 returns-in-Equal c key is =
     ap (λ l. lie_between l key) (c.same.ensures ∙ ap key_limits (sym c.in-Equal.is)) ∙ key_limits_tell c.args.query.now key is
+
+pub returns-in-Covers : goal.returns-in-Covers
+returns-in-Covers c key is =
+    ap (λ l. lie_between l key) (c.covering.ensures ∙ ap key_limits (sym c.in-Covers.is)) ∙ key_limits_tell c.args.query.now key is

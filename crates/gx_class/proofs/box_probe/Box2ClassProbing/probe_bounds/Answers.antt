@@ -15,5 +15,10 @@ returns-in-Overlap c bound is =
 
 pub returns-in-Equal : goal.returns-in-Equal
 returns-in-Equal c bound is =
-    by_limits c.covering.result.low c.covering.result.high (corners bound) (bound_limits c.args.query.now) (c.covering.ensures ∙ ap bound_limits (sym c.in-Equal.is))
-    ∙ bound_limits_tell c.args.query.now bound is
+    let low = c.covering.result.low in
+    let high = c.covering.result.high in
+    let query = c.args.query.now in
+    elim c.in-Equal.is [
+      | inl e ↦ by_limits low high (corners bound) (bound_limits query) (c.covering.ensures ∙ ap bound_limits (sym e)) ∙ bound_limits_tell query bound is
+      | inr e ↦ by_limits low high (corners bound) (bound_limits query) (c.covering.ensures ∙ ap bound_limits (sym e)) ∙ bound_limits_tell query bound is
+    ]

@@ -17,3 +17,8 @@ pub returns-in-Equal : goal.returns-in-Equal
 returns-in-Equal c key is =
     by_limits c.same.result.low c.same.result.high (corners key) (key_limits c.args.query.now) (c.same.ensures ∙ ap key_limits (sym c.in-Equal.is))
     ∙ key_limits_tell c.args.query.now key is
+
+pub returns-in-Covers : goal.returns-in-Covers
+returns-in-Covers c key is =
+    by_limits c.covering.result.low c.covering.result.high (corners key) (key_limits c.args.query.now) (c.covering.ensures ∙ ap key_limits (sym c.in-Covers.is))
+    ∙ key_limits_tell c.args.query.now key is

@@ -2,6 +2,7 @@ use Rattle.std.proofs.Common.{◌∙◌, ap}
 use Rattle.gx_node.specs.Reading.{format_of, is_node}
 use Rattle.gx_engine.specs.States.{Parts}
 use Rattle.gx_engine.proofs.SearchMoves.{found_comes, found_moves_so, search_reads, search_so}
+use Rattle.gx_engine.proofs.Calling.{then_read}
 use Rattle.gx_engine.proofs.Failing.{then_told}
 use Rattle.gx_engine.proofs.engine.Engine.search.Goals as goal
 
@@ -32,3 +33,6 @@ returns-in-Err-clause-moves g c l = search_so _ _ _ _ _ _ c.args.session c.args.
 
 pub returns-in-Ok-clause-told : goal.returns-in-Ok-clause-told
 returns-in-Ok-clause-told g c = then_told g.D.SectorDisk.state c.args.self.now c.search_look.new.self c.find.new.self c.find.result c.in-Ok.ensures.told c.find.ensures.told
+
+pub returns-in-Ok-clause-device : goal.returns-in-Ok-clause-device
+returns-in-Ok-clause-device g c = then_read g.D.SectorDisk.state c.args.self.now c.search_look.new.self c.find.new.self c.search_look.ensures.device c.find.ensures.device

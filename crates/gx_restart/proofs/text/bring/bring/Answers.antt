@@ -4,7 +4,7 @@ use Rattle.gx_restart.proofs.text.bring.bring.Goals as goal
 
 pub take-requires-clause-to : goal.take-requires-clause-to
 take-requires-clause-to g c =
-    let used = turned_used _ _ _ _ _ c.args.page c.args.engine.now c.loop-turn._turn c.loop-turn.engine c.loop-turn.invariant in
+    let used = turned_used _ g.K.ReadKeys.is_proper g.K.ReadKeys.said g.K.KeyClass _ c.args.page c.args.engine.now c.loop-turn._turn c.loop-turn.engine c.loop-turn.invariant in
     omega (arith, used, c.requires.to)
 
 pub returns-in-Ok-true-clause-brought : goal.returns-in-Ok-true-clause-brought

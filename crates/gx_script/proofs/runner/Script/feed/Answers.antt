@@ -1,6 +1,7 @@
 use Rattle.std.proofs.lemmas.Grind.{common_steps}
 use Rattle.std.proofs.Common.{ℕ, List, ◌∷◌, ◌++◌, refl, sym, ap, subst, length, arith, length-append}
 use Rattle.std.proofs.lemmas.Result.{on_ok_weaker, err_from_is_err_and}
+use Rattle.gx_script.specs.Corners.{grammar}
 use Rattle.gx_script.specs.Requests.{line_of}
 use Rattle.gx_script.specs.Scripts.{IsUnended}
 use Rattle.gx_script.specs.Steps.{IsToldPart, IsToldWhole}
@@ -10,25 +11,28 @@ use Rattle.gx_script.proofs.ScriptLemmas.{fed_none, fed_next, fed_cut, fed_end, 
 use Rattle.gx_script.proofs.runner.Script.feed.Goals as goal
 
 pub loop-line-init : goal.loop-line-init
-loop-line-init g c = record {
-  unended = λ u. u;
-  bound = omega arith;
-  fed = λ u number done start written ran count.
-      fed_none g.I.Answers.answered number c.args.self.now.number done start c.args.index.now written (c.args.self.now.line ++ c.args.bytes.now)
-      (g.W.Write.contents c.args.writer.now.inner) c.args.self.now.output ran count;
-}
+loop-line-init g c =
+    let k = grammar g.B.Corners.COUNT g.B.Corners.corners g.B.Corners.fit g.B.Corners.made in
+    record {
+      unended = λ u. u;
+      bound = omega arith;
+      fed = λ u number done start written ran count.
+          fed_none k g.I.Answers.answered number c.args.self.now.number done start c.args.index.now written (c.args.self.now.line ++ c.args.bytes.now)
+          (g.W.Write.contents c.args.writer.now.inner) c.args.self.now.output ran count;
+    }
 
 pub returns-in_err-end_line-clause-cut : goal.returns-in_err-end_line-clause-cut
 returns-in_err-end_line-clause-cut g c =
+    let k = grammar g.B.Corners.COUNT g.B.Corners.corners g.B.Corners.fit g.B.Corners.made in
     let p = err_from_is_err_and c.from_residual.result c.from_residual.ensures.1 in
     let cut = c.in_err-end_line.ensures.cut in
-    let told = subst (λ (v : List ℕ). IsToldPart g.I.Answers.answered c.loop-line.self.number (line_of v) c.loop-line.index c.end_line.new.index
+    let told = subst (λ (v : List ℕ). IsToldPart k g.I.Answers.answered c.loop-line.self.number (line_of k v) c.loop-line.index c.end_line.new.index
     (g.W.Write.contents c.loop-line.writer.inner) (g.W.Write.contents c.end_line.new.writer.inner) c.loop-line.self.output) c.keep.ensures cut.1 in
     rw (p.1, p.2) (
       cut.0,
       λ u number done start written ran count.
           let so_far = c.loop-line.invariant.fed u number done start written ran count in
-          fed_cut g.I.Answers.answered number c.loop-line.self.number done start c.loop-line.index c.end_line.new.index written
+          fed_cut k g.I.Answers.answered number c.loop-line.self.number done start c.loop-line.index c.end_line.new.index written
           (c.args.self.now.line ++ c.args.bytes.now) c.loop-line.self.line c.loop-line.rest.now c.in-Some.line.now c.in-Some.more.now
           (g.W.Write.contents c.args.writer.now.inner) (g.W.Write.contents c.loop-line.writer.inner) (g.W.Write.contents c.end_line.new.writer.inner) c.loop-line.self.output
           so_far.0 so_far.1 (c.loop-line.invariant.unended u) c.in-Some.ensures.0 c.in-Some.ensures.1 told,
@@ -36,7 +40,8 @@ returns-in_err-end_line-clause-cut g c =
 
 pub loop-line-preserved : goal.loop-line-preserved
 loop-line-preserved g c =
-    let told = subst (λ (v : List ℕ). IsToldWhole g.I.Answers.answered c.loop-line.self.number (line_of v) c.loop-line.index c.end_line.new.index
+    let k = grammar g.B.Corners.COUNT g.B.Corners.corners g.B.Corners.fit g.B.Corners.made in
+    let told = subst (λ (v : List ℕ). IsToldWhole k g.I.Answers.answered c.loop-line.self.number (line_of k v) c.loop-line.index c.end_line.new.index
     (g.W.Write.contents c.loop-line.writer.inner) (g.W.Write.contents c.end_line.new.writer.inner) c.loop-line.self.output c.end_line.new.self.output) c.keep.ensures
     c.in_ok-end_line.ensures.ok in
     record {
@@ -50,7 +55,7 @@ loop-line-preserved g c =
       );
       fed = λ u number done start written ran count.
           let so_far = c.loop-line.invariant.fed u number done start written ran count in
-          fed_next g.I.Answers.answered number c.loop-line.self.number c.end_line.new.self.number done start c.loop-line.index c.end_line.new.index written
+          fed_next k g.I.Answers.answered number c.loop-line.self.number c.end_line.new.self.number done start c.loop-line.index c.end_line.new.index written
           (c.args.self.now.line ++ c.args.bytes.now) c.loop-line.self.line c.end_line.new.self.line c.loop-line.rest.now c.in-Some.line.now c.in-Some.more.now
           (g.W.Write.contents c.args.writer.now.inner) (g.W.Write.contents c.loop-line.writer.inner) (g.W.Write.contents c.end_line.new.writer.inner) c.loop-line.self.output
           c.end_line.new.self.output so_far.0 so_far.1 (c.loop-line.invariant.unended u) c.in-Some.ensures.0 c.in-Some.ensures.1 told
@@ -59,11 +64,12 @@ loop-line-preserved g c =
 
 pub returns-clause-ok : goal.returns-clause-ok
 returns-clause-ok g c =
+    let k = grammar g.B.Corners.COUNT g.B.Corners.corners g.B.Corners.fit g.B.Corners.made in
     on_ok_weaker c.flush.result
     (λ flushed.
     λ u number done start written ran count.
     let so_far = c.loop-line.invariant.fed u number done start written ran count in
-    fed_end g.I.Answers.answered number c.loop-line.self.number done start c.loop-line.index written (c.args.self.now.line ++ c.args.bytes.now)
+    fed_end k g.I.Answers.answered number c.loop-line.self.number done start c.loop-line.index written (c.args.self.now.line ++ c.args.bytes.now)
     (c.loop-line.self.line ++ c.loop-line.rest.now) c.keep-2.new.self (g.W.Write.contents c.args.writer.now.inner) (g.W.Write.contents c.loop-line.writer.inner)
     (g.W.Write.contents c.flush.new.writer.inner) c.loop-line.self.output c.flush.new.self so_far.0 so_far.1
     (unended-append c.loop-line.self.line c.loop-line.rest.now (c.loop-line.invariant.unended u) c.in_default.ensures) c.keep-2.ensures flushed.0 flushed.1)
@@ -81,11 +87,12 @@ returns-clause-unended g c =
 
 pub returns-clause-cut : goal.returns-clause-cut
 returns-clause-cut g c =
+    let k = grammar g.B.Corners.COUNT g.B.Corners.corners g.B.Corners.fit g.B.Corners.made in
     cut_as c.flush.result
     (λ cut.
     λ u number done start written ran count.
     let so_far = c.loop-line.invariant.fed u number done start written ran count in
-    fed_end_cut g.I.Answers.answered number done start c.loop-line.index written (c.args.self.now.line ++ c.args.bytes.now)
+    fed_end_cut k g.I.Answers.answered number done start c.loop-line.index written (c.args.self.now.line ++ c.args.bytes.now)
     (c.loop-line.self.line ++ c.loop-line.rest.now) (g.W.Write.contents c.args.writer.now.inner) (g.W.Write.contents c.loop-line.writer.inner)
     (g.W.Write.contents c.flush.new.writer.inner) c.loop-line.self.output so_far.0 cut)
     c.flush.ensures.cut

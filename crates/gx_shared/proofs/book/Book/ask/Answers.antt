@@ -37,7 +37,7 @@ invariant_of-self g c =
     let kept = c.self.invariant in
     let s = c.number-number.result in
     let r = c.keep_reply-reply.result in
-    let calls_are = two_items c.self.inside.calls.items c.append.new.calls.items c.keep_reply-reply.new.calls.items s c.args.session.now.0 c.args.call r
+    let calls_are = two_items c.self.inside.calls.items c.append.new.calls.items c.keep_reply-reply.new.calls.items s c.args.session.now.0.0 c.args.call r
     c.append.ensures.items c.keep_reply-reply.ensures.items c.number-number.ensures in
     let capacity = kept.has_capacity in
     record {
@@ -109,7 +109,7 @@ returns-in-Ok-clause-hold g c =
     (hold_ask k g.E.Events.sees f.start c.self.inside.engine c.self.inside.calls.items c.self.inside.opened (vec_capacity c.self.inside.calls) c.self.inside.tally.total b
     s c.args.call (outcome.Replied r) w.0 c.step.new.self c.keep_reply-reply.new.calls.items
     room (subst (λ (x : Reply g.row.B.Denot). AskHappens k s c.args.call b.machine (outcome.Replied x) w.0) (sym same) happens) w.2
-    (two_items c.self.inside.calls.items c.append.new.calls.items c.keep_reply-reply.new.calls.items s c.args.session.now.0 c.args.call r c.append.ensures.items c.keep_reply-reply.ensures.items c.number-number.ensures)))
+    (two_items c.self.inside.calls.items c.append.new.calls.items c.keep_reply-reply.new.calls.items s c.args.session.now.0.0 c.args.call r c.append.ensures.items c.keep_reply-reply.ensures.items c.number-number.ensures)))
 
 pub returns-in-Ok-clause-made : goal.returns-in-Ok-clause-made
 returns-in-Ok-clause-made g c =
@@ -120,7 +120,7 @@ returns-in-Ok-clause-made g c =
     (is_made (outcome.Replied c.in-Ok.reply)
     (subst (λ (o : Outcome g.row.B.Denot). g.E.Events.makes c.self.inside.engine (Ask s c.args.call) o c.step.new.self) c.in-Ok.ensures c.step.ensures.made)
     c.keep_reply-reply.ensures.handed
-    (two_items c.self.inside.calls.items c.append.new.calls.items c.keep_reply-reply.new.calls.items s c.args.session.now.0 c.args.call r c.append.ensures.items c.keep_reply-reply.ensures.items c.number-number.ensures)))
+    (two_items c.self.inside.calls.items c.append.new.calls.items c.keep_reply-reply.new.calls.items s c.args.session.now.0.0 c.args.call r c.append.ensures.items c.keep_reply-reply.ensures.items c.number-number.ensures)))
 
 pub returns-in-Err-clause-hold : goal.returns-in-Err-clause-hold
 returns-in-Err-clause-hold g c =

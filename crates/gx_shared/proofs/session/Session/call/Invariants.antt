@@ -1,6 +1,5 @@
-use Rattle.std.specs.Prelude.{◌≡◌}
-use Rattle.gx_shared.specs.Sharing.{InCall}
+use Rattle.gx_shared.proofs.Sharing.{IsAmid}
 use Rattle.gx_shared.proofs.session.Session.call.Given as goal
 
 abbrev pub invariant-loop : goal.invariant-loop
-invariant-loop g l = (l.self ≡ l.fn.self) × InCall l.fn.self.0 l.event
+invariant-loop g l = IsAmid l.fn.self l.fn.call l.self l.event

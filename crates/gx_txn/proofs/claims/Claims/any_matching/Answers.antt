@@ -1,4 +1,4 @@
-use Rattle.gx_machine.specs.declared.query.Query.TheVariants.{Overlap, Within, Equal}
+use Rattle.gx_machine.specs.declared.query.Query.TheVariants.{Overlap, Within, Equal, Covers}
 use Rattle.gx_machine.specs.Keys.{IsLawful, keys}
 use Rattle.gx_txn.proofs.Tabled.{any_of_keys}
 use Rattle.gx_txn.proofs.claims.Claims.any_matching.Goals as goal
@@ -26,3 +26,11 @@ returns-in-Equal g c =
     let self = c.self.inside in
     any_of_keys k lawful (Equal c.in-Equal.q) c.args.query.now self.rows self.keys.items c.deref-in-Equal.result.now self.entries.items c.args.self.now c.some_passes-in-Equal.result
     c.in-Equal.is c.deref-in-Equal.ensures.value c.self.invariant.2 c.self.view_is c.some_passes-in-Equal.ensures
+
+pub returns-in-Covers : goal.returns-in-Covers
+returns-in-Covers g c =
+    let k = keys g.B.Ord.cmp g.B.Shape.overlap g.B.Shape.inside in
+    let lawful : IsLawful k = record { total = g.met.B.Ord.total; exact = g.met.B.Shape.same } in
+    let self = c.self.inside in
+    any_of_keys k lawful (Covers c.in-Covers.q) c.args.query.now self.rows self.keys.items c.deref-in-Covers.result.now self.entries.items c.args.self.now c.some_passes-in-Covers.result
+    c.in-Covers.is c.deref-in-Covers.ensures.value c.self.invariant.2 c.self.view_is c.some_passes-in-Covers.ensures
