@@ -31,7 +31,6 @@ LONG_FUNCTIONS = {
 }
 LONG_FILES = {
     "gx_plain/src/slot.rt": 438,
-    "gx_pool/src/frames.rt": 409,
     "gx_tests/src/nodes.rt": 411,
     "gx_tests/src/scripts.rt": 408,
 }

@@ -6,7 +6,8 @@ ghost use Rattle.gx_page.specs.Edits.{blank};
 ghost use Rattle.gx_pool.specs.declared.frames.TheConstants.{FRAMES};
 ghost use Rattle.gx_pool.specs.Edits.{forgotten, later, numbered};
 ghost use Rattle.gx_pool.specs.Marks.{clean, empty, is_dirty, is_gated, is_upper};
-ghost use Rattle.gx_pool.specs.Marks.{writable, IsLeast, NoLeaf, NoLeafBetween};
+ghost use Rattle.gx_pool.specs.Marks.{NoLeaf, NoLeafBetween};
+ghost use Rattle.gx_pool.specs.Queues.{ArePlaced};
 
 use arrayvec::ArrayVec;
 use gx_page::Page;
@@ -55,6 +56,19 @@ pub(crate) fn place_in(places: &[Option<u16>], page: usize) -> Option<usize>
 {
     match places[page] {
         Some(i) => Some(usize::from(i)),
+        None => None,
+    }
+}
+
+/// The stamp of a page, none where it isn't kept or is clean.
+pub(crate) fn stamp_of(marks: &[FrameMark], places: &[Option<u16>], page: usize) -> Option<u64>
+    requires placed { ArePlaced marks.now places.now }
+    requires page { page < length places.now }
+    ensures { (i : ℕ) → slice_index_or places.now page None ≡ Some i
+        → result ≡ (slice_index_or marks.now i empty).stamp }
+{
+    match place_in(places, page) {
+        Some(i) => marks[i].stamp,
         None => None,
     }
 }
@@ -123,16 +137,6 @@ impl FrameMark {
         ensures { result ≡ is_gated gated self.now.stamp }
     {
         self.stamp.is_some_and(|stamp| stamp <= gated)
-    }
-
-    /// Its page, where it is dirty and all its changes are in gated batches.
-    pub(crate) fn writable(&self, gated: u64) -> Option<u32>
-        ensures { result ≡ writable gated self.now }
-    {
-        match self.stamp {
-            Some(stamp) if stamp <= gated => self.page,
-            _ => None,
-        }
     }
 }
 
@@ -256,20 +260,6 @@ pub(crate) fn set_mark(marks: &mut Vec<FrameMark>, i: usize, mark: FrameMark, di
     let is = mark.is_dirty();
     marks[i] = mark;
     dirty_after(dirty, was, is)
-}
-
-/// The least page that may be written.
-pub(crate) fn least_writable(marks: &[FrameMark], gated: u64) -> Option<u32>
-    ensures { IsLeast gated marks.now (length marks.now) result }
-{
-    let mut least: Option<u32> = None;
-    for mark in marks {
-        match mark.writable(gated) {
-            Some(page) if least.is_none_or(|other| page < other) => least = Some(page),
-            _ => {}
-        }
-    }
-    least
 }
 
 /// So many empty frames.

@@ -238,7 +238,7 @@ impl<T: PageTest> Pool<T> {
         ensures test { self.new.test ≡ self.old.test }
     {
         disk.write(first_sector(page), self.frames.page_in(i).image())?;
-        self.frames.stamp(i, None);
+        self.frames.stamp(i, page, None);
         Ok(true)
     }
 
