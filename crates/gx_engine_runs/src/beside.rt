@@ -11,7 +11,6 @@ use gx_geom::Refusal;
 use gx_machine::{Asked, Call, Entry, Reply, SESSIONS};
 use gx_plain::PlainIndex;
 use gx_plain_reader::Entry as PlainEntry;
-use std::alloc::Global;
 
 /// What a session's call is at.
 #[derive(Clone, Copy)]
@@ -79,19 +78,20 @@ fn plain_entry<K: Drawn>(entry: &Entry<K::Key>) -> PlainEntry {
 }
 
 impl<K: Drawn> Beside<K> {
-    /// An engine with nothing committed.
+    /// An engine with nothing committed, beside an index and sets with nothing in them.
     pub(crate) fn new(
-        alloc: Global,
         engine: Engine<FuseDisk<MemDisk>, K>,
-    ) -> Result<Self, RunFault> {
-        Ok(Beside {
+        plain: PlainIndex<K::Key>,
+        sets: Sets,
+    ) -> Self {
+        Beside {
             engine,
-            plain: PlainIndex::new(alloc)?,
-            sets: Sets::new(alloc)?,
+            plain,
+            sets,
             sessions: [At::Idle; SESSIONS],
             acknowledged: 0,
             counts: Counts::default(),
-        })
+        }
     }
 
     /// Gives the engine up for its device.

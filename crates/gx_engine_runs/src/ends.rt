@@ -6,13 +6,14 @@ use crate::counts::Counts;
 use crate::drawn::{draw_run, session_of};
 use crate::fault::RunFault;
 use crate::keys::Drawn;
+use crate::sets::Sets;
 use gx_disk::{Fuse, FuseDisk, MemDisk, SectorDisk, Torn};
-use gx_engine::NotOpened;
 use gx_engine_events::new_index;
 use gx_events::{Event, Outcome};
 use gx_format::sectors_for;
 use gx_geom::Refusal;
 use gx_machine::{Call, Reply, SESSIONS};
+use gx_plain::PlainIndex;
 use gx_plain_reader::{Reading, read};
 use rand_pcg::Pcg32;
 use std::alloc::{AllocError, Global};
@@ -171,66 +172,71 @@ fn refuses_all<K: Drawn>(beside: &mut Beside<K>) -> Result<(), RunFault> {
     Ok(())
 }
 
+/// Makes a random run up to its end, or to a call of the device that fails. Returns whether all were made.
+fn run_to_end<K: Drawn>(beside: &mut Beside<K>, setting: Setting) -> Result<bool, RunFault> {
+    let mut draw = Pcg32::new(setting.seed, 11);
+    if draw_run(beside, &mut draw, setting.steps)? && settle(beside)? {
+        return Ok(true);
+    }
+    refuses_all(beside)?;
+    Ok(false)
+}
+
 /// The device has the set of a commit, from the last that was acknowledged to the last that was sealed.
-fn judge<K: Drawn>(
+fn judge(
     alloc: Global,
-    beside: Beside<K>,
+    ended: &mut Ended,
+    class: u16,
     is_whole: bool,
-    left: Left,
-) -> Result<End, RunFault> {
-    let Ended {
-        mut disk,
-        sets,
-        sealed,
-        acknowledged,
-        counts,
-    } = beside.into_ended();
-    left.crash(&mut disk);
-    let found = read_back(alloc, &mut disk, K::CLASS)?;
-    if found.number < acknowledged || sealed < found.number {
+) -> Result<Option<End>, RunFault> {
+    let found = read_back(alloc, &mut ended.disk, class)?;
+    if found.number < ended.acknowledged || ended.sealed < found.number {
         return Err(RunFault::Number(found.number));
     }
-    sets.stands(found.number, &found.set)?;
-    Ok(End {
+    ended.sets.stands(found.number, &found.set)?;
+    Ok(Some(End {
         is_whole,
-        is_last: found.number == acknowledged,
-        counts,
-    })
+        is_last: found.number == ended.acknowledged,
+        counts: ended.counts,
+    }))
 }
 
 /// A new index on a new device, of which a call fails. `None` where it fails while the index is laid down.
-pub(crate) fn begin_run<K: Drawn>(
+fn begin_run<K: Drawn>(
     alloc: Global,
     setting: Setting,
     failing: Failing,
 ) -> Result<Option<Beside<K>>, RunFault> {
     let sectors = usize::try_from(sectors_for(PAGES)).unwrap_or(0);
+    let plain = PlainIndex::new(alloc)?;
+    let sets = Sets::new(alloc)?;
     let disk = MemDisk::new(alloc, sectors)?;
     let fused = FuseDisk::new(disk, failing.call, failing.fuse, failing.is_done);
     let Setting { most, frames, .. } = setting;
     match new_index::<FuseDisk<MemDisk>, K>(alloc, fused, PAGES, most, frames) {
-        Ok(events) => Ok(Some(Beside::new(alloc, events.into_inner())?)),
-        Err(
-            NotOpened {
-                why: Refusal::Device,
-                disk: _,
-            },
-        ) => Ok(None),
-        Err(refused) => Err(RunFault::NotBegun(refused.why)),
+        Ok(events) => Ok(Some(Beside::new(events.into_inner(), plain, sets))),
+        Err(refused) => match refused.why {
+            Refusal::Device => Ok(None),
+            why => Err(RunFault::NotBegun(why)),
+        },
     }
 }
 
-/// Makes a random run, on a new index, up to its end or to a call that fails, and reads what the device then has.
+/// Makes a random run of a class, on a new index, up to its end or to a call that fails, and reads what the device then
+/// has. `None` where a call fails while the index is laid down.
 pub(crate) fn make_run<K: Drawn>(
     alloc: Global,
-    mut beside: Beside<K>,
     setting: Setting,
-    left: Left,
-) -> Result<End, RunFault> {
-    let mut draw = Pcg32::new(setting.seed, 11);
-    let is_whole = draw_run(&mut beside, &mut draw, setting.steps)? && settle(&mut beside)?;
-    if !is_whole {
-        refuses_all(&mut beside)?;
+    failing: Failing,
+) -> Result<Option<End>, RunFault> {
+    let Some(mut beside) = begin_run::<K>(alloc, setting, failing)? else {
+        return Ok(None);
+    };
+    let went = run_to_end(&mut beside, setting);
+    let mut ended = beside.into_ended();
+    failing.left.crash(&mut ended.disk);
+    match went {
+        Ok(is_whole) => judge(alloc, &mut ended, K::CLASS, is_whole),
+        Err(fault) => Err(fault),
     }
-    judge(alloc, beside, is_whole, left)
 }

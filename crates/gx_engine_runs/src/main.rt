@@ -27,51 +27,34 @@ mod keys;
 mod lists;
 mod replies;
 mod sets;
+mod words;
 
-use ends::{End, Failing, Left, Setting, begin_run, make_run};
+use ends::{Failing, Left, Setting, make_run};
 use fault::RunFault;
 use gx_class::{Box2Class, IntervalClass};
 use gx_disk::Fuse;
-use lists::{Listed, begin_engine, number, take};
+use keys::Drawn;
+use lists::{Listed, begin_engine, take};
 use std::alloc::Global;
 use std::process::ExitCode;
-use std::str::SplitWhitespace;
+use words::{Line, Part, print_parts, to_u16, to_usize};
 
 /// How a line's runs are made.
-fn setting(words: &mut SplitWhitespace<'_>) -> Result<Setting, RunFault> {
-    Ok(Setting {
-        seed: number(words)?,
-        steps: number(words)?,
-        most: u16::try_from(number(words)?).ok().ok_or(RunFault::BadLine)?,
-        frames: usize::try_from(number(words)?).unwrap_or(0),
-    })
-}
-
-/// A run of boxes. `None` where a call fails while the index is laid down.
-fn run_boxes(alloc: Global, setting: Setting, failing: Failing) -> Result<Option<End>, RunFault> {
-    match begin_run::<Box2Class>(alloc, setting, failing)? {
-        Some(beside) => Ok(Some(make_run(alloc, beside, setting, failing.left)?)),
-        None => Ok(None),
+fn setting(line: &Line<'_>) -> Setting {
+    let [seed, steps, most, frames, ..] = line.numbers;
+    Setting {
+        seed,
+        steps,
+        most: to_u16(most),
+        frames: to_usize(frames),
     }
 }
 
-/// A run of intervals.
-fn run_intervals(
-    alloc: Global,
-    setting: Setting,
-    failing: Failing,
-) -> Result<Option<End>, RunFault> {
-    match begin_run::<IntervalClass>(alloc, setting, failing)? {
-        Some(beside) => Ok(Some(make_run(alloc, beside, setting, failing.left)?)),
-        None => Ok(None),
-    }
-}
-
-/// Prints how a run over a device that never fails has ended.
-fn print_whole<R: Print>(rt: &R, end: Option<End>) -> Result<(), RunFault> {
-    match end {
+/// Makes a run of a class over a device that never fails, and prints how it has ended.
+fn run_whole<R: Print, K: Drawn>(rt: &R, alloc: Global, setting: Setting) -> Result<(), RunFault> {
+    match make_run::<K>(alloc, setting, Failing::never())? {
         Some(end) if end.is_whole && end.is_last => {
-            print!(rt; "agrees")?;
+            print_parts(rt, &[Part::Text(" agrees")])?;
             end.counts.print(rt)
         }
         _ => Err(RunFault::Event),
@@ -87,15 +70,15 @@ struct Endings {
     later: u64,
 }
 
-/// Makes a run of which a call of the device fails.
-fn run_failing(
+/// Makes a run of boxes of which a call of the device fails.
+fn run_at(
     alloc: Global,
     setting: Setting,
     failing: Failing,
     ends: &mut Endings,
 ) -> Result<(), RunFault> {
     ends.runs = ends.runs.saturating_add(1);
-    let Some(end) = run_boxes(alloc, setting, failing)? else {
+    let Some(end) = make_run::<Box2Class>(alloc, setting, failing)? else {
         return Ok(());
     };
     if end.is_whole {
@@ -133,35 +116,44 @@ fn runs_at(
                 is_done,
                 left: *left,
             };
-            run_failing(alloc, setting, failing, ends)?;
+            run_at(alloc, setting, failing, ends)?;
         }
     }
     Ok(())
 }
 
-/// Makes the runs in which calls of the device fail, and prints how they ended.
-fn run_calls<R: Print>(
-    rt: &R,
-    alloc: Global,
-    words: &mut SplitWhitespace<'_>,
-    stops: bool,
-) -> Result<(), RunFault> {
-    let setting = setting(words)?;
-    let mut call = number(words)?;
-    let stride = number(words)?;
+/// Makes the runs in which calls of the device fail: so many, from a first one on by a stride.
+fn make_failing(alloc: Global, line: &Line<'_>, stops: bool) -> Result<Endings, RunFault> {
+    let [_, _, _, _, mut call, stride, calls] = line.numbers;
     let mut ends = Endings::default();
-    for _call in 0..number(words)? {
-        runs_at(alloc, setting, call, stops, &mut ends)?;
+    for _call in 0..calls {
+        runs_at(alloc, setting(line), call, stops, &mut ends)?;
         call = call.saturating_add(stride);
     }
-    let Endings {
-        runs,
-        whole,
-        last,
-        later,
-    } = ends;
-    print!(rt; "{runs} runs, {whole} not stopped; {last} with the last, {later} with a later one")?;
-    Ok(())
+    Ok(ends)
+}
+
+/// Makes the runs in which calls of the device fail, and prints how they ended.
+fn run_failing<R: Print>(
+    rt: &R,
+    alloc: Global,
+    line: &Line<'_>,
+    stops: bool,
+) -> Result<(), RunFault> {
+    let ends = make_failing(alloc, line, stops)?;
+    print_parts(
+        rt,
+        &[
+            Part::Number(ends.runs),
+            Part::Text(" runs,"),
+            Part::Number(ends.whole),
+            Part::Text(" not stopped;"),
+            Part::Number(ends.last),
+            Part::Text(" with the last,"),
+            Part::Number(ends.later),
+            Part::Text(" with a later one"),
+        ],
+    )
 }
 
 /// Makes what a line says.
@@ -169,25 +161,17 @@ fn make_line<R: Print>(
     rt: &R,
     alloc: Global,
     listed: &mut Option<Listed>,
-    line: &str,
+    line: &Line<'_>,
 ) -> Result<(), RunFault> {
-    let mut words = line.split_whitespace();
-    match words.next() {
-        Some("index") => {
-            *listed = Some(begin_engine(alloc, &mut words)?);
-            print!(rt; "begun")?;
-            Ok(())
+    match line.name {
+        "index" => {
+            *listed = Some(begin_engine(alloc, line)?);
+            print_parts(rt, &[Part::Text(" begun")])
         }
-        Some("boxes") => {
-            let setting = setting(&mut words)?;
-            print_whole(rt, run_boxes(alloc, setting, Failing::never())?)
-        }
-        Some("intervals") => {
-            let setting = setting(&mut words)?;
-            print_whole(rt, run_intervals(alloc, setting, Failing::never())?)
-        }
-        Some("fails") => run_calls(rt, alloc, &mut words, false),
-        Some("stops") => run_calls(rt, alloc, &mut words, true),
+        "boxes" => run_whole::<R, Box2Class>(rt, alloc, setting(line)),
+        "intervals" => run_whole::<R, IntervalClass>(rt, alloc, setting(line)),
+        "fails" => run_failing(rt, alloc, line, false),
+        "stops" => run_failing(rt, alloc, line, true),
         _ => match listed {
             Some(engine) => take(rt, engine, line),
             None => Err(RunFault::BadLine),
@@ -195,29 +179,31 @@ fn make_line<R: Print>(
     }
 }
 
+/// Prints a line, and behind it what it comes to.
+fn take_line(rt: &HostRuntime, listed: &mut Option<Listed>, line: &str) -> Result<(), RunFault> {
+    print_parts(rt, &[Part::Text(line)])?;
+    if !matches!(line.as_bytes(), [] | [b'#', ..]) {
+        print_parts(rt, &[Part::Text(":")])?;
+        make_line(rt, rt.alloc(), listed, &Line::read(line))?;
+    }
+    print_parts(rt, &[Part::Text("\n")])
+}
+
 /// Takes each line of the input.
-fn take_lines(rt: &HostRuntime) -> Result<(), RunFault> {
-    let mut listed = None;
+fn take_lines(rt: &HostRuntime, listed: &mut Option<Listed>) -> Result<(), RunFault> {
     for line in rt.lines(rt.alloc()) {
-        let line = line?;
-        match line.as_bytes() {
-            [] | [b'#', ..] => println!(rt; "{}", line.as_str())?,
-            _ => {
-                print!(rt; "{}: ", line.as_str())?;
-                make_line(rt, rt.alloc(), &mut listed, line.as_str())?;
-                println!(rt)?;
-            }
-        }
+        take_line(rt, listed, line?.as_str())?;
     }
     Ok(())
 }
 
 fn main(rt: HostRuntime) -> ExitCode {
-    match take_lines(&rt) {
+    let mut listed = None;
+    match take_lines(&rt, &mut listed) {
         Ok(()) => ExitCode::from(0),
         Err(fault) => {
             let (what, number) = fault.text_and_number();
-            let _ = println!(rt; "{what} {number}");
+            let _ = println!(rt; " {what} {number}");
             ExitCode::from(1)
         }
     }

@@ -1,5 +1,6 @@
 //! Commands over devices in memory: the status, what is written, what is read, and whether the user gets a message.
 
+use crate::asserts::{got, holds};
 use gx_class::Box2Class;
 use gx_commands::{Noted, dump_over, format_over, run_over};
 use gx_disk::{DiskFault, Fuse, FuseDisk, MemDisk, SectorDisk};
@@ -137,16 +138,13 @@ fn fresh(alloc: Global) -> Option<MemDisk> {
 // A script over this device is done, and gives these replies. Returns the device.
 fn gives<T: Abort + AllocGlobal>(rt: &T, disk: MemDisk, script: &[u8], replies: &[u8]) -> MemDisk {
     let (disk, ended) = run(rt.alloc(), disk, 16, script);
-    assert!(rt; ended.is(0, replies));
+    holds(rt, ended.is(0, replies));
     disk
 }
 
 #[test]
 fn commits_are_found_again(rt: HostRuntime) {
-    let Some(disk) = fresh(rt.alloc()) else {
-        assert!(rt; false);
-        return;
-    };
+    let disk = got(&rt, fresh(rt.alloc()));
     let disk = gives(
         &rt,
         disk,
@@ -187,7 +185,7 @@ fn reads<T: Abort + AllocGlobal>(
     script: &[u8],
 ) -> (MemDisk, usize) {
     let (counted, ended) = run(rt.alloc(), Counted { disk, reads: 0 }, frames, script);
-    assert!(rt; ended.status == 0);
+    holds(rt, ended.status == 0);
     (counted.disk, counted.reads)
 }
 
@@ -195,12 +193,10 @@ fn reads<T: Abort + AllocGlobal>(
 // don't.
 #[test]
 fn frames_are_as_many_as_asked_for(rt: HostRuntime) {
-    let (Ok(mut disk), Ok(rows)) = (MemDisk::new(rt.alloc(), 4168 + 8 * 64), rows(rt.alloc()))
-    else {
-        assert!(rt; false);
-        return;
-    };
-    assert!(rt; format(rt.alloc(), &mut disk, 64, 4).is(0, b"formatted pages 64 fanout 4\n"));
+    let rows = got(&rt, rows(rt.alloc()).ok());
+    let mut disk = got(&rt, MemDisk::new(rt.alloc(), 4168 + 8 * 64).ok());
+    let formatted = format(rt.alloc(), &mut disk, 64, 4);
+    holds(&rt, formatted.is(0, b"formatted pages 64 fanout 4\n"));
     let (disk, _) = reads(&rt, disk, 16, rows.as_slice());
     // (from here on an opening finds one body in the log)
     let (disk, _) = reads(&rt, disk, 16, b"");
@@ -210,7 +206,7 @@ fn frames_are_as_many_as_asked_for(rt: HostRuntime) {
     let (disk, many_twice) = reads(&rt, disk, 64, twice);
     let (disk, few_once) = reads(&rt, disk, 16, once);
     let (_, few_twice) = reads(&rt, disk, 16, twice);
-    assert!(rt; many_twice == many_once && few_once < few_twice);
+    holds(&rt, many_twice == many_once && few_once < few_twice);
 }
 
 #[test]
@@ -221,23 +217,18 @@ fn refusals(rt: HostRuntime) {
         (SECTORS, b"refused 14 not formatted\n".as_slice()),
         (4000, b"refused 17 too small\n".as_slice()),
     ] {
-        let Ok(disk) = MemDisk::new(alloc, sectors) else {
-            assert!(rt; false);
-            return;
-        };
+        let disk = got(&rt, MemDisk::new(alloc, sectors).ok());
         let (_, ended) = run(alloc, disk, 16, script);
-        assert!(rt; ended.is(1, line) && ended.left == script.len());
+        holds(&rt, ended.is(1, line) && ended.left == script.len());
     }
-    let Ok(mut disk) = MemDisk::new(alloc, SECTORS) else {
-        assert!(rt; false);
-        return;
-    };
+    let mut disk = got(&rt, MemDisk::new(alloc, SECTORS).ok());
     for (pages, most, line) in [
         (7, 4, b"refused 18 bad parameter\n".as_slice()),
         (16, 3, b"refused 18 bad parameter\n".as_slice()),
         (17, 4, b"refused 17 too small\n".as_slice()),
     ] {
-        assert!(rt; format(alloc, &mut disk, pages, most).is(1, line));
+        let ended = format(alloc, &mut disk, pages, most);
+        holds(&rt, ended.is(1, line));
     }
 }
 
@@ -245,10 +236,7 @@ fn refusals(rt: HostRuntime) {
 // nothing for the script behind them.
 #[test]
 fn trees_are_told(rt: HostRuntime) {
-    let Some(disk) = fresh(rt.alloc()) else {
-        assert!(rt; false);
-        return;
-    };
+    let disk = got(&rt, fresh(rt.alloc()));
     let disk = gives(
         &rt,
         disk,
@@ -259,7 +247,7 @@ fn trees_are_told(rt: HostRuntime) {
         b"commits 1 used 2 counter 0\npage 1 level 1 nsn 0 right 0 count 1\nchild 2 0 0 10 10\npage 2 level 0 nsn 0 right 0 count 2\nentry 7 0 0 10 10 live\nentry 8 5 5 6 6 marked\n";
     let (disk, first) = dump(rt.alloc(), disk);
     let (disk, second) = dump(rt.alloc(), disk);
-    assert!(rt; first.is(0, text) && second.is(0, text));
+    holds(&rt, first.is(0, text) && second.is(0, text));
     gives(
         &rt,
         disk,
@@ -271,13 +259,10 @@ fn trees_are_told(rt: HostRuntime) {
 // A writer without room ends a dump, as does a device that isn't formatted.
 #[test]
 fn dumps_that_end_early(rt: HostRuntime) {
-    let (Some(disk), Ok(unformatted)) = (fresh(rt.alloc()), MemDisk::new(rt.alloc(), SECTORS))
-    else {
-        assert!(rt; false);
-        return;
-    };
+    let unformatted = got(&rt, MemDisk::new(rt.alloc(), SECTORS).ok());
     let (_, refused) = dump(rt.alloc(), unformatted);
-    assert!(rt; refused.is(1, b"refused 14 not formatted\n"));
+    holds(&rt, refused.is(1, b"refused 14 not formatted\n"));
+    let disk = got(&rt, fresh(rt.alloc()));
     let mut room = [0u8; 20];
     let mut told = [0u8; 1];
     let mut writer = Noted::new(room.as_mut_slice());
@@ -289,7 +274,10 @@ fn dumps_that_end_early(rt: HostRuntime) {
         &mut writer,
         &mut faults,
     );
-    assert!(rt; status == 1 && &room == b"commits 0 used 2 cou" && told != [0]);
+    holds(
+        &rt,
+        status == 1 && &room == b"commits 0 used 2 cou" && told != [0],
+    );
 }
 
 // How a script over a device that fails may end, by where it first fails: in the opening, the insert, the commit, and
@@ -308,25 +296,15 @@ fn devices_that_fail(rt: HostRuntime) {
     let script = b"1 BEGIN\n1 INSERT 7 0 0 9 9\n1 COMMIT\n1 BEGIN\n1 INSERT 8 0 0 9 9\n".as_slice();
     let mut last = 0usize;
     for passed in 0..200 {
-        let Some(disk) = fresh(rt.alloc()) else {
-            assert!(rt; false);
-            return;
-        };
-        let (_, ended) = run(
-            rt.alloc(),
-            FuseDisk::new(disk, passed, Fuse::ForEver, false),
-            16,
-            script,
-        );
+        let disk = got(&rt, fresh(rt.alloc()));
+        let disk = FuseDisk::new(disk, passed, Fuse::ForEver, false);
+        let (_, ended) = run(rt.alloc(), disk, 16, script);
         if ended.is(0, b"1 ok\n1 inserted\n1 committed 1\n1 ok\n1 inserted\n") {
             break;
         }
-        let Some(place) = ENDS.iter().position(|end| ended.is(1, end)) else {
-            assert!(rt; false);
-            return;
-        };
-        assert!(rt; last <= place && place.saturating_sub(last) <= 1);
+        let place = got(&rt, ENDS.iter().position(|end| ended.is(1, end)));
+        holds(&rt, last <= place && place.saturating_sub(last) <= 1);
         last = place;
     }
-    assert!(rt; last == 3);
+    holds(&rt, last == 3);
 }

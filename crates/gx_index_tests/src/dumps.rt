@@ -1,22 +1,29 @@
 //! Dumps of trees on devices in memory, which are opened again before.
+use crate::asserts::holds;
 use crate::devices::{fresh, index_over};
+use gx_class::Box2Class;
 use gx_disk::MemDisk;
-use gx_restart::{DumpFault, Noted, run_script};
+use gx_restart::{DumpFault, Index, Noted, run_script};
 use std::alloc::Global;
 use std::process::Abort;
+
+/// Whether a script ran to its end over an index, and all was gated.
+pub(crate) fn writes(index: &mut Index<MemDisk, Box2Class>, script: &[u8]) -> bool {
+    let mut replies = [0u8; 1024];
+    let ran = run_script(
+        &mut Noted::new(script),
+        &mut Noted::new(replies.as_mut_slice()),
+        index,
+    );
+    ran.is_ok() && index.settle().is_ok()
+}
 
 /// A device on which a script ran to its end over a new index, and all was gated.
 pub(crate) fn written(alloc: Global, script: &[u8]) -> Option<MemDisk> {
     let mut index = fresh(alloc)?;
-    let mut replies = [0u8; 1024];
-    run_script(
-        &mut Noted::new(script),
-        &mut Noted::new(replies.as_mut_slice()),
-        &mut index,
-    )
-    .ok()?;
-    index.settle().ok()?;
-    Some(index.into_engine().into_disk())
+    let is_written = writes(&mut index, script);
+    let disk = index.into_engine().into_disk();
+    if is_written { Some(disk) } else { None }
 }
 
 // Writes its dump once it is opened again over these bytes: with what end.
@@ -30,8 +37,11 @@ fn dump_opened(alloc: Global, script: &[u8], text: &mut [u8]) -> Option<Result<(
 fn leaves<T: Abort + AllocGlobal>(rt: &T, script: &[u8], expected: &[u8]) {
     let mut text = [0u8; 1024];
     let end = dump_opened(rt.alloc(), script, text.as_mut_slice());
-    assert!(rt; end == Some(Ok(())));
-    assert!(rt; text.starts_with(expected) && text.get(expected.len()) == Some(&0));
+    holds(rt, end == Some(Ok(())));
+    holds(
+        rt,
+        text.starts_with(expected) && text.get(expected.len()) == Some(&0),
+    );
 }
 
 /// A transaction that splits a leaf, and is aborted.
@@ -77,6 +87,6 @@ fn grown(rt: HostRuntime) {
 fn cut(rt: HostRuntime) {
     let mut text = [0u8; 20];
     let end = dump_opened(rt.alloc(), ABORTED, text.as_mut_slice());
-    assert!(rt; end == Some(Err(DumpFault::Write)));
-    assert!(rt; &text == b"commits 0 used 3 cou");
+    holds(&rt, end == Some(Err(DumpFault::Write)));
+    holds(&rt, &text == b"commits 0 used 3 cou");
 }

@@ -1,4 +1,5 @@
 //! An index of which no page is left: inserts are refused, and deletes go on.
+use crate::asserts::holds;
 use crate::devices::fresh;
 use gx_class::Box2Class;
 use gx_disk::MemDisk;
@@ -50,5 +51,5 @@ fn deletes(alloc: Global) -> Option<bool> {
 
 #[test]
 fn deletes_go_on(rt: HostRuntime) {
-    assert!(rt; deletes(rt.alloc()) == Some(true));
+    holds(&rt, deletes(rt.alloc()) == Some(true));
 }

@@ -3,6 +3,8 @@
 #![tactic(auto)]
 
 #[cfg(test)]
+mod asserts;
+#[cfg(test)]
 mod device_commands;
 #[cfg(test)]
 mod devices;
@@ -30,6 +32,8 @@ mod records;
 mod scripts;
 #[cfg(test)]
 mod sessions;
+#[cfg(test)]
+mod space;
 #[cfg(test)]
 mod stores;
 #[cfg(test)]

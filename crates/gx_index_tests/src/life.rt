@@ -5,6 +5,7 @@
 //! `MemDisk`, which comes up under a new fuse.
 mod beside;
 
+use crate::asserts::holds;
 use beside::{Device, EVENTS, Plain, Working, call, interleave, make, work};
 use gx_class::Box2Class;
 use gx_disk::{Fuse, FuseDisk, MemDisk, SectorDisk, Torn};
@@ -266,6 +267,6 @@ fn lives(alloc: Global, torn: Torn, first: u8, cuts: [u64; 2]) -> Option<()> {
 // So a crash that takes the selector's write back leaves a log of many batches, and one that leaves it just their head.
 #[test]
 fn a_life_is_one_run(rt: HostRuntime) {
-    assert!(rt; lives(rt.alloc(), Torn::Old, 0x5A, [60, 80]).is_some());
-    assert!(rt; lives(rt.alloc(), Torn::New, 0, [20, 40]).is_some());
+    holds(&rt, lives(rt.alloc(), Torn::Old, 0x5A, [60, 80]).is_some());
+    holds(&rt, lives(rt.alloc(), Torn::New, 0, [20, 40]).is_some());
 }

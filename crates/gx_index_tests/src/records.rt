@@ -1,4 +1,5 @@
 //! What two commits log: of a leaf its image first, and then the change alone.
+use crate::asserts::holds;
 use crate::devices::fresh;
 use gx_class::Box2Class;
 use gx_disk::{MemDisk, SectorDisk};
@@ -53,5 +54,5 @@ fn logged(alloc: Global) -> Option<[u32; 2]> {
 
 #[test]
 fn a_leaf_is_imaged_once(rt: HostRuntime) {
-    assert!(rt; logged(rt.alloc()) == Some(LENGTHS));
+    holds(&rt, logged(rt.alloc()) == Some(LENGTHS));
 }
