@@ -72,7 +72,7 @@ def is_path(text):
 
 
 def has_path(text):
-    """Whether there is such a file; a part in capitals stands for any name."""
+    """Whether there is such a file; a part in capitals means any name."""
     text = "/".join("*" if re.fullmatch(r"[A-Z]+", part) else part for part in text.strip("/").split("/"))
     folders = ("", "docs/", "bench/", "trials/", "prices/", "tools/", ".ci/", "crates/", "crates/*/", "crates/*/src/", "crates/*/specs/", "crates/*/proofs/")
     return any(next(TOP.glob(folder + text + end), None) for folder in folders for end in ("", ".rt", ".antt"))
@@ -103,7 +103,7 @@ def wrong(span, known):
 
 
 def behind_crates(text):
-    """Names that stand straight behind a crate's: `gx_tree` `split`, `descent`."""
+    """Names directly behind a crate's: `gx_tree` `split`, `descent`."""
     for run in re.finditer(r"`(gx_\w+)`((?: `[a-z0-9_/]+`)(?:,? (?:and )?`[a-z0-9_/]+`)*)", text):
         for name in re.findall(r"`([^`]+)`", run[2]):
             if name.startswith("gx_"):
@@ -112,7 +112,7 @@ def behind_crates(text):
 
 
 def clauses(text):
-    """Clauses that stand behind a call: `gx_x::f` (`a`, `b`)."""
+    """Clauses behind a call: `gx_x::f` (`a`, `b`)."""
     for run in re.finditer(r"`(gx_\w+)::[^`]+`(?:,? `(?!gx_)[^`]+`)* \(((?:`[a-z_]+`,? ?(?:and )?)+)", text):
         for name in re.findall(r"`([^`]+)`", run[2]):
             yield run[1], name
@@ -124,7 +124,7 @@ def has_clause(crate, name):
 
 
 def dates(text):
-    """Dates that stand elsewhere than in the line of when something was measured."""
+    """Dates outside of the line that says when something was measured."""
     for line in text.splitlines():
         found = re.search(r"\b20\d\d-\d\d-\d\d\b|\b[A-Z][a-z]+ 20\d\d\b", line)
         if found and "easured on" not in line:

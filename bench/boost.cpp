@@ -1,13 +1,14 @@
-// Boost's R-tree (quadratic split, at most 100 entries a node and at least 40) over the boxes and windows of tree.c.
-// The words are what is asked and how often: `inserts`, so many boxes in a new tree; `queries`, so many windows looked for in
-// a tree of a hundred thousand boxes, each with a vector of its own for what is found; `kept`, the same with one vector for
-// all. It prints how many boxes there are, or the sum of what was found, which is the one that tree.c prints.
+// Boost's R-tree (quadratic split, at most 100 entries a node and at least 40) over the boxes and windows of gx_bench_runs:
+// those of tree.c, or with -DDIMENSIONS=3 those of space.
+// The arguments are what is asked and how often: `inserts`, so many boxes in a new tree; `queries`, so many windows looked for in
+// a tree of a hundred thousand boxes, each with a separate vector for what is found; `kept`, the same with one vector for
+// all. It prints how many boxes there are, or the sum of what was found, which is the one that gx_bench_runs prints.
 #include "boost_tree.hpp"
 #include <cstdio>
 #include <cstdlib>
 #include <cstring>
 
-constexpr std::int32_t PLANE = 1048576, SIDE = 1024, WINDOW = 10000;
+constexpr std::int32_t PLANE = 1048576, SIDE = 1024, WINDOW = DIMENSIONS == 3 ? 48000 : 10000;
 constexpr std::uint64_t BOXES = 100000;
 
 static std::int32_t draw(std::uint64_t &state, std::int32_t below) {
@@ -15,14 +16,31 @@ static std::int32_t draw(std::uint64_t &state, std::int32_t below) {
     return static_cast<std::int32_t>((state >> 32) % static_cast<std::uint64_t>(below));
 }
 
+// Numbers along each axis, as a point.
+static Point point(const std::int32_t *at) {
+#if DIMENSIONS == 3
+    return Point(at[0], at[1], at[2]);
+#else
+    return Point(at[0], at[1]);
+#endif
+}
+
 static Box draw_box(std::uint64_t &state) {
-    std::int32_t x = draw(state, PLANE), y = draw(state, PLANE), wide = draw(state, SIDE), high = draw(state, SIDE);
-    return Box(Point(x, y), Point(x + wide, y + high));
+    std::int32_t low[DIMENSIONS], high[DIMENSIONS];
+    for (std::int32_t &at : low)
+        at = draw(state, PLANE);
+    for (int axis = 0; axis < DIMENSIONS; axis++)
+        high[axis] = low[axis] + draw(state, SIDE);
+    return Box(point(low), point(high));
 }
 
 static Box draw_window(std::uint64_t &state) {
-    std::int32_t x = draw(state, PLANE), y = draw(state, PLANE);
-    return Box(Point(x, y), Point(x + WINDOW, y + WINDOW));
+    std::int32_t low[DIMENSIONS], high[DIMENSIONS];
+    for (int axis = 0; axis < DIMENSIONS; axis++) {
+        low[axis] = draw(state, PLANE);
+        high[axis] = low[axis] + WINDOW;
+    }
+    return Box(point(low), point(high));
 }
 
 static Tree build(std::uint64_t boxes) {

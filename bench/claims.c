@@ -1,5 +1,5 @@
 // The claims and predicates of eight sessions in plain C, beside the proved ones of gx_txn. It makes the same asks of
-// full tables as the program gx_bench_runs and prints the same sum of answers. The words are what is asked, and how
+// full tables as the program gx_bench_runs and prints the same sum of answers. The arguments are what is asked, and how
 // often.
 #include <stdbool.h>
 #include <stdint.h>

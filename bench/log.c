@@ -1,5 +1,5 @@
 // The device calls of a log's batches alone, beside the proved log of gx_bench_runs: a body of 32,768 bytes, a sync, a gate of
-// 512 bytes, a sync, over the same places of a file. The word is how many times 32 batches are written.
+// 512 bytes, a sync, over the same places of a file. The argument is how many times 32 batches are written.
 #define _GNU_SOURCE
 #include <fcntl.h>
 #include <stdint.h>

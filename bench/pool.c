@@ -1,4 +1,4 @@
-// Looks at pages of a file through frames in plain C, beside the proved pool of gx_bench_runs. The words are `hits`, where
+// Looks at pages of a file through frames in plain C, beside the proved pool of gx_bench_runs. The arguments are `hits`, where
 // each page is in a frame, or `misses`, where few are, and how often. It prints a sum of what the pages say.
 // A page that comes in is tested as the proved pool tests it: the whole image, its own number, and that it is a leaf.
 #include <fcntl.h>
@@ -17,7 +17,7 @@ typedef struct {
     bool dirty;
 } Mark;
 
-static uint8_t *frames[KEPT]; // each a block of its own, as the proved pool has them
+static uint8_t *frames[KEPT]; // each a separate block, as the proved pool has them
 static Mark *marks;
 static uint16_t places[65537];
 static uint8_t buffer[PAGE];

@@ -1,9 +1,9 @@
 #!/bin/sh
-# Times what an opening reads: a file with a tree of so many drawn boxes and a log that has as many pages as a log can have, the
-# first ones, is made, and opened so far as the parts of an opening stand (the log read, its pages laid, the tree tested over 16
-# frames), beside `PRAGMA integrity_check` and `rtreecheck` of SQLite's R*Tree of as many boxes drawn alike, on a file too. Times
+# Times what an opening reads: a file with a tree of so many random boxes and a log that has as many pages as a log can have, the
+# first ones, is made, and the parts of an opening are made (the log read, its pages laid, the tree tested over 16
+# frames), beside `PRAGMA integrity_check` and `rtreecheck` of SQLite's R*Tree of as many random boxes, on a file too. Times
 # are processor time, the system's too, and the files are in the system's cache. The arguments, if there are any, are how many
-# boxes, how many rounds, and the path of `gx_damage_runs`; else that is proved and built as it stands here. SQLITE names another
+# boxes, how many rounds, and the path of `gx_damage_runs`; else that of this checkout is proved and built. SQLITE names another
 # `sqlite3`.
 set -eu
 top=$(cd "$(dirname "$0")/.." && pwd)

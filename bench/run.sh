@@ -1,6 +1,6 @@
 #!/usr/bin/env bash
-# Times `gist run` over a file: inserts in transactions of a hundred, in drawn order and in order along the plane (in strips by x, in each by
-# y); overlap queries of some ten hits; inserts each with its commit; and deletes of drawn rows in transactions of a hundred; beside the
+# Times `gist run` over a file: inserts in transactions of a hundred, in random order and in order along the plane (in strips by x, in each by
+# y); overlap queries of some ten hits; inserts each with its commit; and deletes of random rows in transactions of a hundred; beside the
 # same script done by SQLite's R*Tree (write-ahead log, full sync), and beside a C program that makes the same writes and syncs and nothing
 # else. Queries are asked in transactions of sixteen, which are aborted, so that no commit is synced. Of each load it says what the device
 # was asked for: bytes and syncs an insert.
@@ -8,7 +8,7 @@
 #   bench/run.sh [INSERTS QUERIES SINGLES [PROGRAM]]
 #
 # The counts are 100000, 100000 and 10000 where they aren't given; SINGLES is also how many rows are deleted. With SLOW=1 each sync of a file
-# takes a millisecond more. Without PROGRAM the one that stands here is proved and built. FRAMES
+# takes a millisecond more. Without PROGRAM the one of this checkout is proved and built. FRAMES
 # (4096) names the frames, FOLDER (/tmp) where the files lie. Needs libsqlite3-dev and strace.
 set -euo pipefail
 top="$(cd "$(dirname "${BASH_SOURCE[0]}")/.." && pwd)"

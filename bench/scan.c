@@ -19,7 +19,7 @@ typedef struct {
     uint8_t image[PAGE];
 } Sent;
 
-// The proved functions: false where memory lacks, or an image is no leaf or no inner node.
+// The proved functions: false if memory is refused, or an image is no leaf or no inner node.
 bool gx_bench_scan(const Sent *pages, size_t page_count, const Box *queries, size_t query_count, size_t *counts, size_t count_count);
 bool gx_bench_choose(const Sent *page, uint32_t used, const Box *keys, size_t key_count, size_t *slots, size_t slot_count);
 

@@ -1,8 +1,8 @@
 #!/usr/bin/env bash
-# Times a search that finds much: drawn boxes are inserted in an index in a file, and one search finds all of them. What it prints is
+# Times a search that finds much: random boxes are inserted in an index in a file, and one search finds all of them. What it prints is
 # compared with the boxes, by row. Times are processor time, the system's too, of a run of `gist run` with that search, without what a
 # run takes whose search finds nothing: the median of the rounds, with as many frames as there may be. The arguments, if there are any,
-# are the path of the program, how many rounds, and how many boxes each index has; else the program is proved and built as it stands here.
+# are the path of the program, how many rounds, and how many boxes each index has; else the program of this checkout is proved and built.
 set -euo pipefail
 top="$(cd "$(dirname "${BASH_SOURCE[0]}")/.." && pwd)"
 program="${1:-}"

@@ -2,9 +2,9 @@
 # Times sessions in threads over one index: for 1, 2, 4 and 8 threads as many transactions in all, of six calls each
 # (begin, three inserts, a search, a commit). First on a device in memory, then, a tenth as many, over a file; each time
 # an index is made, opened, shared, settled and opened again. Prints the calls a second, from the best of nine runs less
-# that of nine with no transaction, all in turn; and, where perf is there, what share of the time the lock is held.
+# that of nine with no transaction, all in turn; and, if perf is installed, what share of the time the lock is held.
 #
-# Then commits of one insert each in strips of their own, over the file, and of a search and an insert: how many a
+# Then commits of one insert each in separate strips, over the file, and of a search and an insert: how many a
 # second, with the syncs and bytes of each, beside SQLite's R*Tree (write-ahead log, full sync) and PostgreSQL's GiST with
 # a connection a thread; medians of ROUNDS (5), all in turn. A peer that isn't installed is left out; Debian's packages
 # are libsqlite3-dev, and postgresql with libpq-dev.
@@ -16,7 +16,7 @@
 #   bench/threads.sh [TRANSACTIONS [FOLDER [PROGRAM]]]
 #
 # TRANSACTIONS is how many there are in memory, up to 5,000: a record has room for no more. FOLDER is on the file system
-# to be measured, and without PROGRAM the one that stands here is proved and built. ONLY=commits leaves out the first
+# to be measured, and without PROGRAM the one of this checkout is proved and built. ONLY=commits leaves out the first
 # part. With SLOW=1 each sync of a file takes a millisecond more, SQLite's and PostgreSQL's too.
 set -euo pipefail
 top="$(cd "$(dirname "${BASH_SOURCE[0]}")/.." && pwd)"

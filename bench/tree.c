@@ -1,5 +1,5 @@
 // A tree of boxes in plain C, beside the proved steps of gx_bench_runs: the same rules over the same pages of 4,096 bytes.
-// The words are what is asked and how often: `inserts`, so many boxes in a new tree; `pages`, the same, and a sum of all
+// The arguments are what is asked and how often: `inserts`, so many boxes in a new tree; `pages`, the same, and a sum of all
 // pages' bytes; `queries`, so many windows looked for in a tree of a hundred thousand boxes; `marks`, so many of its pairs
 // looked for and marked. It prints a sum of what was done.
 // Nobody else is at work, but each page that is read is tested as if: whether it is taken, and whether it was split since
@@ -195,7 +195,7 @@ static void append_pair(uint8_t *page, const Entry *entry) {
     item[KEY + 8] = 0;
 }
 
-// Leaves the items of one side; all other bytes are zero then, as they are on a page that never had more.
+// Leaves the items of one side; all other bytes are zero then, as on a page that never had more.
 static void keep_side(uint8_t *page, const bool *sides, bool side) {
     uint32_t size = size_in(page), count = count_of(page), kept = 0;
     for (uint32_t slot = 0; slot < count; slot++)
@@ -488,7 +488,7 @@ static void gather(const uint8_t *page, uint32_t leaf, const Wanted *wanted) {
     }
 }
 
-// Stacks the children below which something wanted may stand, and says how many items the stack has then.
+// Stacks the children below which something wanted may be, and returns how many items the stack has then.
 static size_t descend(const uint8_t *page, const Wanted *wanted, size_t depth) {
     const uint8_t *item = page + PAGE;
     Box box = wanted->box;

@@ -1,11 +1,11 @@
 #!/usr/bin/env python3
-"""Times the edits of a crate, one after the other, each over a copy of what a check of the crate as it stands keeps.
+"""Times the edits of a crate, one after the other, each over a copy of what a check of the unchanged crate keeps.
 
     prices/edit_times.py CRATE [EDIT..]
 
 One line an edit: its status (1 where it is refused), its processor seconds, and by the clock the stages that took a second
 or more: front-end reads the crate and its libraries, session proves, offers writes answers for each goal that is left open.
-Below it stands the first error, or which goals had no answer. `rt check` in the crate's folder builds its libraries first."""
+Below it is the first error, or which goals had no answer. `rt check` in the crate's folder builds its libraries first."""
 import glob
 import os
 import re

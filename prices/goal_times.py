@@ -4,8 +4,8 @@
     prices/goal_times.py CRATE FUNCTION..
 
 A line for each goal that takes one of the two more than half a second, and one for each function with the sum of its
-searches. Each goal's proof by each tactic stands in a file of its own on a copy of the crate; the times at which these are
-kept tell what they took. A goal that neither proves has another proof, which the check finds by itself. `rt check` in the
+searches. Each goal's proof by each tactic is in a separate file on a copy of the crate; the times at which these are
+kept show what they took. A goal that neither proves has another proof, which the check finds by itself. `rt check` in the
 crate's folder builds its libraries first."""
 import collections
 import glob

@@ -1,5 +1,5 @@
 #!/usr/bin/env python3
-"""Prints crates.txt: of each crate in edges.txt all crates of this repository that it stands on, and those of the kit that its line names."""
+"""Prints crates.txt: for each crate in edges.txt all crates of this repository that it depends on, and those of the kit that its line names."""
 import functools
 import pathlib
 
@@ -9,7 +9,7 @@ EDGES = {head.split()[0]: edges.split() for head, edges in LINES}
 
 @functools.cache
 def below(name):
-    """All that a crate stands on, the lowest first."""
+    """All crates that a crate depends on, the lowest first."""
     return list(dict.fromkeys(one for edge in EDGES[name] if edge in EDGES for one in [*below(edge), edge]))
 
 

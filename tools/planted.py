@@ -38,6 +38,8 @@ PROOF = re.compile(r"^(?:note: )?(?:\./)?(proofs|src)/(\S+?):(\d+):\d+: error(?:
 STALE = re.compile(r"has no field|is not in scope|has no `|was not admitted")
 UNREAD = re.compile(r"\berror\[[\w-]+\]")
 VERDICT = re.compile(r"^fn \w+::(\S+): (.*)$", re.M)
+# A function that isn't proved since one that it calls isn't.
+CALLS = re.compile(r"it calls|which has no proof")
 # How many bytes of memory a check has to find free.
 OF_CHECK = 3 << 30
 
@@ -124,7 +126,7 @@ def naming(word, folder):
 
 
 def find_functions(edit, folder):
-    """Notes which functions an edit changes, by where the texts stand that it replaces; none for what is outside of functions."""
+    """Notes which functions an edit changes, by the places of the texts that it replaces; none for text outside of functions."""
     texts = {file: (pathlib.Path(folder) / file).read_text(encoding="utf-8") for file, _, _ in edit.pairs}
     for file, old, new in edit.pairs:
         text = texts[file]
@@ -212,7 +214,7 @@ class Crate:
         errors = self.errors_of(edit, said)
         unread = [it for it in errors if UNREAD.search(it)]
         real = [it for it in errors if not STALE.search(it)]
-        open_goals = [it for it in verdicts if not it.startswith(("proved", "no proof: it calls")) and "it calls" not in it]
+        open_goals = [it for it in verdicts if not it.startswith("proved") and not CALLS.search(it)]
         if unread:
             edit.said = f"BAD EDIT: it can't be read: {unread[0][:160]}"
         elif real or open_goals and not errors:
@@ -226,7 +228,7 @@ class Crate:
             # (another edit of the batch can't be read, and nothing was checked)
             pass
         elif not is_alone:
-            edit.apart.update(re.findall(r"`\w+::(?:\w+::)*?(\w+::\w+)`", " ".join(it for it in verdicts if "it calls" in it)))
+            edit.apart.update(re.findall(r"`\w+::(?:\w+::)*?(\w+::\w+)`", " ".join(it for it in verdicts if CALLS.search(it))))
             edit.is_alone = not edit.apart
         elif UNREAD.search(said) or not verdicts and status not in (0, 1):
             edit.said = f"BAD EDIT: it can't be read: {said.strip()[-200:]}"

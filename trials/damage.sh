@@ -1,9 +1,9 @@
 #!/usr/bin/env bash
-# Opens and verifies drawn images with damage, a third each of boxes, of intervals, and of moments of the life that
+# Opens and verifies random images with damage, a third each of boxes, of intervals, and of moments of the life that
 # `gx_damage_runs` is run on, and has the plain reader read each: an image opens and verifies, or is refused by number, as
 # that finds it, what is said of it is found there, and what opens is sound and has the same set. Says how many ended how,
 # or on which image they differ, with status 1. The arguments, if there are any, are a seed, a number of images of each
-# kind, and the path of `gx_damage_runs`; else that is proved and built as it stands here. A million takes half an hour:
+# kind, and the path of `gx_damage_runs`; else that of this checkout is proved and built. A million takes half an hour:
 # `trials/damage.sh 1 333334`.
 set -euo pipefail
 top="$(cd "$(dirname "${BASH_SOURCE[0]}")/.." && pwd)"

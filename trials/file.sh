@@ -2,7 +2,7 @@
 # Runs the programs that work on a file under strace, and compares the calls of the system that they make on it, one by one,
 # with what the device is asked: where each read and write begins, how many bytes it has, and which sync follows. Then has
 # calls fail, be interrupted and be cut short. The arguments, if there are any, are the paths of `gx_device_runs` and of
-# `gx_bench_runs`; else these are proved and built as they stand here. Needs strace. The last line counts the cases.
+# `gx_bench_runs`; else those of this checkout are proved and built. Needs strace. The last line counts the cases.
 set -euo pipefail
 top="$(cd "$(dirname "${BASH_SOURCE[0]}")/.." && pwd)"
 made="$(mktemp -d)"
@@ -11,7 +11,7 @@ if [ $# -eq 2 ]; then
     devices="$(realpath "$1")"
     logs="$(realpath "$2")"
 else
-    # CRATE WORD..: proves and builds a program, which is run once with these words.
+    # CRATE WORD..: proves and builds a program, and runs it once with these arguments.
     build() { (cd "$top/crates/$1" && shift && rt run -- "$@" < /dev/null) > "$made/log" 2>&1 || { cat "$made/log"; exit 1; }; }
     build gx_device_runs
     build gx_bench_runs claims claims 1
@@ -66,7 +66,7 @@ first = [("ftruncate", 2048), ("pwrite64", 512, 1024), ("fsync",)]
 again = [("pwrite64", 512, 1024), ("fdatasync",)]
 fresh()
 status, told, calls = run([devices], "file write\nfile write\nfile open\nfile create 5\n")
-case("a file is told", told.splitlines(), ["file write: in use", "file write: in use", "file open: 4 sectors, 00 00 c3 00", "file create 5: 5 sectors, 00 00 c3 00"])
+case("a file is reported", told.splitlines(), ["file write: in use", "file write: in use", "file open: 4 sectors, 00 00 c3 00", "file create 5: 5 sectors, 00 00 c3 00"])
 case("a file's calls", calls, first + again + reads(0, 1, 2, 3) + [("ftruncate", 2560)] + reads(0, 1, 2, 3))
 
 # An extent of the log: 32 times a body and its gate, each with a sync behind it.
@@ -92,7 +92,7 @@ case("what is before them", any(bytes_now[:512 * 8]), False)
 status, told, calls = run([logs, "log", "commit", "1"])
 case("a log on a file of its length", calls, extent([], "fdatasync"))
 
-# A call that fails is told, and none follows it.
+# A call that fails is reported, and none follows it.
 FAULTS = {"ftruncate": ["ENOSPC", "EIO"], "pwrite64": ["EIO", "ENOSPC"], "fsync": ["EIO", "ENOSPC"]}
 for call, faults in FAULTS.items():
     for fault in faults:

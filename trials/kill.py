@@ -1,6 +1,6 @@
 """What kill.sh kills, and what it looks at then: usage: kill.py PROGRAM THREADS SHIM KILLS SEED KILLS-OF-THREADS
 
-In a folder of its own, in which it makes its files."""
+In a separate folder, in which it makes its files."""
 import collections
 import os
 import random

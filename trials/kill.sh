@@ -10,7 +10,7 @@
 #
 #   trials/kill.sh [KILLS [SEED [KILLS-OF-THREADS]]]
 #
-# PROGRAM and THREADS, where they are set, are the paths of the program and of gx_threads_example; else those that stand here are proved and
+# PROGRAM and THREADS, where they are set, are the paths of the program and of gx_threads_example; else those of this checkout are proved and
 # built. KILLS is 200, SEED 1 and KILLS-OF-THREADS 40 where they aren't given. The last line counts the kills.
 set -euo pipefail
 top="$(cd "$(dirname "${BASH_SOURCE[0]}")/.." && pwd)"

@@ -1,5 +1,5 @@
 #!/usr/bin/env bash
-# Tries the planted bugs of the crates named, or of all, in a copy of this checkout: builds the libraries that they need, and hands on to
+# Tries the planted bugs of the crates named, or of all, in a copy of this checkout: builds the libraries that they need, and passes its arguments to
 # tools/planted.py, whose lines and last line it prints.
 #
 # usage: trials/planted.sh [CRATE..]

@@ -1,6 +1,6 @@
 #!/usr/bin/env bash
-# Tries the built program on words, streams and statuses that no contract speaks of: what it prints where, and how it
-# ends. Takes the program's path, or proves and builds the one that stands here. The last line counts the cases.
+# Tries the built program on arguments, streams and statuses that no contract covers: what it prints where, and how it
+# ends. Takes the program's path, or proves and builds the one of this checkout. The last line counts the cases.
 set -euo pipefail
 top="$(cd "$(dirname "${BASH_SOURCE[0]}")/.." && pwd)"
 if [ $# -eq 1 ]; then
@@ -26,12 +26,12 @@ ended() {
     if [ -z "$pattern" ]; then
         [ ! -s "$work/err" ] || why="$why; standard error: $(cat "$work/err")"
     else
-        grep -q -e "$pattern" "$work/err" || why="$why; standard error lacks '$pattern'"
+        grep -q -e "$pattern" "$work/err" || why="$why; standard error doesn't have '$pattern'"
     fi
     if [ -z "$why" ]; then passed=$((passed + 1)); else failed=$((failed + 1)); echo "FAILED $name: $why"; fi
 }
 
-# NAME STATUS OUTPUT FAULTS WORD..: a run on the script with these words.
+# NAME STATUS OUTPUT FAULTS WORD..: a run on the script with these arguments.
 case_of() {
     local name="$1" wanted="$2" output="$3" pattern="$4"
     shift 4
@@ -41,7 +41,7 @@ case_of() {
 }
 
 case_of "a script" 0 "$work/replies" "" plain
-case_of "no words" 2 "$work/nothing" "Usage: gist"
+case_of "no arguments" 2 "$work/nothing" "Usage: gist"
 case_of "a wrong command" 2 "$work/nothing" "unrecognized subcommand 'plane'" plane
 case_of "a word too many" 2 "$work/nothing" "unexpected argument 'x'" plain x
 case_of "help" 2 "$work/nothing" "A spatial index" --help
@@ -78,7 +78,7 @@ printf '1 ok\n' > "$work/first"
 ended "a reader that leaves" 1 "$work/first" ""
 
 
-# NAME STATUS OUTPUT FAULTS WORD..: a run with these words on the lines in $lines; OUTPUT is the text itself.
+# NAME STATUS OUTPUT FAULTS WORD..: a run with these arguments on the lines in $lines; OUTPUT is the text itself.
 lines=""
 on_file() {
     local name="$1" wanted="$2" pattern="$4"
@@ -240,7 +240,7 @@ for command in run dump verify; do
     on_file "an index of intervals: $command" 1 'refused 18 bad parameter
 ' "$other" "$command" intervals
 done
-holds "an index of intervals is left as it is" cmp -s intervals as_intervals
+holds "an index of intervals isn't changed" cmp -s intervals as_intervals
 
 on_file "a new file for a tree" 0 "$formatted" "" format tree 16 4
 lines='1 BEGIN
@@ -289,7 +289,7 @@ on_file "a storm" 0 'storm ok calls 800
 ' "" storm 1 4 200
 on_file "a storm of one session" 0 'storm ok calls 2000
 ' "" storm 4294967295 1 2000
-# Each help is the text that stands in trials/help, whole.
+# Each help is the whole text in trials/help.
 for command in gist plain format run dump verify storm; do
     words="$command --help"
     [ "$command" != gist ] || words=--help
@@ -297,10 +297,10 @@ for command in gist plain format run dump verify storm; do
     on_file "help of $command" 2 "$nothing" "Usage: gist" $words
     holds "the whole help of $command" cmp -s err "$top/trials/help/$command.txt"
 done
-on_file "a number out of its range is told" 2 "$nothing" "7 is not in 8..=65536" format places 7 4
-holds "wrong words leave the file" cmp -s places before
-on_file "wrong words for a new file" 2 "$nothing" "7 is not in 8..=65536" format new 7 4
-holds "wrong words make no file" [ ! -e new ]
+on_file "a number out of its range is reported" 2 "$nothing" "7 is not in 8..=65536" format places 7 4
+holds "wrong arguments don't change the file" cmp -s places before
+on_file "wrong arguments for a new file" 2 "$nothing" "7 is not in 8..=65536" format new 7 4
+holds "wrong arguments make no file" [ ! -e new ]
 
 # Why a file can't be opened is written behind its name; nothing is made.
 missing="^gist: nowhere: no such file or directory$"
@@ -417,21 +417,21 @@ ended "a folder as a script on a file" 1 "$work/nothing" "^gist: the script can'
 : > "$work/out"
 status=0
 "$program" format places 16 4 > /dev/full 2> "$work/err" < /dev/null || status=$?
-ended "a format told to a full disk" 1 "$work/nothing" "^gist: a reply can't be written: no space left on device$"
+ended "a format's reply to a full disk" 1 "$work/nothing" "^gist: a reply can't be written: no space left on device$"
 status=0
 "$program" dump places > /dev/full 2> "$work/err" < /dev/null || status=$?
-ended "a tree told to a full disk" 1 "$work/nothing" "^gist: a reply can't be written: no space left on device$"
+ended "a tree's text to a full disk" 1 "$work/nothing" "^gist: a reply can't be written: no space left on device$"
 status=0
 "$program" verify places > /dev/full 2> "$work/err" < /dev/null || status=$?
-ended "verifying told to a full disk" 1 "$work/nothing" "^gist: a reply can't be written: no space left on device$"
+ended "verifying's reply to a full disk" 1 "$work/nothing" "^gist: a reply can't be written: no space left on device$"
 status=0
 "$program" storm 1 2 10 > /dev/full 2> "$work/err" < /dev/null || status=$?
-ended "a storm told to a full disk" 1 "$work/nothing" "^gist: a reply can't be written: no space left on device$"
+ended "a storm's line to a full disk" 1 "$work/nothing" "^gist: a reply can't be written: no space left on device$"
 on_file "what a format leaves" 0 '1 ok
 1 found 0
 ' "" run places
 
-# CLOSED WORD..: a run with these words on the lines in $lines, with this standard stream closed (0, 1 or 2), or all of them.
+# CLOSED WORD..: a run with these arguments on the lines in $lines, with this standard stream closed (0, 1 or 2), or all of them.
 closing() {
     local closed="$1"
     shift
@@ -447,7 +447,7 @@ closing() {
     esac
 }
 
-# Whether a file holds an index with this tree, as its dump tells it.
+# Whether a file holds an index with this tree, by its dump.
 has_tree() { "$program" dump "$1" | cmp -s - "$2"; }
 
 # Whatever streams are closed, only the index is written to its file, and nothing else is read from it.
@@ -475,7 +475,7 @@ for closed in 0 1 2 all; do
     esac
     if [ "$closed" = 2 ]; then
         "$program" dump open > tree
-        holds "its commit is there" grep -q '^entry 8 1 1 2 2 live$' tree
+        holds "its commit is kept" grep -q '^entry 8 1 1 2 2 live$' tree
         holds "and what was there before" grep -q '^entry 7 0 0 10 10 live$' tree
     else
         holds "it leaves the index, closed $closed" has_tree open tree_before

@@ -85,7 +85,7 @@ SCRIPTS = {
         + "".join(f"1 EQUAL {i} 0 {i} 0 > 1 found 0\n" for i in range(16))
         + "1 EQUAL 16 0 16 0 > 1 refused 9 predicates full\n1 EQUAL 0 0 0 0 > 1 found 0",
 }
-# On a file: pages, entries a node, the script, and the tree that a dump tells then.
+# On a file: pages, entries a node, the script, and the tree that a dump prints then.
 ON_FILE = {
     "an aborted split": (16, 4, "1 BEGIN > 1 ok\n"
         + "".join(f"1 INSERT {i + 1} {box} > 1 inserted\n" for i, box in enumerate(FIVE)) + "1 ABORT > 1 aborted",
@@ -121,7 +121,7 @@ def fail(text):
 
 
 def start(words, refused=0):
-    """The program with these words, whose allocation of this number is refused."""
+    """Starts the program with these arguments; its allocation of this number is refused."""
     env = {**os.environ, "LD_PRELOAD": SHIM, "REFUSE": str(refused), "COUNTED": "counted"}
     return subprocess.Popen([PROGRAM, *words], stdin=subprocess.PIPE, stdout=subprocess.PIPE, stderr=subprocess.PIPE, text=True, env=env)
 
@@ -263,7 +263,7 @@ def on_file(name, pages, most, script, tree, counts):
 
 
 def drawn():
-    """Calls of eight sessions that write and commit and abort, each in a strip of its own; no searches."""
+    """Random calls of eight sessions that write and commit and abort, each in a separate strip; no searches."""
     lines, live, seed = [], {}, 1
     for turn in range(150):
         session = turn % 8 + 1
@@ -289,7 +289,7 @@ def drawn():
 
 def throughout():
     """All memory is refused from the end of an opening on. How many calls were answered, how many of them were refused memory, and how many
-    allocations were refused. A write's look may lack memory, so that its call changes nothing; no other call may, nor the settling. What
+    allocations were refused. A write's look may be refused memory, so that its call changes nothing; no other call may, nor the settling. What
     follows a refused write is held to the kind of its answer alone."""
     lines = drawn()
     plain = subprocess.run([PROGRAM, "plain"], input="\n".join(lines) + "\n", capture_output=True, text=True).stdout.splitlines()

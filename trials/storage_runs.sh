@@ -3,7 +3,7 @@
 # that the gate has: whole runs of so many steps, and for each call of the device of a shorter run one in which it fails once and
 # one in which the machine stops there. Prints what each was, or the first difference, with status 1. The arguments, if there are
 # any, are a first seed, how many seeds, the steps of a whole run, the calls, and the path of `gx_device_runs`; else that is
-# proved and built as it stands here.
+# proved and built from this checkout.
 set -euo pipefail
 top="$(cd "$(dirname "${BASH_SOURCE[0]}")/.." && pwd)"
 first="${1:-100}"

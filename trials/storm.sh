@@ -6,7 +6,7 @@
 #
 #   trials/storm.sh [PROGRAM THREADS [SEEDS [SEEDS-OVER-A-FILE]]]
 #
-# PROGRAM and THREADS are the paths of the program and of gx_threads_example; without them those that stand here are proved and built.
+# PROGRAM and THREADS are the paths of the program and of gx_threads_example; without them those of this checkout are proved and built.
 set -euo pipefail
 top="$(cd "$(dirname "${BASH_SOURCE[0]}")/.." && pwd)"
 program="$top/crates/gx_front/out/gx_front"

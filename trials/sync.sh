@@ -2,7 +2,7 @@
 # Looks at the syncs of the built program, of which no contract speaks: no `committed` is written while a write to the
 # file has no sync behind it; a sync that fails is answered `refused 11 device` and all that follows `refused 12
 # failed`, no call of the file follows it, and what was committed is found again. Takes the program's path, or proves
-# and builds the one that stands here. The last line counts.
+# and builds the one of this checkout. The last line counts.
 set -euo pipefail
 top="$(cd "$(dirname "${BASH_SOURCE[0]}")/.." && pwd)"
 program="$top/crates/gx_front/out/gx_front"
@@ -24,7 +24,7 @@ holds() {
     if "$@"; then passed=$((passed + 1)); else failed=$((failed + 1)); echo "FAILED $name"; fi
 }
 
-# SETTING WORD..: runs the program with these words on a script, standard input, over the file `it`; `calls` gets the
+# SETTING WORD..: runs the program with these arguments on a script, standard input, over the file `it`; `calls` gets the
 # calls that it makes.
 noting() {
     local setting="$1"
@@ -107,7 +107,7 @@ done
 for number in $(seq "$syncs"); do
     cp fresh it
     noting "REFUSE=$number" run it < short
-    holds "sync $number of $syncs that fails is told" is_told
+    holds "sync $number of $syncs that fails is reported" is_told
     holds "no call follows it, $number" ends_refused
     holds "what was committed stays, $number" keeps_commits
 done

@@ -88,7 +88,7 @@ pub extern "C" fn gx_bench_write_write(
     written(&write, out)
 }
 
-/// Reads whole records from the front until none is there, and returns how many bytes they have.
+/// Reads whole records from the front until there is none, and returns how many bytes they have.
 #[unsafe(no_mangle)]
 pub extern "C" fn gx_bench_read(bytes: &[u8], key: usize) -> usize
     ensures { ReadsWhole key bytes.now result }

@@ -90,7 +90,7 @@ fn count_all(pages: &[Page], queries: &[SentBox], counts: &mut [usize])
 }
 
 /// For each of some boxes, writes into `counts`, which has a place for each, how many live pairs of the leaves overlap
-/// it. False where an image is no leaf of boxes, or memory is refused.
+/// it. False if an image is no leaf of boxes, or memory is refused.
 #[unsafe(no_mangle)]
 pub extern "C" fn gx_bench_scan(
     alloc: Global,

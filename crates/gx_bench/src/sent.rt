@@ -1,5 +1,5 @@
 //! What C sends.
-ghost use Rattle.std.specs.Prelude.{◌≡◌, ◌≤ℤ◌, true, map, IfSome};
+ghost use Rattle.std.specs.Prelude.{◌≡◌, ◌≤ℤ◌, map, IfSome};
 ghost use Rattle.gx_bench.specs.Sent.{key_of, page_of};
 
 use gx_geom::Box2;
@@ -34,7 +34,7 @@ pub(crate) fn key_of(sent: &SentBox) -> Box2
     }
 }
 
-/// The pages whose images these are. `None` where one is no image, or memory is refused.
+/// The pages whose images these are. `None` if one is no image, or memory is refused.
 pub(crate) fn pages_of(alloc: Global, sent: &[SentPage]) -> Option<Vec<Page>>
     ensures { IfSome result (λ pages. pages.items ≡ map page_of sent.now) }
 {

@@ -97,7 +97,7 @@ fn ask(table: &mut Transactions<Box2>, kind: Kind, state: &mut u32) -> u64 {
     }
 }
 
-/// Fills tables and asks so often, and returns the sum. `None` where memory is refused.
+/// Fills tables and asks so often, and returns the sum. `None` if memory is refused.
 pub(crate) fn run(alloc: Global, kind: Kind, asks: u64) -> Option<u64> {
     let mut table = Transactions::new(alloc).ok()?;
     let mut state = 7;

@@ -1,14 +1,14 @@
 //! An index of random boxes on a device in memory, by the events of one session. `inserts`: so many boxes in a new
 //! index, in transactions of a hundred. `queries`: so many windows looked for in an index of a hundred thousand boxes,
-//! in transactions of sixteen, each given up at its end. `marks`: so many of its pairs deleted, in transactions of a
-//! hundred. `undo`: so many boxes in a new index, deleted in transactions of 512, each given up at its end. `commits`:
+//! in transactions of sixteen, each aborted at its end. `marks`: so many of its pairs deleted, in transactions of a
+//! hundred. `undo`: so many boxes in a new index, deleted in transactions of 512, each aborted at its end. `commits`:
 //! so many boxes in a new index, each with a commit of its own. The boxes and windows are those of the benchmark
 //! `tree`.
 //!
-//! `index` has the sum of what was done: the pages that are taken, the rows that were found, or the pairs that were
-//! deleted. In its place `asks`, `moves`, `helps`, `log-steps`, `page-writes` and `checkpoint-steps` count the events
-//! of a kind from the new index on, of which `helps` are those that had to wait for another, and `bytes` what was
-//! written to the device.
+//! `index` has the sum of what was done: the pages in use, the rows that were found, or the pairs that were deleted. In
+//! its place `asks`, `moves`, `helps`, `log-steps`, `page-writes` and `checkpoint-steps` count the events of a kind
+//! from the new index on, of which `helps` are those that had to wait for another, and `bytes` what was written to the
+//! device.
 
 mod counted;
 mod driven;
@@ -120,8 +120,8 @@ impl Told {
     }
 }
 
-/// Does so often what is asked, and returns what is printed of it. `None` where memory is refused or a call isn't
-/// answered as it should be.
+/// Does so often what is asked, and returns what is printed of it. `None` if memory is refused or a call isn't answered
+/// as it should be.
 pub(crate) fn run(alloc: Global, told: Told, kind: Kind, count: u64) -> Option<u64> {
     let mut index = Index::fresh(alloc)?;
     let sum = kind.work(alloc, &mut index, count)?;

@@ -6,7 +6,7 @@ use std::alloc::Global;
 /// How many items a leaf has.
 const ITEMS: usize = 100;
 
-/// A leaf of a hundred items, each as long as a pair. `None` where memory is refused.
+/// A leaf of a hundred items, each as long as a pair. `None` if memory is refused.
 pub(crate) fn leaf(alloc: Global, number: u32) -> Option<Page> {
     let mut page = Page::fresh(alloc, 0, number).ok()?;
     let item = [7; 25];

@@ -37,7 +37,7 @@ impl Kind {
     }
 }
 
-/// Puts a record into the log. False where there is no room.
+/// Puts a record into the log. False if there is no room.
 fn append(log: &mut Glog, logged: &Record<'_>) -> bool
     requires { IsInRange (rec_of logged.now) }
 {
@@ -105,7 +105,7 @@ fn fill(log: &mut Glog, kind: Kind, leaf: &Page) -> u64 {
     records
 }
 
-/// Writes one batch in four steps. False where the device failed.
+/// Writes one batch in four steps. False if the device failed.
 fn write(log: &mut Glog, disk: &mut FileDisk) -> bool {
     for _ in 0..4 {
         if disk.sectors() < SECTORS || log.log_step(disk).is_err() {
@@ -128,7 +128,7 @@ fn write_extent(alloc: Global, disk: &mut FileDisk, kind: Kind, leaf: &Page) -> 
     Some(records)
 }
 
-/// Writes so many extents, and returns how many records they have. `None` where memory is refused or the file fails.
+/// Writes so many extents, and returns how many records they have. `None` if memory is refused or the file fails.
 pub(crate) fn run<R: AllocGlobal + Files<File = File>>(
     rt: &R,
     kind: Kind,

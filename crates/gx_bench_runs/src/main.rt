@@ -1,8 +1,9 @@
 //! Benchmarks of the index's parts, each beside the same in plain C.
 //!
-//! The words are a benchmark (`claims`, `pool`, `log`, `tree` or `index`), what is asked of it and how often, as its
-//! module says. A sum of what was done is printed, or in place of `index` a count of it is named. With the word `all`
-//! alone a little of each is asked, and each sum is printed with its words.
+//! The arguments are a benchmark (`claims`, `pool`, `log`, `tree`, `space` for a tree of boxes of space, or `index`),
+//! what is asked of it and how often, as its module says. A sum of what was done is printed, or in place of `index` a
+//! count of it is named. With the argument `all` alone a little of each is asked, and each sum is printed with its
+//! arguments.
 #![tactic(auto)]
 
 mod claims;
@@ -14,12 +15,13 @@ mod numbers;
 mod pool;
 mod tree;
 
+use gx_class::{Box2Class, Box3Class};
 use std::fs::{File, Files, remove_file};
 use std::process::ExitCode;
 use std::rt::Env;
 
-/// A little of each: two words, and how often.
-const ALL: [(&str, &str, u64); 18] = [
+/// A little of each: two arguments, and how often.
+const ALL: [(&str, &str, u64); 21] = [
     ("claims", "claims", 1000),
     ("claims", "searches", 1000),
     ("pool", "hits", 1000),
@@ -31,6 +33,9 @@ const ALL: [(&str, &str, u64); 18] = [
     ("tree", "pages", 3000),
     ("tree", "queries", 100),
     ("tree", "marks", 100),
+    ("space", "inserts", 3000),
+    ("space", "pages", 3000),
+    ("space", "queries", 100),
     ("index", "inserts", 3000),
     ("index", "queries", 100),
     ("index", "marks", 100),
@@ -47,10 +52,11 @@ enum Benchmark {
     Pool(pool::Kind),
     Log(log::Kind),
     Tree(tree::Kind),
+    Space(tree::Kind),
     Index(index::Told, index::Kind),
 }
 
-/// What the words ask for.
+/// What the arguments ask for.
 #[derive(Clone, Copy)]
 enum Task {
     All,
@@ -58,30 +64,32 @@ enum Task {
 }
 
 impl Benchmark {
-    /// The one that two words name.
+    /// The benchmark that two arguments name.
     fn named(benchmark: &str, kind: &str) -> Option<Benchmark> {
         match benchmark {
             "claims" => Some(Benchmark::Claims(claims::Kind::named(kind)?)),
             "pool" => Some(Benchmark::Pool(pool::Kind::named(kind)?)),
             "log" => Some(Benchmark::Log(log::Kind::named(kind)?)),
             "tree" => Some(Benchmark::Tree(tree::Kind::named(kind)?)),
+            "space" => Some(Benchmark::Space(tree::Kind::named(kind)?)),
             _ => Some(Benchmark::Index(index::Told::named(benchmark)?, index::Kind::named(kind)?)),
         }
     }
 
-    /// Does so often what is asked, and returns the sum. `None` where memory is refused or a file fails.
+    /// Does so often what is asked, and returns the sum. `None` if memory is refused or a file fails.
     fn run<R: AllocGlobal + Files<File = File>>(self, rt: &R, count: u64) -> Option<u64> {
         match self {
             Benchmark::Claims(kind) => claims::run(rt.alloc(), kind, count),
             Benchmark::Pool(kind) => pool::run(rt, kind, count),
             Benchmark::Log(kind) => log::run(rt, kind, count),
-            Benchmark::Tree(kind) => tree::run(rt.alloc(), kind, count),
+            Benchmark::Tree(kind) => tree::run::<Box2Class>(rt.alloc(), kind, count),
+            Benchmark::Space(kind) => tree::run::<Box3Class>(rt.alloc(), kind, count),
             Benchmark::Index(told, kind) => index::run(rt.alloc(), told, kind, count),
         }
     }
 }
 
-/// What the words ask for.
+/// What the arguments ask for.
 fn asked<R: Env + AllocGlobal>(rt: &R) -> Option<Task> {
     let mut words = std::env::args(rt).ok()?;
     let _ = words.next()?;

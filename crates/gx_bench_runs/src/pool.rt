@@ -60,7 +60,7 @@ fn look_at_file<R: AllocGlobal>(rt: &R, disk: &mut FileDisk, looks: u64) -> Opti
     look_at_many(&mut pool, disk, PAGES, looks).ok()
 }
 
-/// Looks so often, and returns the sum. `None` where memory is refused or the file fails.
+/// Looks so often, and returns the sum. `None` if memory is refused or the file fails.
 pub(crate) fn run<R: AllocGlobal + Files<File = File>>(
     rt: &R,
     kind: Kind,

@@ -1,12 +1,12 @@
-//! A tree of random boxes, built in memory by the tree's steps: `inserts`, so many boxes in a new tree; `pages`, the
-//! same, and a sum of all pages' bytes; `queries`, so many windows looked for in a tree of a hundred thousand boxes;
-//! `marks`, so many of its pairs looked for and marked. The sum is of what was done.
+//! A tree of random boxes of the plane or of space, built in memory by the tree's steps: `inserts`, so many boxes in a
+//! new tree; `pages`, the same, and a sum of all pages' bytes; `queries`, so many windows looked for in a tree of a
+//! hundred thousand boxes; `marks`, so many of its pairs looked for and marked. The sum is of what was done.
 
 mod looks;
 mod writes;
 
-use crate::drawn::draw_box;
-use gx_geom::Box2;
+use crate::drawn::RandomKeys;
+use gx_class::KeyClass;
 use gx_machine::Entry;
 use gx_tree::Pages;
 use looks::{mark_many, query_many};
@@ -44,19 +44,19 @@ impl Kind {
 
 /// A tree and the pairs that were inserted.
 #[derive(Drop)]
-struct Built {
-    tree: Tree,
-    entries: Vec<Entry<Box2>>,
+struct Built<K: KeyClass> {
+    tree: Tree<K>,
+    entries: Vec<Entry<K::Key>>,
 }
 
 /// Inserts so many random boxes in a new tree.
-fn build(alloc: Global, boxes: u64) -> Option<Built> {
-    let mut tree = fresh_tree(alloc)?;
+fn build<K: RandomKeys>(alloc: Global, boxes: u64) -> Option<Built<K>> {
+    let mut tree = fresh_tree::<K>(alloc)?;
     let mut entries = Vec::new(alloc);
-    let mut keys = [Box2::point(0, 0); MOST];
+    let mut keys = vec![in alloc; K::start(); MOST].ok()?;
     let mut state = 7;
     for row in 0..boxes {
-        let key = draw_box(&mut state)?;
+        let key = K::draw_key(&mut state)?;
         let entry = Entry { row, key };
         insert(&mut tree, &entry, &mut keys)?;
         entries.push(entry).ok()?;
@@ -64,14 +64,14 @@ fn build(alloc: Global, boxes: u64) -> Option<Built> {
     Some(Built { tree, entries })
 }
 
-/// Does so often what is asked, and returns the sum. `None` where memory is refused or a step is.
-pub(crate) fn run(alloc: Global, kind: Kind, count: u64) -> Option<u64> {
+/// Does so often what is asked, and returns the sum. `None` if memory is refused or a step is.
+pub(crate) fn run<K: RandomKeys>(alloc: Global, kind: Kind, count: u64) -> Option<u64> {
     match kind {
-        Kind::Inserts => Some(u64::from(build(alloc, count)?.tree.used())),
-        Kind::Pages => Some(sum_of_pages(&build(alloc, count)?.tree)),
-        Kind::Queries => query_many(alloc, &mut build(alloc, BOXES)?.tree, count),
+        Kind::Inserts => Some(u64::from(build::<K>(alloc, count)?.tree.used())),
+        Kind::Pages => Some(sum_of_pages(&build::<K>(alloc, count)?.tree)),
+        Kind::Queries => query_many(alloc, &mut build::<K>(alloc, BOXES)?.tree, count),
         Kind::Marks => {
-            let mut built = build(alloc, BOXES)?;
+            let mut built = build::<K>(alloc, BOXES)?;
             if built.entries.is_empty() {
                 return None;
             }

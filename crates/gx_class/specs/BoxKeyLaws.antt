@@ -1,4 +1,4 @@
--- What holds of boxes as keys.
+-- Laws of boxes as keys.
 use Rattle.std.proofs.Common.{◌≡◌, ℕ, ◌+◌, ◌*◌, ◌≤◌, ℤ, pos, FitsSigned, true, ◌&&◌, int_eq, refl, ap, sym, ◌∙◌, subst, arith, List, length, [], ◌∷◌, ◌++◌, take, drop, Some, Result, Ok, Err, IsOk, IfOk, IfSome}
 use Rattle.std.specs.Result.{result_ok}
 use Rattle.gx_geom.specs.declared.refusal.Refusal.{Refusal}

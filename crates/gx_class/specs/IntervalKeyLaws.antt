@@ -1,4 +1,4 @@
--- What holds of intervals as keys.
+-- Laws of intervals as keys.
 use Rattle.std.proofs.Common.{◌≡◌, ℕ, ◌*◌, ◌≤◌, ℤ, pos, FitsSigned, true, refl, ap, ◌∙◌, subst, arith, List, length}
 use Rattle.std.specs.Prelude.{◌≤ℤ◌, ◌-ℤ◌, unsigned_abs}
 use Rattle.std.specs.Int.{w64, int_min, int_max, cast_signed, from_be_bytes}

@@ -1,4 +1,4 @@
--- What holds of boxes of space as keys.
+-- Laws of boxes of space as keys.
 use Rattle.std.proofs.Common.{◌≡◌, ℕ, ◌+◌, ◌*◌, ◌≤◌, ℤ, pos, FitsSigned, true, ◌&&◌, int_eq, ap, ◌∙◌, subst, arith, List, length, ◌++◌, take, drop}
 use Rattle.std.specs.Int.{w32}
 use Rattle.std.specs.Ordering.{is_eq}

@@ -5,7 +5,7 @@ use Rattle.gx_machine.specs.declared.query.Query.{Query}
 use Rattle.gx_machine.specs.declared.query.Query.TheVariants.{Overlap, Within, Equal, Covers}
 use Rattle.gx_class.specs.Probes.{Limits, limits, least, greatest, are_between}
 
--- the first four corners as they are written, and the last four
+-- the first four corners in the order in which they are written, and the last four
 abbrev pub front_corners : Solid → List ℤ
 front_corners b = b.x1 ∷ b.y1 ∷ b.z1 ∷ b.x2 ∷ []
 

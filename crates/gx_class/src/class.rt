@@ -1,5 +1,5 @@
-//! What the tree asks of its keys: the methods of a generalized search tree's key class (Hellerstein, Naughton, Pfeffer
-//! 1995). Compress and Decompress are a lossless `encode` and `decode` here.
+//! What the tree needs of its keys: the methods of a generalized search tree's key class (Hellerstein, Naughton,
+//! Pfeffer 1995). Compress and Decompress are a lossless `encode` and `decode` here.
 ghost use Rattle.std.specs.Prelude.{◌≡◌, ◌<◌, ◌≤◌, ◌*◌, ℕ, Bool, true, List, length, slice_index, Option, Some, IfSome};
 ghost use Rattle.gx_machine.specs.declared.query.Query.{Query};
 ghost use Rattle.gx_machine.specs.Keys.{keys_of, key_matches};
@@ -12,8 +12,7 @@ use gx_machine::Query;
 /// The most bytes that a key is written in. So 100 entries of a key and nine bytes more, with their places, fit a page.
 pub const MAX_KEY: usize = 24;
 
-/// A class of keys. Every value of `Key` that a program has in hand is a key of the class, so that each law holds of
-/// it.
+/// A class of keys. Every value of `Key` in a program is a key of the class, so that each law holds of it.
 pub trait KeyClass {
     /// What the keys are.
     type Key: Shape;
@@ -60,7 +59,7 @@ pub trait KeyClass {
     fn start() -> Self::Key
         ensures { result ≡ start_key };
 
-    /// Whether a key below the bound may match the query: Consistent. False only where no key below can match.
+    /// Whether a key below the bound may match the query: Consistent. False only if no key below can match.
     fn consistent(query: &Query<Self::Key>, bound: &Self::Key) -> bool
         ensures { result ≡ may_match query.now bound.now };
 
@@ -102,7 +101,7 @@ pub trait KeyClass {
         requires { length out.old ≡ KEY }
         ensures { out.new ≡ spelling key };
 
-    /// The key of which these are the bytes. `None` where they are no key's.
+    /// The key of which these are the bytes. `None` if they are no key's.
     fn decode(bytes: &[u8]) -> Option<Self::Key>
         ensures only { IfSome result (λ key. is_key key × (bytes.now ≡ spelling key)) }
         ensures back { (key : Self.Key) → is_key key → bytes.now ≡ spelling key → result ≡ Some key };

@@ -4,7 +4,7 @@ use crate::{IntervalClass, KeyClass, Probing};
 use gx_geom::Interval;
 use gx_machine::Query;
 
-/// A query of intervals, put to entries' keys or to bounds. Each is read where it lies: its two ends are two numbers.
+/// A query of intervals, tested on entries' keys or on bounds. Each is read in place: its two ends are two numbers.
 #[derive(Clone, Copy, Debug)]
 pub struct IntervalProbe {
     query: Query<Interval>,

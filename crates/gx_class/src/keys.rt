@@ -1,10 +1,10 @@
-//! Keys read of bytes, whatever these are.
+//! Keys read from any bytes.
 ghost use Rattle.std.specs.Prelude.{◌≡◌, ◌<◌, ℕ, Bool, true, List, length, slice_index};
 
 use crate::{Box2Class, Box3Class, IntervalClass, KeyClass};
 
-/// A class whose keys' bytes say something also where they are no key's. A log whose record has such bytes is damaged;
-/// so what they say isn't a key.
+/// A class that reads a value also from bytes that are no key's. That value isn't a key: a log whose record has such
+/// bytes is damaged.
 pub trait ReadKeys: KeyClass {
     /// What a key's bytes say.
     ghost said: { List ℕ → Self.Key };
@@ -18,7 +18,7 @@ pub trait ReadKeys: KeyClass {
     /// Each key is one by the test.
     ghost key_is_proper: { (k : Self.Key) → Self.is_key k → is_proper k ≡ true };
 
-    /// Bytes say a key only where they are its.
+    /// Bytes are read as a key only if they are that key's.
     ghost said_only: { (bytes : List ℕ) → length bytes ≡ Self.KEY → ((i : ℕ) → slice_index bytes i < 256)
         → is_proper (said bytes) ≡ true
         → Self.is_key (said bytes) × (bytes ≡ Self.spelling (said bytes)) };

@@ -1,4 +1,4 @@
-//! What the split of intervals does, in plain words.
+//! Laws: what the split of intervals does.
 ghost use Rattle.std.specs.Prelude.{List};
 ghost use Rattle.gx_geom.specs.Spans.{Span, span_cmp};
 ghost use Rattle.gx_class.specs.Halving.{halves_by_order, IsHalvedInOrder};

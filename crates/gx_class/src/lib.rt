@@ -1,4 +1,4 @@
-//! Key classes: what the tree asks of its keys, and the classes of boxes and of intervals.
+//! Key classes: what the tree needs of its keys, and the classes of boxes and of intervals.
 #![tactic(auto)]
 
 mod box2_class;

@@ -1,10 +1,10 @@
 -- Of which boxes a device's index is, by the class that was read.
-use Rattle.std.proofs.Common.{◌≡◌, ◌≢◌, ◌≤◌, ℕ, arith, refl, subst}
-use Rattle.std.specs.Prelude.{Some, Result, Ok}
+use Rattle.std.proofs.Common.{◌≡◌, ◌≢◌, ℕ, arith, refl, subst}
+use Rattle.std.specs.Prelude.{Some, Ok}
 use Rattle.gx_disk.specs.Device.{Device}
-use Rattle.gx_geom.specs.declared.refusal.Refusal.{Refusal}
 use Rattle.gx_geom.specs.declared.refusal.Refusal.TheVariants.{BadParameter}
-use Rattle.gx_commands.specs.Devices.{FindsKind, FindsNone, HasKind, ReadsClass}
+use Rattle.gx_restart.specs.Class.{ReadsClass}
+use Rattle.gx_commands.specs.Devices.{FindsKind, FindsNone, HasKind}
 use Rattle.gx_commands.specs.declared.devices.Kind.{Kind}
 use Rattle.gx_commands.specs.declared.devices.Kind.TheVariants.{Plane, Space}
 

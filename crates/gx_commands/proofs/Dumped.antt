@@ -1,5 +1,5 @@
--- A dump with status 0 over an honest device tells what the log kept.
-use Rattle.std.proofs.Common.{◌≡◌, ℕ, Bool, true, false, List, inl, inr, ap, sym, subst, length, arith}
+-- A dump with status 0 over an honest device writes the set that the log kept.
+use Rattle.std.proofs.Common.{◌≡◌, ℕ, Bool, true, List, inl, inr, ap, sym, subst, length, arith}
 use Rattle.std.specs.Prelude.{Result, Ok, Err, OnOk}
 use Rattle.std.specs.Io.KnownBytes.{Appends}
 use Rattle.gx_machine.specs.declared.entry.Entry.{Entry}

@@ -84,7 +84,7 @@ module _ {B I : Type 0} (grammar : Grammar B) (answered : I → ℕ → Call B �
   none_second false b none = none
   none_second true b none = cc
 
-  -- a line that leads to where nothing is met: nothing was met before, and its reply told of no fault
+  -- if no fault is noted after a line, none was noted before it, and its reply reported none
   told_faultless : (n : ℕ) (line : Line B) (old new : Watched I) (text : List ℕ)
       → IsTold grammar (Watches answered) n line old text new → new.met ≡ false → (old.met ≡ false) × IsTold grammar (IsFaultless answered) n line old.index text new.index
   told_faultless n Blank old new text told none = (sym (ap (λ (w : Watched I). w.met) told.1) ∙ none, (told.0, ap (λ (w : Watched I). w.index) told.1))

@@ -11,7 +11,7 @@ use Rattle.gx_geom.specs.Refusals.{refusal_text}
 use Rattle.gx_commands.specs.Lines.{sentence_of}
 use Rattle.gx_commands.specs.Refusing.{Refuses, TellsOpening}
 
--- of a refusal that has no sentence of its own the user is told its text
+-- for a refusal without a separate sentence the user is told its text
 pub told_by_text : (why : Refusal) → (why ≡ Memory → ⊥) → (why ≡ Device → ⊥) → (why ≡ Failed → ⊥) → (why ≡ Damaged → ⊥) → (why ≡ NotFormatted → ⊥)
     → (why ≡ TooSmall → ⊥) → (why ≡ BadParameter → ⊥) → refusal_text why ≡ sentence_of why
 told_by_text Memory a b c d e f g = absurd (a refl)
@@ -60,7 +60,7 @@ module _ {B C D : Type 0} (shape : Members B) (is_key : B → Bool) (said : List
   refused_status number NoCall disk after old new status told = told.0.status_is
   refused_status number HistoryFull disk after old new status told = told.0.status_is
 
-  -- a refusal that isn't told as damage is told as what it means, and the device stays
+  -- a refusal that isn't for damage is reported by its meaning, and the device stays
   pub told_refused : (number : ℕ) (why : Refusal) (disk : D) (old new : Outputs) (status : ℕ) → (why ≡ Damaged → ⊥) → Refuses why old new status
       → TellsOpening shape (traits_of is_key said class) state number why disk disk old new status
   told_refused number Damaged disk old new status other told = absurd (other refl)

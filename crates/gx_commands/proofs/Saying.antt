@@ -1,6 +1,6 @@
 -- A command leaves what a device says that it is formatted for.
 use Rattle.std.proofs.Common.{◌≡◌, ◌∙◌, sym, refl, subst, inl, inr, ⊎_elim, ℕ, ◌+◌, ◌≤◌, Bool, true, false, List, [], ◌∷◌, length, Option, arith}
-use Rattle.std.specs.Prelude.{Result, Ok, Err, MatchResult}
+use Rattle.std.specs.Prelude.{Ok, Err}
 use Rattle.gx_geom.specs.declared.refusal.Refusal.{Refusal}
 use Rattle.gx_geom.specs.declared.refusal.Refusal.TheVariants.{Absent, BadBox, BadParameter, BadSession, Busy, CallOpen, ClaimsFull, Damaged, Device as NoDevice, Failed, HistoryFull, InTransaction, Memory, NoCall, NoTransaction, NotFormatted, PagesFull, PredicatesFull, Present, TooSmall}
 use Rattle.gx_machine.specs.declared.call.Call.{Call}
@@ -27,7 +27,7 @@ use Rattle.gx_index_laws.specs.Classes.{Page}
 use Rattle.gx_index_laws.specs.States as index
 use Rattle.gx_node.specs.Reading.{format_of, is_node}
 use Rattle.gx_opening.specs.Formatted.{Says, head_of}
-use Rattle.gx_opening.specs.Standing.{known_for, limits_of, reading}
+use Rattle.gx_opening.specs.Standing.{limits_of}
 use Rattle.gx_opening.proofs.Heads.{formatted_head, head_magic, head_says}
 use Rattle.gx_opening.proofs.Stood.{one_saying}
 use Rattle.gx_durable.specs.Classes.{class_of, reading_of}
@@ -41,7 +41,7 @@ use Rattle.gx_restart.specs.Keeping.{IsKept}
 use Rattle.gx_restart.specs.States.{State}
 use Rattle.gx_commands.specs.Streams.{Outputs, Stream}
 use Rattle.gx_commands.specs.Dumping.{DumpsOver}
-use Rattle.gx_commands.specs.Endings.{EndsBy, RunsOver, RunsScript, device_of, watched_over}
+use Rattle.gx_commands.specs.Endings.{EndsBy, RunsOver, RunsScript, watched_over}
 use Rattle.gx_commands.specs.Openings.{Opens}
 use Rattle.gx_commands.specs.Refusing.{TellsDamage, TellsOpening}
 use Rattle.gx_commands.specs.Saying.{SaysSo}

@@ -1,4 +1,4 @@
--- What is told of a device that isn't verified.
+-- What is reported of a device that isn't verified.
 use Rattle.std.proofs.Common.{◌≡◌, inl, inr, ℕ, Bool, Option, None, Some, List, Result, ⊎_elim, ◌⊎◌, sym, ◌∙◌, subst}
 use Rattle.std.specs.Prelude.{IfSome}
 use Rattle.gx_class.specs.Traits.{traits_of}

@@ -1,20 +1,17 @@
 -- How a command over a device ends whose index is of boxes: of the plane, class 1, or of space, class 3.
-use Rattle.std.specs.Prelude.{ℕ, ◌≡◌, ◌≢◌, ◌⊎◌, ◌<◌, ◌≤◌, true, Option, None, Some, Result, Ok, Err, IfOk}
+use Rattle.std.specs.Prelude.{ℕ, ◌≡◌, ◌≢◌, ◌⊎◌, Option, None, Some, Result, Ok, Err}
 use Rattle.gx_geom.specs.Rectangles.{Rectangle}
 use Rattle.gx_geom.specs.Solids.{Solid}
 use Rattle.gx_geom.specs.declared.refusal.Refusal.{Refusal}
-use Rattle.gx_geom.specs.declared.refusal.Refusal.TheVariants.{BadParameter, TooSmall}
+use Rattle.gx_geom.specs.declared.refusal.Refusal.TheVariants.{BadParameter}
 use Rattle.gx_machine.specs.Keys.{Members}
 use Rattle.gx_script.specs.Corners.{rectangle_grammar, solid_grammar}
 use Rattle.gx_class.specs.Traits.{traits_of}
 use Rattle.gx_class.specs.Boxes as boxes
 use Rattle.gx_class.specs.SolidKeys as solids
 use Rattle.gx_class.specs.declared.class.KeyClass.{Ghosts}
-use Rattle.gx_disk.specs.declared.layout.TheConstants.{MIN_SECTORS}
 use Rattle.gx_disk.specs.Device.{Device}
-use Rattle.gx_disk.specs.Looks.{Looks}
-use Rattle.gx_opening.specs.Formatted.{Counted}
-use Rattle.gx_restart.specs.Class.{IsClass, SaysClass}
+use Rattle.gx_restart.specs.Class.{ReadsClass}
 use Rattle.gx_commands.specs.Dumping.{DumpsOver}
 use Rattle.gx_commands.specs.Endings.{RunsOver}
 use Rattle.gx_commands.specs.Refusing.{Refuses}
@@ -23,21 +20,13 @@ use Rattle.gx_commands.specs.Verifying.{VerifiesOver}
 use Rattle.gx_commands.specs.declared.devices.Kind.{Kind}
 use Rattle.gx_commands.specs.declared.devices.Kind.TheVariants.{Plane, Space}
 
--- A device was read for its class, with this result. No write and no sync was made, and a call that failed is told.
-pub record ReadsClass {D : Type 0} (state : D → Device) (old new : D) (result : Result ℕ Refusal) : Type 0 where
-  pub small : (state old).sectors < MIN_SECTORS → (result ≡ Err TooSmall) × (new ≡ old)
-  pub counted : Counted 0 (state old) (state new) result
-  pub looks : (state old).honest ≡ true → Looks (state old) (state new)
-  pub says : (state old).honest ≡ true → MIN_SECTORS ≤ (state old).sectors → SaysClass (state old).seen result
-  pub known : IfOk result IsClass
-
 -- the boxes of a class, if it is one of boxes
 abbrev pub HasKind : ℕ → Option Kind → Type 0
 HasKind class (Some Plane) = class ≡ 1
 HasKind class (Some Space) = class ≡ 3
 HasKind class None = (class ≢ 1) × (class ≢ 3)
 
--- what a device is refused with that holds no boxes: intervals, with BadParameter; or what its class wasn't read for
+-- why a device that holds no boxes is refused: BadParameter for intervals, or the refusal of reading its class
 abbrev pub HasNoBoxes : Result ℕ Refusal → Refusal → Type 0
 HasNoBoxes (Ok class) why = (class ≡ 2) × (why ≡ BadParameter)
 HasNoBoxes (Err refusal) why = why ≡ refusal
@@ -48,7 +37,7 @@ pub record FindsNone {D : Type 0} (state : D → Device) (old new : D) (why : Re
   pub read : ReadsClass state old new class
   pub because : HasNoBoxes class why
 
--- of which boxes its index is, by its class
+-- whether its index is of boxes of the plane or of space, by its class
 abbrev pub FindsKind : {D : Type 0} → (D → Device) → D → D → Result Kind Refusal → Type 0
 FindsKind state old new (Ok Plane) = ReadsClass state old new (Ok 1)
 FindsKind state old new (Ok Space) = ReadsClass state old new (Ok 3)
@@ -74,7 +63,7 @@ module _ {C E D : Type 0} (plane : Members Rectangle) (plane_class : Ghosts C Re
       ⊎ (IsOfClass state 3 (λ d. RunsOver solid_grammar space (traits_of solids.in_order solids.corners_of space_class) state 3 frames d after had left from to status) disk
       ⊎ ((left ≡ had) × HoldsNoBoxes state disk after from to status))
 
-  -- the tree of that index was told
+  -- the tree of that index was written
   abbrev pub DumpsDevice : ℕ → D → D → Outputs → Outputs → ℕ → Type 0
   DumpsDevice frames disk after from to status =
       IsOfClass state 1 (λ d. DumpsOver rectangle_grammar plane (traits_of boxes.in_order boxes.corners_of plane_class) state 1 frames d after from to status) disk

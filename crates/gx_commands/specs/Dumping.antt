@@ -1,5 +1,5 @@
 -- How a dump over a device ends: its status, and what it has written.
-use Rattle.std.specs.Prelude.{ℕ, ◌≡◌, ◌⊎◌, false, Option, Result, Ok, Err, IfErr, OnOk}
+use Rattle.std.specs.Prelude.{ℕ, ◌≡◌, ◌⊎◌, false, Result, Ok, Err, IfErr, OnOk}
 use Rattle.std.specs.Io.KnownBytes.{Appends}
 use Rattle.gx_machine.specs.Keys.{Members}
 use Rattle.gx_script.specs.Corners.{Grammar}
@@ -36,8 +36,8 @@ use Rattle.gx_commands.specs.Endings.{device_of}
 use Rattle.gx_commands.specs.Openings.{Opens}
 use Rattle.gx_commands.specs.Refusing.{Refuses, TellsOpening}
 
--- What a dump was refused with is told, behind what was written of it; where the writer failed the user is told of that; and where it ended
--- well nothing is.
+-- A dump's refusal is written behind the text so far; if the writer failed, the user is told; if the dump ended well,
+-- nothing more is written.
 abbrev pub TellsDump : Result (Unit {0}) DumpFault → Outputs → Outputs → ℕ → Type 0
 TellsDump (Ok done) old new status = (status ≡ 0) × (new ≡ old)
 TellsDump (Err fault.Write) old new status =
@@ -60,8 +60,8 @@ module _ {B D : Type 0} (shape : Members B) (traits : Traits B) (state : D → D
     pub told : TellsOpening shape traits state number refused.why refused.disk after from to status
 
 module _ {B D : Type 0} (grammar : Grammar B) (shape : Members B) (traits : Traits B) (state : D → Device) where
-  -- An index was dumped, with this result, which is reported, and its device is handed back. The writer held the tree's text by then; or only a
-  -- beginning of it, where the dump did not end well.
+  -- An index was dumped, with this result, which is reported, and its device is returned. The writer held the tree's
+  -- text by then; or only a beginning of it, where the dump did not end well.
   pub record DumpsIndex (old : State B D) (after : D) (from to : Outputs) (status : ℕ) : Type 0 where
     pub result : Result (Unit {0}) DumpFault
     pub new : State B D
@@ -82,8 +82,8 @@ module _ {B D : Type 0} (grammar : Grammar B) (shape : Members B) (traits : Trai
     pub opening : Opens shape traits state number frames disk (Ok engine)
     pub dump : DumpsIndex (index_over shape traits state engine) after from to status
 
-  -- The index of a device that was opened with so many frames was dumped, for a class of keys of this number; or the opening was refused. The
-  -- device that is left is handed back.
+  -- The index of a device that was opened with so many frames was dumped, for a class of keys of this number; or the
+  -- opening was refused. The device that is left is returned.
   abbrev pub DumpsOver : ℕ → ℕ → D → D → Outputs → Outputs → ℕ → Type 0
   DumpsOver number frames disk after from to status =
       IsNotDumped shape traits state number frames disk after from to status ⊎ IsDumped number frames disk after from to status

@@ -1,5 +1,5 @@
 -- How a command over a device ends: its status, what it has read, what it has written, and what became of the device.
-use Rattle.std.specs.Prelude.{ℕ, ◌≡◌, ◌⊎◌, Bool, true, false, Option, Result, Ok, Err, OnOk}
+use Rattle.std.specs.Prelude.{ℕ, ◌≡◌, ◌⊎◌, Bool, true, false, Result, Ok, Err, OnOk}
 use Rattle.std.specs.Io.KnownBytes.{Appends}
 use Rattle.gx_geom.specs.declared.refusal.Refusal.{Refusal}
 use Rattle.gx_machine.specs.declared.call.Call.{Call}
@@ -37,14 +37,15 @@ use Rattle.gx_commands.specs.Openings.{Opens}
 use Rattle.gx_commands.specs.Refusing.{Refuses, TellsOpening}
 use Rattle.gx_commands.specs.Watching.{Watches}
 
--- A format is told: its line was written; or a front of it, where the writer takes no more, which is reported to the user.
+-- A format is reported: its line was written; or a beginning of it, if the writer takes no more, which the user is
+-- told.
 abbrev pub TellsFormatted : ℕ → ℕ → Outputs → Outputs → ℕ → Type 0
 TellsFormatted pages most old new status =
     ((status ≡ 0) × (Appends old.replies.bytes new.replies.bytes (formatted_line pages most) × (new.person ≡ old.person)))
     ⊎ ((status ≡ 1) × (IsCut old.replies.bytes new.replies.bytes (formatted_line pages most)
     × (TakesNoMore new.replies × TellsFault Write new.replies.kind old.person new.person)))
 
--- so is what it was refused with
+-- its refusal is reported
 abbrev pub TellsFormat : ℕ → ℕ → Result (Unit {0}) Refusal → Outputs → Outputs → ℕ → Type 0
 TellsFormat pages most (Ok done) old new status = TellsFormatted pages most old new status
 TellsFormat pages most (Err why) old new status = Refuses why old new status
@@ -59,7 +60,7 @@ pub record FormatsOver {D : Type 0} (state : D → Device) (parameters : Paramet
   pub well_formed : OnOk result (IsWellFormed root)
   pub told : TellsFormat parameters.pages parameters.most result from to status
 
--- what a settling was refused with is told; where it ended well nothing is
+-- a settling's refusal is reported; if it ended well, nothing is written
 abbrev pub TellsSettled : Result (Unit {0}) Refusal → Outputs → Outputs → ℕ → Type 0
 TellsSettled (Ok done) old new status = (status ≡ 0) × (new ≡ old)
 TellsSettled (Err why) old new status = Refuses why old new status
@@ -69,8 +70,8 @@ abbrev pub device_of : {B D : Type 0} → State B D → D
 device_of index = index.engine.volume.shelf.disk
 
 module _ {B D : Type 0} (shape : Members B) (traits : Traits B) (state : D → Device) where
-  -- An index was settled, with this result, which is reported, and its device is handed back. Where it ended well, no checkpoint runs, and no batch is
-  -- in flight or fills.
+  -- An index was settled, with this result, which is reported, and its device is returned. If it ended well, no
+  -- checkpoint runs, and no batch is in flight or fills.
   pub record EndsSettling (old : State B D) (after : D) (from to : Outputs) (status : ℕ) : Type 0 where
     pub result : Result (Unit {0}) Refusal
     pub new : State B D
@@ -81,7 +82,8 @@ module _ {B D : Type 0} (shape : Members B) (traits : Traits B) (state : D → D
     pub told : TellsSettled result from to status
     pub left : after ≡ device_of new
 
-  -- What follows a script's end, by whether a reply told of a fault: the user is told, and nothing more is done; or the index is settled.
+  -- What follows a script's end: if a reply reported a fault, the user is told, and nothing more is done; else the
+  -- index is settled.
   abbrev pub EndsBy : Bool → State B D → D → Outputs → Outputs → ℕ → Type 0
   EndsBy true index after from to status =
       (status ≡ 1) × ((to.replies ≡ from.replies) × (TellsPerson fault_sentence from.person to.person × (after ≡ device_of index)))
@@ -103,8 +105,9 @@ module _ {B D : Type 0} (shape : Members B) (traits : Traits B) (state : D → D
     pub told : TellsOpening shape traits state number refused.why refused.disk after from to status
 
 module _ {B D : Type 0} (grammar : Grammar B) (shape : Members B) (traits : Traits B) (state : D → Device) where
-  -- The script was read to its end, and then ended by whether a reply told of a fault. The writer held the script's text by then, and a
-  -- person had been told nothing. Of the device nothing was asked but by the script's calls and what follows them.
+  -- The script was read to its end, and what followed depends on whether a reply reported a fault. The writer held the
+  -- script's text by then, and nothing had been written for the user. The script's calls and what follows them made all
+  -- calls of the device.
   pub record HasRun (old : Watched (State B D)) (after : D) (had left : Stream) (from to : Outputs) (status : ℕ) : Type 0 where
     pub new : Watched (State B D)
     pub between : Outputs
@@ -113,7 +116,8 @@ module _ {B D : Type 0} (grammar : Grammar B) (shape : Members B) (traits : Trai
     pub quiet : between.person ≡ from.person
     pub ends : EndsBy shape traits state new.met new.index after between to status
 
-  -- The script was stopped by a fault of its reader or its writer, which is reported to the user. Of the device nothing was asked but by the script's calls.
+  -- The script was stopped by a fault of its reader or its writer, which is reported to the user. The script's calls
+  -- made all calls of the device.
   pub record WasStopped (old : Watched (State B D)) (after : D) (had left : Stream) (from to : Outputs) (status : ℕ) : Type 0 where
     pub new : Watched (State B D)
     pub fault : ScriptFault
@@ -133,8 +137,8 @@ module _ {B D : Type 0} (grammar : Grammar B) (shape : Members B) (traits : Trai
     pub opening : Opens shape traits state number frames disk (Ok engine)
     pub script : RunsScript (watched_over shape traits state engine) after had left from to status
 
-  -- A script was run over a device that was opened with so many frames, for a class of keys of this number; or the opening was refused. The
-  -- device that is left is handed back.
+  -- A script was run over a device that was opened with so many frames, for a class of keys of this number; or the
+  -- opening was refused. The device that is left is returned.
   abbrev pub RunsOver : ℕ → ℕ → D → D → Stream → Stream → Outputs → Outputs → ℕ → Type 0
   RunsOver number frames disk after had left from to status =
       WasRefused shape traits state number frames disk after had left from to status ⊎ WasOpened number frames disk after had left from to status

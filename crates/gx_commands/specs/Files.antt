@@ -20,7 +20,7 @@ use Rattle.gx_commands.specs.declared.opener.Access.{Access}
 use Rattle.gx_commands.specs.declared.opener.Access.TheVariants.{Create, Write, Read}
 use Rattle.gx_commands.specs.declared.opener.Opener.{Opener}
 
--- A file that is no device: the user is told why, behind its name.
+-- A file that couldn't be opened: the user is told its name and why.
 pub record HasNoDevice (file : List ℕ) (fault : DiskFault) (from to : Outputs) (status : ℕ) : Type 0 where
   pub status_is : status ≡ 1
   pub told : Prints (refusal_line NoDevice) from.replies to.replies
@@ -83,7 +83,7 @@ module _ {C E F : Type 0} (plane : Members Rectangle) (plane_class : Ghosts C Re
   EndsRun frames had left from to status =
       ((left ≡ had) × IsNotOpened file old new Write from to status) ⊎ RunsFile frames had left from to status
 
-  -- the tree of the index of boxes that the file holds was told, with 64 frames
+  -- the tree of the index of boxes that the file holds was written, with 64 frames
   pub record DumpsFile (from to : Outputs) (status : ℕ) : Type 0 where
     pub disk : FileDisk
     pub after : FileDisk

@@ -1,4 +1,4 @@
--- What the commands print, and what they tell the user.
+-- What the commands print for readers of replies and for the user.
 use Rattle.std.specs.Prelude.{ℕ, ◌-◌, codes, decimal, length, nat_le, if◌then◌else◌, Option, None, Some, List, [], ◌∷◌, ◌++◌}
 use Rattle.std.specs.declared.io.ErrorKind.{ErrorKind}
 use Rattle.std.specs.declared.io.ErrorKind.TheVariants as error
@@ -21,7 +21,7 @@ refusal_line why = codes "refused " ++ (decimal (refusal_number why) ++ (32 ∷ 
 abbrev pub formatted_line : ℕ → ℕ → List ℕ
 formatted_line pages most = codes "formatted pages " ++ (decimal pages ++ (codes " fanout " ++ (decimal most ++ (10 ∷ []))))
 
--- a device that was verified: the number of the last commit, how many entries that has, and the greatest page that is taken
+-- a device that was verified: the number of the last commit, how many entries its set has, and the greatest page in use
 abbrev pub verified_line : Report → List ℕ
 verified_line r =
     codes "ok commits " ++ (decimal r.commits ++ (codes " entries " ++ (decimal r.entries ++ (codes " used " ++ (decimal r.used ++ (10 ∷ []))))))
@@ -41,7 +41,7 @@ sentence_of other = refusal_text other
 abbrev pub damage_sentence : Damage → List ℕ
 damage_sentence damage = codes "what the device holds is damaged: " ++ damage_text damage
 
--- what the user is told behind a script one of whose replies told of a fault
+-- what the user is told after a script if one of its replies reported a fault
 abbrev pub fault_sentence : List ℕ
 fault_sentence = codes "the device failed, or what it holds is damaged; what isn't committed is lost"
 

@@ -1,4 +1,4 @@
--- What an opening comes to, in one word.
+-- What an opening may result in.
 use Rattle.std.specs.Prelude.{◌≡◌, ◌≤◌, ◌<◌, ℕ, true, Result, Err, IfErr, IfOk, MatchResult}
 use Rattle.gx_disk.specs.declared.layout.TheConstants.{MIN_SECTORS}
 use Rattle.gx_class.specs.Traits.{Traits, own}

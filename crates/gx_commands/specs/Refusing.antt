@@ -13,13 +13,13 @@ use Rattle.gx_opening.specs.Shown.{Examines, FindsDamage, HoldsDamaged}
 use Rattle.gx_commands.specs.Streams.{Stream, Outputs, Prints, TellsPerson}
 use Rattle.gx_commands.specs.Lines.{refusal_line, sentence_of, damage_sentence}
 
--- The line of a refusal outside of a script was written, and the user told what it means.
+-- The line of a refusal outside of a script was written, and the user is told what it means.
 pub record Refuses (why : Refusal) (old new : Outputs) (status : ℕ) : Type 0 where
   pub status_is : status ≡ 1
   pub told : Prints (refusal_line why) old.replies new.replies
   pub heard : TellsPerson (sentence_of why) old.person new.person
 
--- the user is told of damage, where it was found; and that there is some where it wasn't
+-- the user is told where damage was found; or that there is some, if it wasn't found
 abbrev pub TellsFound : Result (Option Damage) Refusal → Stream → Stream → Type 0
 TellsFound (Ok (Some damage)) old new = TellsPerson (damage_sentence damage) old new
 TellsFound found old new = TellsPerson (sentence_of Damaged) old new
@@ -39,7 +39,7 @@ module _ {B D : Type 0} (shape : Members B) (traits : Traits B) (state : D → D
     pub heard : TellsFound found old.person new.person
     pub rests : (state disk).honest ≡ true → OnlyRests (state disk) (state after)
 
-  -- how a refused opening is told, by why it was; but where the device is damaged, that is as the opening left it
+  -- how a refused opening is reported, by its cause; if that is damage, the device is as the opening left it
   abbrev pub TellsOpening : ℕ → Refusal → D → D → Outputs → Outputs → ℕ → Type 0
   TellsOpening number Damaged disk after old new status = TellsDamage number disk after old new status
   TellsOpening number why disk after old new status = Refuses why old new status × (after ≡ disk)

@@ -21,7 +21,8 @@ pub record TellsMemory (old new : Stream) (status : ℕ) : Type 0 where
   pub status_is : status ≡ 1
   pub told : Prints memory_line old new
 
--- the user is told of a fault that comes from an error of this kind; but nothing, where the reader of the replies has left
+-- the user is told of a fault that comes from an error of this kind; of none if the reader of the replies has closed
+-- its end
 pub record TellsFault (fault : ScriptFault) (kind : Option ErrorKind) (old new : Stream) : Type 0 where
   pub quiet : kind ≡ Some BrokenPipe → new ≡ old
   pub heard : kind ≢ Some BrokenPipe → TellsPerson (stream_sentence fault kind) old new
@@ -39,7 +40,7 @@ module _ {B : Type 0} (grammar : Grammar B) (k : Keys B) where
     pub index : Index B
     pub status_is : status ≡ 0
     pub done : IsDone grammar (CallsIndex k) had.bytes left.bytes old.replies.bytes new.replies.bytes fresh_index index
-    -- what its lines asked and were answered is one run of the machine, and this is its text
+    -- its calls and their replies are one run of the machine, and this is its text
     pub one_run : IsOneRun grammar k 1 (asked grammar done.input) fresh_machine index.machine done.text
     pub ended : HasEnded left
     pub quiet : new.person ≡ old.person

@@ -10,8 +10,8 @@ use Rattle.gx_script.specs.declared.fault.ScriptFault.TheVariants.{Read, Write}
 use Rattle.gx_script.specs.Noting.{most_calls}
 use Rattle.gx_script.specs.Writes.{IsCut}
 
--- Of a reader or a writer: the bytes that it has left or holds, where they are known; how its last call ended; the kind of the last
--- error that it gave; and how many calls were made.
+-- A reader or a writer: the bytes that it still has or holds, if they are known; how its last call ended; the kind of
+-- the last error that it gave; and how many calls were made.
 pub record Stream : Type 0 where
   pub bytes : Option (List ℕ)
   pub last : Option Transfer
@@ -21,7 +21,7 @@ pub record Stream : Type 0 where
 abbrev pub stream_of : {T : Type 0} → (T → Option (List ℕ)) → Noted T → Stream
 stream_of bytes noted = record { bytes = bytes noted.inner; last = noted.last; kind = noted.kind; calls = noted.calls }
 
--- What a command writes to: replies, and what it tells the user.
+-- What a command writes to: one writer for replies and one for the user.
 pub record Outputs : Type 0 where
   pub replies : Stream
   pub person : Stream

@@ -1,4 +1,4 @@
--- How a device is verified: what comes of it, what is printed, and what the user is told.
+-- How a device is verified: the result, what is printed, and what the user is told.
 use Rattle.std.specs.Prelude.{ℕ, ◌≡◌, ◌⊎◌, ◌<◌, ◌≤◌, true, Option, Some, Result, Ok, Err, IfErr, IfOk}
 use Rattle.std.specs.Io.KnownBytes.{Appends}
 use Rattle.gx_disk.specs.declared.layout.TheConstants.{MIN_SECTORS}
@@ -37,7 +37,7 @@ pub record Verifies {B D : Type 0} (shape : Members B) (traits : Traits B)
   pub refused : (state old).honest ≡ true → 16 ≤ frames → frames ≤ 4096 → MIN_SECTORS ≤ (state old).sectors
       → IfErr result (IsUnverified shape traits.is_proper traits.said (format_of (own traits)) number (state old))
 
--- A report is told: its line was written; or a front of it, where the writer takes no more, which is reported to the user.
+-- A report is written: its whole line; or a beginning of it, if the writer takes no more, which the user is told.
 abbrev pub TellsReport : Report → Outputs → Outputs → ℕ → Type 0
 TellsReport report old new status =
     ((status ≡ 0) × (Appends old.replies.bytes new.replies.bytes (verified_line report) × (new.person ≡ old.person)))
@@ -50,13 +50,13 @@ pub record TellsTrue (is_so : Result (Option Damage) Refusal → Type 0) (old ne
   pub is_true : is_so found
   pub heard : TellsFound found old new
 
--- Damage is told: the line of its refusal, and that to the user.
+-- Damage is reported: the line of its refusal is written, and the user is told where it lies.
 pub record TellsCopy (is_so : Result (Option Damage) Refusal → Type 0) (old new : Outputs) (status : ℕ) : Type 0 where
   pub status_is : status ≡ 1
   pub told : Prints (refusal_line Damaged) old.replies new.replies
   pub heard : TellsTrue is_so old.person new.person
 
--- so is what a device isn't verified for
+-- why a device isn't verified is reported
 abbrev pub TellsUnverified : (Result (Option Damage) Refusal → Type 0) → Refusal → Outputs → Outputs → ℕ → Type 0
 TellsUnverified is_so why old new status =
     ((why ≡ Damaged) × TellsCopy is_so old new status) ⊎ ((why ≡ Damaged → ⊥) × Refuses why old new status)
@@ -66,7 +66,7 @@ TellsVerified is_so (Ok report) old new status = TellsReport report old new stat
 TellsVerified is_so (Err why) old new status = TellsUnverified is_so why old new status
 
 module _ {B : Type 0} (shape : Members B) (traits : Traits B) (number : ℕ) where
-  -- what comes of examining a copy that is damaged: damage there, unless a call of it failed or memory was refused
+  -- the outcome of examining a copy that is damaged: damage there, unless a call of it failed or memory was refused
   abbrev pub CopyFinds : Option MemDisk → Result (Option Damage) Refusal → Type 0
   CopyFinds copy found = (c : MemDisk) → copy ≡ Some c → HoldsDamaged shape traits.is_proper traits.said (format_of (own traits)) number (memory_state c)
       → Finds ⊥ (Shows shape traits.is_proper traits.said (format_of (own traits)) MemDisk number (memory_state c)) IsLack found

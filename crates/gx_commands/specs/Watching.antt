@@ -1,4 +1,4 @@
--- Replies that tell of a fault, and an index whose replies are watched for them.
+-- Replies that report a fault, and an index whose replies are watched for them.
 use Rattle.std.specs.Prelude.{ℕ, ◌≡◌, ◌||◌, Bool, true, false}
 use Rattle.gx_geom.specs.declared.refusal.Refusal.{Refusal}
 use Rattle.gx_geom.specs.declared.refusal.Refusal.TheVariants.{Device, Failed, Damaged}
@@ -20,10 +20,10 @@ tells_fault (Refused why) = is_fault why
 tells_fault other = false
 
 module _ {B I : Type 0} (answered : I → ℕ → Call B → Reply B → I → Type 0) where
-  -- the index answers, and from a reply that tells of a fault on one was met
+  -- the index answers, and once a reply has reported a fault, that is noted
   abbrev pub Watches : Watched I → ℕ → Call B → Reply B → Watched I → Type 0
   Watches old s call reply new = answered old.index s call reply new.index × (new.met ≡ (old.met || tells_fault reply))
 
-  -- the index answers, and with no reply that tells of a fault
+  -- the index answers, and no reply reports a fault
   abbrev pub IsFaultless : I → ℕ → Call B → Reply B → I → Type 0
   IsFaultless old s call reply new = answered old s call reply new × (tells_fault reply ≡ false)

@@ -1,4 +1,4 @@
-//! Why a call of a file or a stream failed, in words.
+//! Texts that say why a call of a file or a stream failed.
 ghost use Rattle.std.specs.Prelude.{◌≡◌, ◌≤◌, length};
 ghost use Rattle.gx_commands.specs.Lines.{fault_text, kind_text, stream_text};
 
@@ -6,7 +6,7 @@ use gx_disk::DiskFault;
 use gx_script::ScriptFault;
 use std::io::ErrorKind;
 
-/// An error of the system of this kind.
+/// The text for a system error of this kind.
 pub(crate) fn kind_text(kind: ErrorKind) -> &'static str
     ensures words { result.now ≡ kind_text kind }
     ensures short { length result.now ≤ 64 }
@@ -37,7 +37,7 @@ pub(crate) fn kind_text(kind: ErrorKind) -> &'static str
     }
 }
 
-/// Why a file couldn't be opened, or a call of it failed.
+/// The text that says why a file couldn't be opened, or a call of it failed.
 pub(crate) fn fault_text(fault: DiskFault) -> &'static str
     ensures words { result.now ≡ fault_text fault }
     ensures short { length result.now ≤ 64 }
@@ -52,7 +52,7 @@ pub(crate) fn fault_text(fault: DiskFault) -> &'static str
     }
 }
 
-/// Which stream of a script failed.
+/// The text that says which stream of a script failed.
 pub(crate) fn stream_text(fault: ScriptFault) -> &'static str
     ensures words { result.now ≡ stream_text fault }
     ensures short { length result.now ≤ 64 }

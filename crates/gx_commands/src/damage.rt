@@ -1,4 +1,4 @@
-//! What is damaged on a device, in words.
+//! Texts that say what is damaged on a device.
 ghost use Rattle.std.specs.Prelude.{◌≡◌, ◌≤◌, ◌++◌};
 ghost use Rattle.arrayvec.specs.ArrayString.{array_string_len};
 ghost use Rattle.gx_commands.specs.Lines.{damage_sentence};
@@ -13,7 +13,7 @@ use gx_legality::Rule;
 use gx_opening::Damage;
 use itoa::Buffer;
 
-// Where a log is damaged, and the rule that is broken there.
+// The text that says where a log is damaged, and which rule is broken there.
 fn push_log(line: &mut ArrayString<SENTENCE>, damage: LogDamage)
     requires { array_string_len line.old ≤ 64 }
     ensures { line.new.bytes ≡ line.old.bytes ++ damage_text damage }
@@ -30,7 +30,7 @@ fn push_log(line: &mut ArrayString<SENTENCE>, damage: LogDamage)
     line.push_str(damage.rule.text());
 }
 
-// The rule that a tree breaks.
+// The text that says which rule a tree breaks.
 fn push_rule(line: &mut ArrayString<SENTENCE>, rule: Rule)
     requires { array_string_len line.old ≤ 256 }
     ensures { line.new.bytes ≡ line.old.bytes ++ text_of rule }
@@ -44,7 +44,7 @@ fn push_rule(line: &mut ArrayString<SENTENCE>, rule: Rule)
     }
 }
 
-/// Where damage lies, and which rule is broken there.
+/// The text that says where damage lies, and which rule is broken there.
 pub(crate) fn sentence_of(damage: Damage) -> ArrayString<SENTENCE>
     ensures { result.bytes ≡ damage_sentence damage }
 {

@@ -1,4 +1,4 @@
-//! The commands over a device whose index is of boxes: which boxes, the device says.
+//! The commands over a device whose index is of boxes; the device says whether they are of the plane or of space.
 ghost use Rattle.gx_commands.specs.Devices.{DumpsDevice, FindsKind, HasKind, RunsDevice, VerifiesDevice};
 ghost use Rattle.gx_commands.specs.Streams.{outputs_of, stream_of};
 
@@ -12,7 +12,7 @@ use gx_script::Noted;
 use std::alloc::Global;
 use std::io::{Read, Write};
 
-/// Which boxes an index is of.
+/// The boxes of an index.
 #[derive(Clone, Copy)]
 pub enum Kind {
     /// Boxes of the plane, class 1.
@@ -21,7 +21,7 @@ pub enum Kind {
     Space,
 }
 
-// Which boxes are those of a class, if it is one of boxes.
+// The boxes of a class, if it is a class of boxes.
 fn boxes_of(class: u16) -> Option<Kind>
     ensures { HasKind class result }
 {
@@ -34,7 +34,8 @@ fn boxes_of(class: u16) -> Option<Kind>
     }
 }
 
-// Reads of which boxes the index of a device is. Refused as `class_of`, and of intervals with `BadParameter`.
+// Reads from a device whether its index is of boxes of the plane or of space. Refused as `class_of` is, and with
+// `BadParameter` if it is of intervals.
 fn kind_of<D: SectorDisk>(disk: &mut D) -> Result<Kind, Refusal>
     ensures { FindsKind D.state disk.old disk.new result }
 {
@@ -45,12 +46,12 @@ fn kind_of<D: SectorDisk>(disk: &mut D) -> Result<Kind, Refusal>
     }
 }
 
-/// Runs a script on the index of boxes that a device holds, as `run_over` does: of the plane, where its class is 1, or
-/// of space, where it is 3.
+/// Runs a script on the index of boxes that a device holds, as `run_over` does: of the plane if its class is 1, of
+/// space if it is 3.
 ///
-/// Before the opening the device is read for its class. Where that is refused, or the index is of intervals
-/// (`BadParameter`), `refused N text` is written, and the user told what it means; the status is 1, and neither is the
-/// script read nor anything else asked of the device.
+/// The class is read from the device before the opening. If that is refused, or the index is of intervals
+/// (`BadParameter`), the function writes `refused N text`, and for the user a line that says what it means. The status
+/// is then 1, the script isn't read, and no other call is made of the device.
 pub fn run_device<D: SectorDisk + Drop, R: Read, W: Write, E: Write>(
     alloc: Global,
     disk: D,
@@ -76,8 +77,8 @@ pub fn run_device<D: SectorDisk + Drop, R: Read, W: Write, E: Write>(
     }
 }
 
-/// Writes the text of the tree of the index of boxes that a device holds, as `dump_over` does: of the plane, where its
-/// class is 1, or of space, where it is 3. Which it is, is read before the opening, and refused as by `run_device`.
+/// Writes the text of the tree of the index of boxes that a device holds, as `dump_over` does: of the plane if its
+/// class is 1, of space if it is 3. The class is read before the opening; refusals are as in `run_device`.
 pub fn dump_device<D: SectorDisk + Drop, W: Write, E: Write>(
     alloc: Global,
     disk: D,
@@ -101,8 +102,8 @@ pub fn dump_device<D: SectorDisk + Drop, W: Write, E: Write>(
     }
 }
 
-/// Verifies the index of boxes that a device holds, as `verify_over` does: of the plane, where its class is 1, or of
-/// space, where it is 3. Which it is, is read before, and refused as by `run_device`. Nothing is written to the device.
+/// Verifies the index of boxes that a device holds, as `verify_over` does: of the plane if its class is 1, of space if
+/// it is 3. The class is read first; refusals are as in `run_device`. Nothing is written to the device.
 pub fn verify_device<D: SectorDisk, W: Write, E: Write>(
     alloc: Global,
     disk: &mut D,

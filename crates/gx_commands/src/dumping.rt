@@ -1,4 +1,4 @@
-//! The tree of an index on a device, told.
+//! Writes the tree of an index on a device as text.
 ghost use Rattle.std.specs.Prelude.{◌≡◌, IfErr};
 ghost use Rattle.gx_script.specs.Corners.{grammar_of};
 ghost use Rattle.gx_commands.specs.Streams.{TakesNoMore, outputs_of, stream_of};
@@ -15,7 +15,7 @@ use gx_script::{Corners, Noted};
 use std::alloc::Global;
 use std::io::Write;
 
-// Tells what ended a dump, and returns the status.
+// Reports what ended a dump, and returns the status.
 fn tell_dump<W: Write, E: Write>(
     ends: Result<(), DumpFault>,
     writer: &mut Noted<W>,
@@ -56,10 +56,10 @@ fn dump_index<
 /// Opens a device with so many frames for pages, 16 to 4,096, writes the text of the tree of the index that it holds,
 /// as `gx_restart::Index::dump` does, and returns the device and the status.
 ///
-/// The status is 0 where the device was opened and the whole text was written. It is 1 in all other cases. Where the
-/// opening is refused `refused N text` is written, and the user told what it means, and of damage where it lies; where
-/// a page is refused while the text is written, that line follows what was written of it. Where the text couldn't be
-/// written, the user is told, unless the reader has left.
+/// The status is 0 if the device was opened and the whole text was written. It is 1 in all other cases. If the opening
+/// is refused, the function writes `refused N text`, and tells the user what it means, and for damage where it lies; if
+/// a page is refused while the text is written, that line follows the text written so far. If the text couldn't be
+/// written, the user is told, unless the reader of the text has closed its end.
 pub fn dump_over<
     D: SectorDisk + Drop,
     B: Corners,

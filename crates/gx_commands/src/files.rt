@@ -15,13 +15,14 @@ use std::alloc::Global;
 use std::fs::{File, Files};
 use std::io::{Read, Write};
 
-/// How many pages a dump holds in memory, and verifying.
+/// How many pages `dump` and `verify` hold in memory.
 const FRAMES: usize = 64;
 
-/// Opens or makes a file, extends a shorter one, and lays a new index of a class of keys down in it.
+/// Opens or creates a file, extends a shorter one, and writes a new index of a class of keys into it.
 ///
-/// The status is that of `format_over`. It is 1 too where the file can't be opened, made or extended, which writes
-/// `refused 11 device`, and tells the user why, behind the file's name. Why a call of it failed is reported too.
+/// The status is that of `format_over`. It is also 1 if the file can't be opened, created or extended: then the
+/// function writes `refused 11 device`, and tells the user the file's name and why. If a call of the file failed, the
+/// user is told why.
 pub fn format_file<'w, K: KeyClass, F: Files<File = File>, W: Write, E: Write>(
     opener: &mut Opener<'w, F>,
     alloc: Global,
@@ -47,10 +48,11 @@ pub fn format_file<'w, K: KeyClass, F: Files<File = File>, W: Write, E: Write>(
     }
 }
 
-/// Opens a file that is there, and runs a script on the index of boxes that it holds.
+/// Opens an existing file, and runs a script on the index of boxes that it holds.
 ///
-/// The status is that of `run_device`. It is 1 too where the file can't be opened, which writes `refused 11 device`,
-/// and tells the user why, behind the file's name; nothing is read then. Why a call of it failed is reported too.
+/// The status is that of `run_device`. It is also 1 if the file can't be opened: then the function writes `refused 11
+/// device`, tells the user the file's name and why, and reads nothing. If a call of the file failed, the user is told
+/// why.
 pub fn run_file<'w, F: Files<File = File>, R: Read, W: Write, E: Write>(
     opener: &mut Opener<'w, F>,
     alloc: Global,
@@ -76,10 +78,11 @@ pub fn run_file<'w, F: Files<File = File>, R: Read, W: Write, E: Write>(
     }
 }
 
-/// Opens a file that is there, and writes the text of the tree of the index of boxes that it holds.
+/// Opens an existing file, and writes the text of the tree of the index of boxes that it holds.
 ///
-/// The status is that of `dump_device`, with 64 frames. It is 1 too where the file can't be opened, which writes
-/// `refused 11 device`, and tells the user why, behind the file's name. Why a call of it failed is reported too.
+/// The status is that of `dump_device`, with 64 frames. It is also 1 if the file can't be opened: then the function
+/// writes `refused 11 device`, and tells the user the file's name and why. If a call of the file failed, the user is
+/// told why.
 pub fn dump_file<'w, F: Files<File = File>, W: Write, E: Write>(
     opener: &mut Opener<'w, F>,
     alloc: Global,
@@ -102,10 +105,11 @@ pub fn dump_file<'w, F: Files<File = File>, W: Write, E: Write>(
     }
 }
 
-/// Opens a file that is there to read it alone, and verifies the index of boxes that it holds: the file stays as it is.
+/// Opens an existing file only for reading, and verifies the index of boxes that it holds. The file doesn't change.
 ///
-/// The status is that of `verify_device`, with 64 frames. It is 1 too where the file can't be opened, which writes
-/// `refused 11 device`, and tells the user why, behind the file's name. Why a call of it failed is reported too.
+/// The status is that of `verify_device`, with 64 frames. It is also 1 if the file can't be opened: then the function
+/// writes `refused 11 device`, and tells the user the file's name and why. If a call of the file failed, the user is
+/// told why.
 pub fn verify_file<'w, F: Files<File = File>, W: Write, E: Write>(
     opener: &mut Opener<'w, F>,
     alloc: Global,
@@ -128,7 +132,8 @@ pub fn verify_file<'w, F: Files<File = File>, W: Write, E: Write>(
     }
 }
 
-// Keeps the device of a file as it was left, and tells the user why its last call that failed did so, if one did.
+// Keeps the device of a file as the command left it, and if a call of it failed, tells the user why the last of those
+// did.
 fn leave<'w, F: Files<File = File>, E: Write>(
     opener: &mut Opener<'w, F>,
     file: &str,
@@ -144,7 +149,7 @@ fn leave<'w, F: Files<File = File>, E: Write>(
     opener.keep(disk);
 }
 
-// Writes that there is no such device, tells the user why, and returns the status.
+// Writes that the device was refused, tells the user why, and returns the status.
 fn refuse_file<W: Write, E: Write>(
     file: &str,
     fault: DiskFault,

@@ -1,4 +1,4 @@
-//! The format of a device, told.
+//! Formats a device, and writes a line about it.
 ghost use Rattle.std.specs.Prelude.{◌≡◌};
 ghost use Rattle.gx_commands.specs.Streams.{outputs_of};
 ghost use Rattle.gx_format.specs.Fresh.{fresh_root};
@@ -53,14 +53,13 @@ fn tell_formatted<W: Write, E: Write>(
     }
 }
 
-/// Lays a new, empty index of a class of keys down on a device, for so many pages, 8 to 65,536, and so many entries in
-/// a node at most, 4 to 100, as `gx_restart::format` does; writes `formatted pages P fanout M`; and returns the
-/// status.
+/// Writes a new, empty index of a class of keys to a device, with 8 to 65,536 pages and at most 4 to 100 entries in a
+/// node, as `gx_restart::format` does; writes `formatted pages P fanout M`; and returns the status.
 ///
-/// The status is 0 where both were done. It is 1 where the line couldn't be written, which is reported to the user
-/// unless the reader has left; the index stands then. It is 1 too where the format was refused, which writes `refused N
-/// text`, and tells the user what that means: `BadParameter` for numbers out of range, `TooSmall` for too few sectors,
-/// `Memory`, and `Device` where a call failed.
+/// The status is 0 if both were done. It is 1 if the line couldn't be written: the device is formatted then, and the
+/// user is told, unless the reader of the line has closed its end. It is also 1 if the format was refused: then the
+/// function writes `refused N text`, and tells the user what that means: `BadParameter` for numbers out of range,
+/// `TooSmall` for too few sectors, `Memory`, and `Device` if a call failed.
 pub fn format_over<D: SectorDisk, K: KeyClass, W: Write, E: Write>(
     alloc: Global,
     disk: &mut D,

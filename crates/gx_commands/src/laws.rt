@@ -33,16 +33,16 @@ pub fn a_watched_script_is_a_script<B, I: Answers<B>>()
         → IsStopped grammar I.answered had left held holds old.index new.index fault }
 {}
 
-/// Where nothing was met by a script's end, no reply to one of its lines told of a fault.
+/// If the watcher has seen no fault by a script's end, no reply to one of its lines reported one.
 pub fn a_script_that_met_nothing_is_faultless<B, I: Answers<B>>()
     ensures { (grammar : Grammar B) (number : ℕ) (lines : List (Line B)) (old new : Watched I) (text : List ℕ)
         → IsScript grammar (Watches I.answered) number lines old text new → new.met ≡ false
         → IsScript grammar (IsFaultless I.answered) number lines old.index text new.index }
 {}
 
-/// Where a script over an honest device ended with status 0, what its lines asked and were answered is one run of the
-/// set machine, which begins with the set that the device's log kept, under its number. On the device that is left all
-/// commits are durable, and each image that a crash may leave of it stands for the last set.
+/// If a script over an honest device ended with status 0, its calls and their replies are one run of the set machine,
+/// which begins with the set that the device's log kept, under its number. On the device that is left all commits are
+/// durable, and each image that a crash may leave of it stands for the last set.
 pub fn a_run_that_is_done_is_durable<D: SectorDisk, B: Corners, K: ReadKeys + KeyClass<Key = B>>()
     ensures { (number frames : ℕ) (disk after : D) (had left : Stream) (from to : Outputs) →
         (D.state disk).honest ≡ true
@@ -53,8 +53,8 @@ pub fn a_run_that_is_done_is_durable<D: SectorDisk, B: Corners, K: ReadKeys + Ke
     gx_engine::laws::progress::no_call_is_given_up::<D, K>();
 }
 
-/// Where a dump over an honest device ended with status 0, what was written is the text of the tree of an index that
-/// has the set which the device's log kept, with that set's number.
+/// If a dump over an honest device ended with status 0, it wrote the text of the tree of an index that has the set
+/// which the device's log kept, with that set's number.
 pub fn a_dump_that_is_done_tells_what_was_kept<
     D: SectorDisk,
     B: Corners,
@@ -65,8 +65,8 @@ pub fn a_dump_that_is_done_tells_what_was_kept<
         → TellsKept (grammar_of B.Corners) B.Shape K.ReadKeys D.state number disk from to }
 {}
 
-/// What an honest device says that it is formatted for it says after a command too, as it reads and in whatever a
-/// crash may leave: after a script, however that ended, after a dump, and where the opening was refused.
+/// No command changes what an honest device says that it is formatted for, neither as it reads nor in an image that a
+/// crash may leave: neither a script, however it ended, nor a dump, nor an opening that was refused.
 pub fn a_command_leaves_what_a_device_says<
     D: SectorDisk,
     B: Corners,

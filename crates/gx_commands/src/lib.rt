@@ -1,7 +1,6 @@
-//! What a command of the program does, whatever words ask for it: a script is run on a fresh index in memory; or over a
-//! device, or a file: that is formatted, a script is run on the index that it holds, its tree is dumped, or it is
-//! verified. What was refused is told, by a line among the replies and by one to the user, and the program's status is
-//! answered.
+//! The program's commands, however its arguments spell them: run a script on a fresh index in memory; format a device
+//! or a file; run a script on the index that it holds, dump the tree of that, or verify it. Each command reports a
+//! refusal by a line among the replies and by one to the user, and returns the program's status.
 #![tactic(auto)]
 
 mod causes;
@@ -33,9 +32,9 @@ pub use scripts::{refuse_memory, run_script};
 pub use verifying::verify_over;
 pub use watched::Watched;
 
-/// Status: all was done.
+/// Status: the command did all of its work.
 const DONE: u8 = 0;
 
-/// Status: a refusal outside of a script, a script or a dump that a fault stopped, or a script one of whose replies
-/// told of a fault.
+/// Status: a call outside of a script was refused, a fault stopped a script or a dump, or a reply to a script reported
+/// a fault.
 const REFUSED: u8 = 1;

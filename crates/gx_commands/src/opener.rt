@@ -1,5 +1,5 @@
 //! What opens the file of a command, and what became of that.
-ghost use Rattle.std.specs.Prelude.{◌≡◌, ◌+◌, ◌-◌, ◌^◌, ◌≤◌, min, None, Some, IfOk};
+ghost use Rattle.std.specs.Prelude.{◌≡◌, ◌-◌, None, Some, IfOk};
 ghost use Rattle.gx_commands.specs.Opener.{HasRoom, Tries, is_writable, opened_with};
 ghost use Rattle.gx_disk.specs.Files.{IsOpened};
 
@@ -9,15 +9,15 @@ use std::fs::{File, Files};
 /// How a file is opened.
 #[derive(Clone, Copy, Debug, PartialEq, Eq)]
 pub enum Access {
-    /// To read and write it: it is made where it isn't there, and extended where it has fewer sectors.
+    /// To read and write it: it is created if it doesn't exist, and extended if it has fewer sectors.
     Create(u64),
     /// To read and write it.
     Write,
-    /// To read it alone.
+    /// Only to read it.
     Read,
 }
 
-/// What came of an opening.
+/// The outcome of an opening.
 #[derive(Clone, Copy)]
 pub struct Opening<'w> {
     /// The file's path.
@@ -28,8 +28,8 @@ pub struct Opening<'w> {
     pub ended: Result<u64, DiskFault>,
 }
 
-/// Opens files, one for each command, and nothing else does so: what a command of the program opens is noted here, and
-/// the device that it leaves stays here, so that nothing is done to it once the command has ended.
+/// Opens files, one for each command; nothing else opens any. It notes what a command of the program opened, and keeps
+/// the device that the command leaves, so that nothing is done to it once the command has ended.
 #[derive(Drop)]
 pub struct Opener<'w, F> {
     files: F,
@@ -38,7 +38,7 @@ pub struct Opener<'w, F> {
     left: Option<FileDisk>,
 }
 
-// How many sectors a file has that was opened, or why it wasn't.
+// How many sectors the opened file has, or why it wasn't opened.
 fn ended(opened: &Result<FileDisk, DiskFault>) -> Result<u64, DiskFault>
     ensures { result ≡ opened_with opened.now }
 {
@@ -61,7 +61,7 @@ impl<'w, F: Files<File = File>> Opener<'w, F> {
         }
     }
 
-    /// Opens a file, and notes what came of it.
+    /// Opens a file, and notes the outcome.
     pub(crate) fn open(&mut self, path: &'w str, access: Access) -> Result<FileDisk, DiskFault>
         ensures tries { Tries path.now access (opened_with result) self.old self.new }
         ensures left { self.new.left ≡ self.old.left }

@@ -1,4 +1,4 @@
-//! The opening of a device, in one word; and what is written for the user where it is refused.
+//! Opens a device, and writes for the user why an opening was refused.
 ghost use Rattle.gx_commands.specs.Streams.{outputs_of, stream_of};
 ghost use Rattle.gx_commands.specs.Openings.{Opens};
 ghost use Rattle.gx_commands.specs.Refusing.{TellsFound, TellsOpening};
@@ -42,8 +42,8 @@ pub(crate) fn tell_found<E: Write>(faults: &mut Noted<E>, found: Result<Option<D
 }
 
 /// Writes the line of an opening that was refused, `refused N text`, tells the user what it means, and returns the
-/// device and the status, 1. Where the device is damaged it is examined, and the user is told where: in its log or
-/// on which page, and which rule is broken there; unless a call fails, or memory is refused.
+/// device and the status, 1. If the device is damaged it is examined, and the user is told where: in its log or on
+/// which page, and which rule is broken there, unless a call fails or memory is refused.
 pub(crate) fn refuse_opening<D: SectorDisk + Drop, K: ReadKeys, W: Write, E: Write>(
     alloc: Global,
     refused: NotOpened<D>,

@@ -1,4 +1,4 @@
-//! What the user is told, and what a reader of replies is.
+//! What the program writes for the user.
 ghost use Rattle.std.specs.Prelude.{◌≡◌, ◌≤◌, length};
 ghost use Rattle.gx_commands.specs.Lines.{fault_text, named};
 ghost use Rattle.gx_commands.specs.Scripts.{TellsFault};
@@ -10,13 +10,13 @@ use gx_disk::DiskFault;
 use gx_script::{Noted, ScriptFault, write_whole};
 use std::io::{ErrorKind, Write};
 
-/// The most bytes of a sentence that the user is told.
+/// The most bytes of a sentence for the user.
 pub const SENTENCE: usize = 1024;
 
-/// The most bytes of its line, which begins with the program's name.
+/// The most bytes of the sentence's line, which begins with the program's name.
 const LINE: usize = 1040;
 
-/// Writes a text. Where the writer fails or takes no more, a front of it is written.
+/// Writes a text, or only a beginning of it if the writer fails or takes no more.
 pub fn print<W: Write>(writer: &mut Noted<W>, text: &[u8])
     ensures { Prints text.now (stream_of W.contents writer.old) (stream_of W.contents writer.new) }
 {
@@ -35,8 +35,8 @@ pub fn tell_person<E: Write>(faults: &mut Noted<E>, sentence: &str)
     print(faults, line.as_str().as_bytes());
 }
 
-/// Tells the user that reading or writing a script failed, and why, as far as it is known. The reader of the replies
-/// may leave before their end; that is no fault of the program, and nothing is told.
+/// Tells the user that reading or writing a script failed, and why, as far as it is known. It writes nothing on
+/// `BrokenPipe`: the reader of the replies may close its end early.
 pub fn tell_fault<E: Write>(faults: &mut Noted<E>, fault: ScriptFault, kind: Option<ErrorKind>)
     ensures { TellsFault fault kind (stream_of E.contents faults.old) (stream_of E.contents faults.new) }
 {
@@ -52,7 +52,7 @@ pub fn tell_fault<E: Write>(faults: &mut Noted<E>, fault: ScriptFault, kind: Opt
     tell_person(faults, sentence.as_str());
 }
 
-// That a file can't be opened, or a call of it failed, behind the file's name where that has room.
+// Says that a file can't be opened, or that a call of it failed, behind the file's name if there is room for that.
 fn named(file: &str, fault: DiskFault) -> ArrayString<SENTENCE>
     ensures { result.bytes ≡ named file.now (fault_text fault) }
 {

@@ -1,4 +1,4 @@
-//! A refusal outside of a script, told.
+//! Reports a refusal outside of a script.
 ghost use Rattle.std.specs.Prelude.{◌≡◌, ◌≤◌, length};
 ghost use Rattle.gx_commands.specs.Streams.{Prints, TellsPerson, outputs_of, stream_of};
 ghost use Rattle.gx_geom.specs.Refusals.{refusal_text};
@@ -31,8 +31,8 @@ fn line_of(why: Refusal) -> ArrayString<LONGEST>
     line
 }
 
-// What the user is told of a refusal, of which this is the text: of one that comes outside of scripts more than that
-// says.
+// The sentence for the user on the refusal with this text: if it comes only outside of scripts, it says more than the
+// text.
 fn sentence(why: Refusal, text: &str) -> &str
     requires words { text.now ≡ refusal_text why }
     requires short { length text.now ≤ 16 }

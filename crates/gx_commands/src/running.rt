@@ -16,7 +16,7 @@ use gx_script::{Corners, Noted};
 use std::alloc::Global;
 use std::io::{Read, Write};
 
-// Tells what a settling was refused with, and returns the status.
+// Reports why a settling was refused, if it was, and returns the status.
 fn tell_settled<W: Write, E: Write>(
     ended: Result<(), Refusal>,
     writer: &mut Noted<W>,
@@ -49,8 +49,8 @@ fn settle_after<
     (index.into_engine().into_disk(), status)
 }
 
-// What follows a script that was read to its end: where a reply told of a fault, the user is told; else the index is
-// settled. The device is handed back.
+// Ends a script that was read to its end: if a reply reported a fault, tells the user, else settles the index. Returns
+// the device and the status.
 fn end_script<
     D: SectorDisk + Drop,
     B: Corners,
@@ -73,7 +73,7 @@ fn end_script<
     settle_after(index, writer, faults)
 }
 
-// Runs a script on an index, and what follows it. The device is handed back: what isn't on it is lost.
+// Runs a script on an index, and ends it. Returns the device and the status; what isn't on the device is lost.
 fn run_watched<
     D: SectorDisk + Drop,
     B: Corners,
@@ -123,12 +123,12 @@ pub(crate) fn tell_stopped<R: Read, W: Write, E: Write>(
 /// writes the replies, gates all that is logged, and returns the device and the status. Transactions that are open at
 /// the script's end stay open, and the next opening undoes them.
 ///
-/// The status is 0 where the device was opened, the script was read to its end, no reply was refused with `Device`,
-/// `Failed` or `Damaged`, and all that was logged is gated. It is 1 in all other cases. Where the opening is refused
-/// nothing is read, and `refused N text` is written, and the user told what it means, and of damage where it lies;
-/// where the settling behind the script is refused, that line follows the replies. Where a read or a write of the
-/// script failed, or a reply told of a fault, nothing is settled, and the user is told, unless the reader of the
-/// replies has left. Of the device nothing is asked but by the opening, the script's calls and the settling.
+/// The status is 0 if the device was opened, the script was read to its end, no reply was refused with `Device`,
+/// `Failed` or `Damaged`, and all that was logged is gated. It is 1 in all other cases. If the opening is refused, the
+/// function reads nothing, writes `refused N text`, and tells the user what it means, and for damage where it lies; if
+/// the settling behind the script is refused, that line follows the replies. If a read or a write of the script failed,
+/// or a reply reported a fault, nothing is settled, and the user is told, unless the reader of the replies has closed
+/// its end. The opening, the script's calls and the settling make all calls of the device.
 pub fn run_over<
     D: SectorDisk + Drop,
     B: Corners,

@@ -1,4 +1,4 @@
-//! A device verified, and told.
+//! Verifies a device, and reports what it finds.
 ghost use Rattle.std.specs.Prelude.{◌≡◌, true, IfErr, IfSome};
 ghost use Rattle.gx_commands.specs.Streams.{outputs_of};
 ghost use Rattle.gx_commands.specs.Lines.{verified_line};
@@ -25,7 +25,7 @@ use std::io::Write;
 /// More bytes than the line has.
 const LONGEST: usize = 96;
 
-// The line that is printed of a device that was verified.
+// The line for a device that was verified.
 fn line_of(report: &Report) -> ArrayString<LONGEST>
     ensures { result.bytes ≡ verified_line report.now }
 {
@@ -69,7 +69,7 @@ fn damage_in<K: ReadKeys>(alloc: Global, copy: Option<MemDisk>) -> Result<Option
     }
 }
 
-// Tells what a device isn't verified for, and returns the status.
+// Reports why a device isn't verified, and returns the status.
 fn refuse_verified<K: ReadKeys, W: Write, E: Write>(
     alloc: Global,
     refused: NotVerified,
@@ -91,7 +91,7 @@ fn refuse_verified<K: ReadKeys, W: Write, E: Write>(
     }
 }
 
-// Verifies a device, in one word.
+// Verifies a device.
 fn verified<D: SectorDisk, K: ReadKeys + Probing>(
     alloc: Global,
     disk: &mut D,
@@ -108,9 +108,9 @@ fn verified<D: SectorDisk, K: ReadKeys + Probing>(
 /// Verifies a device with so many frames for pages, 16 to 4,096, as `gx_restart::verify` does, writes `ok commits N
 /// entries E used U`, and returns the status. Nothing is written to the device.
 ///
-/// The status is 0 where the line was written. It is 1 in all other cases: where the line couldn't be written, of
-/// which the user is told unless the reader has left; and where the device isn't verified, which writes `refused N
-/// text`, and tells the user what that means, and of damage where it lies, as it is found in a copy of the device.
+/// The status is 0 if the line was written. It is 1 in all other cases. If the line couldn't be written, the user is
+/// told, unless the reader of the line has closed its end. If the device isn't verified, the function writes `refused N
+/// text`, and tells the user what that means, and for damage where it lies, which it finds in a copy of the device.
 pub fn verify_over<D: SectorDisk, K: ReadKeys + Probing, W: Write, E: Write>(
     alloc: Global,
     disk: &mut D,

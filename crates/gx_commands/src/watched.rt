@@ -6,7 +6,7 @@ use gx_geom::Refusal;
 use gx_machine::{Call, Reply};
 use gx_script::Answers;
 
-/// What answers the calls of a script, and whether a reply has told of a fault.
+/// What answers the calls of a script, and whether a reply has reported a fault.
 #[derive(Drop)]
 pub struct Watched<I> {
     /// What answers.
@@ -24,7 +24,7 @@ impl<I> Watched<I> {
     }
 }
 
-// Whether a reply tells that the device failed, or had failed before, or holds what can't be read.
+// Whether a reply says that the device failed, or had failed before, or that what it holds can't be read.
 fn tells_fault<B>(reply: &Reply<B>) -> bool
     ensures { result ≡ tells_fault reply.now }
 {

@@ -24,7 +24,7 @@ fn value(words: &mut SplitWhitespace<'_>) -> Result<u8, RunFault> {
     u8::from_str_radix(word, 16).ok().ok_or(RunFault::BadLine)
 }
 
-/// Changes one thing, as the words say, and says what comes of it; nothing where the commands that open it differ.
+/// Changes one thing, as the words say, and returns the outcome; nothing if the commands that open it differ.
 pub(crate) fn changed(
     alloc: Global,
     asked: &str,

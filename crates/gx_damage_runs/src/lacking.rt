@@ -28,7 +28,7 @@ const FROM_HERE: usize = 1_000_003;
 
 const UP_TO_HERE: usize = 1_000_033;
 
-/// What a session is at.
+/// The state of a session.
 #[derive(Clone, Copy)]
 enum At {
     Idle,
@@ -63,7 +63,7 @@ impl fmt::Display for Lacked {
     }
 }
 
-/// An engine whose events find no memory.
+/// An engine whose events are refused memory.
 #[derive(Drop)]
 struct Lacking {
     alloc: Global,
@@ -105,7 +105,7 @@ fn draw_call(draw: &mut Pcg32) -> (Call<Box2>, At) {
 }
 
 impl Lacking {
-    /// An event, during which no memory is to be had.
+    /// Makes an event during which memory is refused.
     fn step(&mut self, event: Event<Box2>) -> Result<Outcome<Box2>, RunFault> {
         self.mark = Vec::with_capacity(self.alloc, FROM_HERE)?;
         let outcome = self.engine.step(event);
@@ -189,7 +189,7 @@ impl Lacking {
         }
     }
 
-    /// All that was logged is settled.
+    /// Gates all that was logged.
     fn settle(self) -> Result<Lacked, RunFault> {
         let Lacking {
             alloc,
@@ -218,8 +218,8 @@ fn helping(need: Need) -> Event<Box2> {
     }
 }
 
-/// Makes so many random events of a new index, of eight sessions and of the flusher, settles it, and says how often
-/// memory lacked.
+/// Makes so many random events of a new index, of eight sessions and of the flusher, settles it, and returns how often
+/// memory was refused.
 pub(crate) fn run_lacking(alloc: Global, seed: u64, events: u64) -> Result<Lacked, RunFault> {
     let sectors = (PAGES as usize).saturating_mul(8).saturating_add(4168);
     let mut disk = MemDisk::new(alloc, sectors)?;

@@ -1,10 +1,11 @@
-//! Images with damage, opened and verified: each opens or is refused by number exactly as the plain reader finds it,
-//! and verifies or isn't just so; what is said of it is found there, and what opens is a sound image of the same set.
+//! Opens and verifies images with damage. Each opens, or is refused by number, exactly as the plain reader finds it,
+//! and likewise verifies; the damage that is reported is found there, and an image that opens is a sound one of the
+//! same set.
 //!
-//! A line of `stdin` asks for one thing, and what came of it is printed behind it. `boxes SEED IMAGES` and `intervals
-//! SEED IMAGES` make random images of an index of nine rows. `new PAGES MOST` begins the life of an index of boxes. A
-//! line that begins with a digit is one of a script; `stop` opens the index, runs the script since the last stop, and
-//! keeps the image that it leaves then. `moments SEED IMAGES` takes random ones of these, with bytes changed, sectors
+//! A line of `stdin` asks for one thing, and the outcome is printed behind it. `boxes SEED IMAGES` and `intervals SEED
+//! IMAGES` make random images of an index of nine rows. `new PAGES MOST` begins the life of an index of boxes. A line
+//! that begins with a digit is one of a script; `stop` opens the index, runs the script since the last stop, and keeps
+//! the image that it leaves then. `moments SEED IMAGES` takes random ones of these, with bytes changed, sectors
 //! exchanged, and sectors of other moments. `byte SECTOR BYTE VALUE`, the last in hexadecimal, changes a byte of a new
 //! index of 16 pages with 4 entries a node; `zero SECTOR` a sector, `cut SECTORS` the number of sectors, and `frames
 //! FRAMES` nothing but with how many frames it is opened. `lacking SEED EVENTS` makes random events of an index, each
@@ -81,7 +82,7 @@ pub(crate) fn number(words: &mut SplitWhitespace<'_>) -> Result<u64, RunFault> {
     word.parse::<u64>().ok().ok_or(RunFault::BadLine)
 }
 
-/// Makes a random image, and returns what came of it, where an opening, the verification and the plain reader agree.
+/// Makes a random image, and returns its outcome, if an opening, the verification and the plain reader agree.
 fn take_image(
     alloc: Global,
     life: &Life,
@@ -208,7 +209,7 @@ impl Runs {
     }
 }
 
-/// Changes a new index as a line says, and prints what comes of it.
+/// Changes a new index as a line says, and prints the outcome.
 fn take_changed(
     rt: &HostRuntime,
     asked: &str,

@@ -1,4 +1,4 @@
-//! An image is opened, and what comes of it is compared with what the plain reader finds there.
+//! Opens an image, and compares the outcome with what the plain reader finds there.
 use crate::device::{bytes_of, device};
 use crate::fault::RunFault;
 use gx_class::{Probing, ReadKeys};
@@ -12,7 +12,7 @@ use std::alloc::Global;
 /// How many frames an opening has here.
 pub(crate) const FRAMES: usize = 16;
 
-/// What came of an image, where an opening and the plain reader agree on it.
+/// The outcome of an image, if an opening and the plain reader agree on it.
 #[derive(Clone, Copy, PartialEq, Eq)]
 pub(crate) enum Found {
     Sound,
@@ -137,10 +137,10 @@ fn open_damaged<K: ReadKeys + Probing>(
     }
 }
 
-/// Opens an image, verifies it, and returns what came of it; nothing where the plain reader finds another thing. It
-/// opens exactly where that finds nothing wrong, and then has the same number and leaves a sound image of the same
-/// set. Else it is refused with the number of the damage, and what is said of it is found there. It verifies exactly
-/// where it opens, with what is read of it.
+/// Opens an image, verifies it, and returns the outcome; nothing if the plain reader finds another thing. It opens
+/// exactly if that finds nothing wrong, and then has the same number and leaves a sound image of the same set. Else it
+/// is refused with the number of the damage, and what is said of it is found there. It verifies exactly if it opens,
+/// with what is read of it.
 pub(crate) fn judge<K: ReadKeys + Probing>(
     alloc: Global,
     bytes: &[u8],

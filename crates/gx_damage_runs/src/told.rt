@@ -103,8 +103,8 @@ fn refused(
     }
 }
 
-/// Opens a device with these bytes, and says what came of it: so many commits, or how it is refused, and what the user
-/// reads then. Nothing where the commands that open it differ.
+/// Opens a device with these bytes, and returns the outcome: so many commits, or how it is refused, and what the user
+/// reads then. Nothing if the commands that open it differ.
 pub(crate) fn tell_opening(
     alloc: Global,
     bytes: &[u8],

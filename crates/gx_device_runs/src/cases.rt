@@ -1,4 +1,4 @@
-//! A crash at each call of a batch and of a turn, and a device that fails at each: a line for each case.
+//! Tries a crash at each call of a batch and of a turn, and a device that fails at each: prints a line for each case.
 use crate::devices::{Device, crash, set_fuse};
 use crate::extents::{Seen, log_of, say_seen};
 use crate::fault::RunFault;
@@ -48,7 +48,7 @@ struct Case {
     calls: u64,
     /// Which call fails, if it is one of these.
     fault: u64,
-    /// Whether that call is made none the less where it is a write.
+    /// Whether that call is made all the same if it is a write.
     done: bool,
     left: Left,
 }
@@ -88,13 +88,13 @@ impl Case {
         log_of(alloc, &mut logged.disk)
     }
 
-    /// The same on another device.
+    /// Crashes another device so, and reads its log back.
     fn seen(self, alloc: Global) -> Result<Seen, RunFault> {
         let mut logged = Logged::new(alloc, 4232)?;
         self.run(alloc, &mut logged)
     }
 
-    /// The case in words.
+    /// The text of a case.
     fn parts(self) -> [Part<'static>; 7] {
         let (call, fault, done) = match (self.fault, self.done) {
             (u64::MAX, _) => (" calls", Part::Text(""), ", "),

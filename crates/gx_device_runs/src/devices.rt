@@ -1,4 +1,4 @@
-//! The device in memory behind a fuse, and what becomes of it.
+//! The device in memory behind a fuse, and crashes of it.
 use crate::fault::RunFault;
 use crate::words::{Line, Part, byte, say_parts, to_usize};
 use gx_disk::{Fuse, FuseDisk, MemDisk, SectorDisk, Torn};
@@ -43,7 +43,7 @@ fn renew(disk: &mut Device, alloc: Global, line: &Line<'_>) -> Result<(), AllocE
     Ok(())
 }
 
-/// A fuse by its words: behind how many calls, how often, and whether a write is done that fails.
+/// A fuse by its words: behind how many calls it blows, how often, and whether a failing write is done.
 fn fuse_by(disk: &mut Device, alloc: Global, line: &Line<'_>) {
     let fuse = if line.words[2] == "once" {
         Fuse::Once

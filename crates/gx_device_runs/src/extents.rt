@@ -34,7 +34,7 @@ fn selected_by<D: SectorDisk>(disk: &mut D) -> Result<Extent, Refusal> {
     selected(disk)
 }
 
-/// Reads the body of a place, and returns how many bytes of records it has. `None` where its gate is closed.
+/// Reads the body of a place, and returns how many bytes of records it has. `None` if its gate is closed.
 fn read<D: SectorDisk>(
     disk: &mut D,
     extent: Extent,

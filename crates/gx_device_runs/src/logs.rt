@@ -44,7 +44,7 @@ impl Work {
     }
 }
 
-/// Whether a call was made; not where the device failed.
+/// Whether a call was made; false if the device failed.
 fn is_made<T: Copy>(answer: Result<T, Refusal>) -> Result<bool, RunFault> {
     match answer {
         Ok(_) => Ok(true),
@@ -81,7 +81,7 @@ pub(crate) fn make<D: SectorDisk>(
     }
 }
 
-/// Makes the next calls, and answers of how many the device made.
+/// Makes the next calls, and returns how many of them the device made.
 pub(crate) fn make_calls<D: SectorDisk>(
     work: Work,
     log: &mut Glog,
@@ -137,7 +137,7 @@ pub(crate) fn put_head(log: &mut Glog, n: u64) -> Result<Appended, RunFault> {
     Ok(log.put_first(&counters))
 }
 
-/// Puts so many commits into the log, and returns how many went with the batch of the next place.
+/// Puts so many commits into the log, and returns how many are in the batch of the next place.
 fn fill(log: &mut Glog, records: u64) -> Result<u64, RunFault> {
     let next = Appended::At(u64::from(log.used()));
     let mut filled = 0_u64;

@@ -1,5 +1,5 @@
-//! The layers below the engine, by public calls, a line of `stdin` each, with the answer behind it: devices, records,
-//! frames, the log, scans of nodes, and random runs of the storage.
+//! Calls public functions of the layers below the engine: devices, records, frames, the log, scans of nodes, and random
+//! runs of the storage. Each line of `stdin` asks for one, and is printed with the answer behind it.
 //!
 //! An empty line, and one that begins with `#`, is printed unchanged. The first word of any other names what it is
 //! about; a line that can't be done ends the program, with status 1.

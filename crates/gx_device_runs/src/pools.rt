@@ -1,5 +1,5 @@
 //! Frames over a device, call by call.
-ghost use Rattle.std.specs.Prelude.{◌≡◌, ◌==◌, ◌≤◌};
+ghost use Rattle.std.specs.Prelude.{◌≡◌, ◌==◌};
 ghost use Rattle.std.specs.Bool.{OnTrue};
 ghost use Rattle.gx_pool.specs.Area.{IsPage, first_of};
 
@@ -113,7 +113,7 @@ fn write<D: SectorDisk>(pool: &mut Pool<Leaves>, disk: &mut D, page: u32) -> Ans
     }
 }
 
-/// Holds no page, and lets go of what was held.
+/// Holds no page, and releases those that were held.
 fn hold_none<D: SectorDisk>(pool: &mut Pool<Leaves>, disk: &mut D) -> Answer {
     pool.bring(disk, &[])?;
     pool.release();

@@ -19,7 +19,7 @@ pub(crate) const ROOM: usize = 12_400;
 /// The key of all records that have one.
 const KEY_BYTES: [u8; KEY] = [0, 0, 0, 0, 0, 0, 0, 0, 0, 0, 0, 10, 0, 0, 0, 10];
 
-/// Whether the record is read from the front of the bytes, and is so long.
+/// Whether this record is read from the front of the bytes, and has so many.
 fn is_read(given: &Record<'_>, bytes: &[u8], size: usize) -> bool {
     matches!(Record::decode(bytes, KEY), Some((read, taken)) if read == *given && taken == size)
 }

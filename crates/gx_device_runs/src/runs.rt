@@ -92,8 +92,8 @@ struct Step {
     changes: bool,
 }
 
-/// Takes a step: every fourth gates all batches before it, a page is written where one may be, and one is read, and
-/// perhaps changed. The first fault ends it.
+/// Takes a step: every fourth gates all batches before it; a page is written if one may be; one is read, and perhaps
+/// changed. The first fault ends it.
 fn take_step<D: SectorDisk>(run: &mut Run, disk: &mut D, step: Step) -> Option<PoolFault> {
     let Step {
         number,
@@ -166,7 +166,7 @@ fn say_long<R: Print>(rt: &R, alloc: Global) -> Result<(), RunFault> {
     )
 }
 
-/// How often the device failed at a step, which is then taken again. `None` where it is refused again, or else.
+/// How often the device failed at a step, which is then repeated. `None` if it is refused again, or for another reason.
 fn take_step_again<D: SectorDisk>(run: &mut Run, disk: &mut D, step: Step) -> Option<u64> {
     let fault = take_step(run, disk, step);
     if fault.is_none() {
@@ -178,7 +178,7 @@ fn take_step_again<D: SectorDisk>(run: &mut Run, disk: &mut D, step: Step) -> Op
     Some(1)
 }
 
-/// In how many of 30 steps over 20 pages the device failed. `None` where a step is refused again, or else.
+/// In how many of 30 steps over 20 pages the device failed. `None` if a step is refused again, or for another reason.
 fn run_with_faults<D: SectorDisk>(run: &mut Run, disk: &mut D, stream: u64) -> Option<u64> {
     let mut draw = Pcg32::new(7, stream);
     let mut faults = 0_u64;

@@ -59,14 +59,14 @@ fn found_by(
     Some(all)
 }
 
-/// The same on pages that were made. `None` where they aren't nodes too.
+/// The same on pages that were made. `None` if they aren't nodes too.
 fn found_on(pages: &Pages, boxes: &Boxes, kind: Kind) -> Option<Found> {
     let leaf = Leaf::<Box2Class>::read(&pages.leaf).ok()?;
     let inner = Inner::<Box2Class>::read(&pages.inner, 1).ok()?;
     found_by(&leaf, &inner, boxes, kind)
 }
 
-/// All queries of a kind on pages with all boxes, so many on each. `None` where a scan and the filter differ, and where
+/// All queries of a kind on pages with all boxes, so many on each. `None` if a scan and the filter differ, and if
 /// memory is refused.
 fn found_on_pages(alloc: Global, kind: Kind, count: usize) -> Option<Found> {
     let boxes = Boxes::new();

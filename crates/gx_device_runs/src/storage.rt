@@ -1,5 +1,5 @@
 //! Random runs of the storage, with a tree in memory beside it: after each run the device is read back by its format
-//! alone, and is to have the pages, the set and the numbers of the tree as it was when the last batch was gated.
+//! alone, and must have the pages, the set and the numbers that the tree had when the last batch was gated.
 //!
 //! Behind the word of a line come the greatest number of entries a node, a number of frames, a seed and a number of
 //! steps. `whole` makes a run of so many steps and prints how often each thing was done. `each` has a stride, and makes

@@ -40,7 +40,7 @@ unfolding pending_below
 pending_below_same p q zero same = refl
 pending_below_same p q (suc s) same = rw (pending_below_same p q s same, same s) refl
 
--- a crash told by the calls since the last sync is one of the device
+-- a crash computed from the calls since the last sync is a crash of the device
 pub crash_of_device : (sectors : ℕ) (calls : List PastCall) (kept now left : List ℕ) (torn : List Torn) (synced synced_size : ℕ) → IsKept sectors calls kept synced synced_size
     → IsCrash sectors (pending_after (drop synced calls) false) torn (bytes_before (drop synced calls) (drop synced_size kept) now) now left
     → IsCrash sectors (pending_after calls false) torn (bytes_at synced calls kept now) now left

@@ -7,7 +7,7 @@ pub ok_both : {T E : Type 0} (P Q : Type 0) (result : Result T E) → OnOk resul
 ok_both P Q (Ok x) p q = (p, q)
 ok_both P Q (Err e) p q = tt
 
--- what is so of an Ok under a premise, as of an honest device, is under that premise so of the Ok
+-- what holds of an Ok under a premise, such as that the device is honest, holds of the Ok under that premise
 pub ok_when : {T E : Type 0} (A P : Type 0) (result : Result T E) → (A → OnOk result P) → OnOk result (A → P)
 ok_when A P (Ok x) when = when
 ok_when A P (Err e) when = tt

@@ -23,7 +23,7 @@ put_back at new xs fits =
     let rest : List ℕ = drop (length new) (drop at xs) in
     rw (drop_at (take at xs) (new ++ rest) at (length-take-le at xs (omega arith))) (take_at new rest (length new) refl)
 
--- what lies before is as it was
+-- what lies before is unchanged
 pub put_before : (at : ℕ) (new xs : List ℕ) (b n : ℕ) → b + n ≤ at → at ≤ length xs → take n (drop b (put at new xs)) ≡ take n (drop b xs)
 unfolding put
 put_before at new xs b n below fits =
@@ -31,12 +31,13 @@ put_before at new xs b n below fits =
     let front = take-append-le (b + n) (take at xs) rest (omega (arith, length-take-le at xs fits)) ∙ take-take (b + n) at xs below in
     sym (drop-take b n (take at xs ++ rest)) ∙ ap (drop b) front ∙ drop-take b n xs
 
--- what lies behind is as it was
+-- what lies behind is unchanged
 pub put_behind : (at : ℕ) (new xs : List ℕ) (b : ℕ) → at + length new ≤ b → at ≤ length xs → drop b (put at new xs) ≡ drop b xs
 unfolding put
 put_behind at new xs b above fits = drop-put_mid at (length new) xs new b above fits refl
 
--- The first m bytes put back give the list back, where only they and bytes that were rewritten as they stood had changed.
+-- The first m bytes put back give the list back, where only they had changed, and bytes that were rewritten with the
+-- same values.
 pub put_restores : (at m : ℕ) (xs ys : List ℕ) → at + m ≤ length xs → take at ys ≡ take at xs → drop m (drop at ys) ≡ drop m (drop at xs) → put at (take m (drop at xs)) ys ≡ xs
 unfolding put
 put_restores at m xs ys fits front rest =

@@ -158,7 +158,7 @@ pub walk_over : (calls : List PastCall) (i : ℕ) (rest now : List ℕ) → leng
 unfolding bytes_before
 walk_over calls i rest now le = ap (λ cs. bytes_before cs rest now) (drop_all i calls le)
 
--- a sector's bytes put over those that are there
+-- a sector's bytes written over the old ones
 pub record SectorPut (s : ℕ) (new old bytes : List ℕ) : Type 0 where
   pub size : length bytes ≡ length old
   pub there : sector_of bytes s ≡ new

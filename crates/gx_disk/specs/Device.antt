@@ -54,7 +54,7 @@ pub record Rests (old new : Device) : Type 0 where
 abbrev pub SamePending : Device → Device → Type 0
 SamePending old new = (s : ℕ) → new.pending s ≡ old.pending s
 
--- a sector is pending, or it is as it was
+-- a sector is pending, or its bytes haven't changed
 abbrev pub IsTornOrSame : ℕ → Device → Device → Type 0
 IsTornOrSame s old new = (new.pending s ≡ true) ⊎ ((sector_of new.seen s ≡ sector_of old.seen s) × (new.pending s ≡ old.pending s))
 
@@ -78,7 +78,7 @@ pub record Reads {T E : Type 0} (first : ℕ) (bytes : List ℕ) (old new : Devi
   pub pending : SamePending old new
   pub time : Elapses old new
 
--- what a write of n sectors from sector first on does: where it fails, each of them is torn or as it was
+-- what a write of n sectors from sector first on does: where it fails, each of them is torn or unchanged
 pub record Writes {T E : Type 0} (first n : ℕ) (bytes : List ℕ) (old new : Device) (result : Result T E) : Type 0 where
   pub touches : Touches first n old new
   pub written : OnOk result (IsWritten first n bytes old new)

@@ -6,7 +6,7 @@ use Rattle.gx_disk.specs.declared.device.DiskFault.{DiskFault}
 use Rattle.gx_disk.specs.declared.device.DiskFault.TheVariants.{File, InputOutput}
 use Rattle.gx_disk.specs.declared.file.FileDisk.{FileDisk}
 
--- an error of the system is a fault of its kind; but one of input or output, which has the number 5, is one of its own
+-- an error of the system is a fault of its kind; but an input or output error, number 5, is a separate fault
 pub record IsFaultOf (error : Error) (fault : DiskFault) : Type 0 where
   pub kind : (raw_os_error error ≡ Some (pos 5) → ⊥) → fault ≡ File (error_kind error)
   pub io : raw_os_error error ≡ Some (pos 5) → fault ≡ InputOutput

@@ -1,4 +1,4 @@
--- The laws of runs of reads. A device is spoken of by what contracts see of it.
+-- The laws of runs of reads. They speak of a device's state, as contracts see it.
 use Rattle.std.specs.Prelude.{ℕ, List, Result}
 use Rattle.gx_disk.specs.declared.device.DiskFault.{DiskFault}
 use Rattle.gx_disk.specs.Device.{Device, Reads}

@@ -27,7 +27,7 @@ pub enum DiskFault {
     ReadOnly,
 }
 
-/// Whatever calls a device is refused with `Device` where that failed.
+/// A function that calls a device is refused with `Device` if that call failed.
 impl From<DiskFault> for Refusal {
     ghost use Rattle.gx_geom.specs.declared.refusal.Refusal.TheVariants.{Device as DeviceRefusal};
 
@@ -39,10 +39,10 @@ impl From<DiskFault> for Refusal {
 }
 
 pub trait SectorDisk {
-    /// What contracts see of it.
+    /// How contracts see the device.
     ghost state: { Self → Device };
 
-    /// How many sectors it has.
+    /// How many sectors the device has.
     fn sectors(&self) -> u64
         ensures { result ≡ (state self.now).sectors };
 
@@ -60,19 +60,19 @@ pub trait SectorDisk {
         ensures writes { (state self.old).honest ≡ true
             → Writes first (length bytes.now / SECTOR_SIZE) bytes.now (state self.old) (state self.new) result };
 
-    /// Settles every sector.
+    /// Makes every sector durable.
     fn sync(&mut self) -> Result<(), DiskFault>
         ensures counts { Counts 1 (state self.old) (state self.new) result }
         ensures syncs { (state self.old).honest ≡ true → Syncs (state self.old) (state self.new) result };
 
-    /// It reads whole sectors.
+    /// The device reads whole sectors.
     ghost whole: { (d : Self) → (state d).honest ≡ true → length (state d).seen ≡ 512 * (state d).sectors };
 
-    /// This moment is one of those since an earlier one.
+    /// What a crash may leave now is among what a crash may have left since each earlier moment.
     ghost counts_now: { (d : Self) (t : ℕ) (image : List ℕ) → (state d).honest ≡ true → t ≤ (state d).moment
         → MayLeave (state d) image → (state d).left_since t image };
 
-    /// Since this moment there is no other.
+    /// What a crash may have left since this moment is what a crash may leave now.
     ghost only_now: { (d : Self) (image : List ℕ) → (state d).honest ≡ true
         → (state d).left_since (state d).moment image → MayLeave (state d) image };
 }

@@ -1,6 +1,6 @@
 //! A device in a file.
 //!
-//! Nothing is claimed of what the file holds: that the system keeps it is a premise of whoever runs on a file.
+//! Nothing is claimed of the file's contents: that the system keeps them is assumed by the callers.
 ghost use Rattle.std.specs.Prelude.{◌≡◌, ◌*◌, ◌^◌, ◌<◌};
 ghost use Rattle.gx_disk.specs.Streams.{IsNoStream};
 
@@ -16,9 +16,9 @@ use std::alloc::Global;
 use std::fs::File;
 use std::sync::Arc;
 
-/// A file of whole sectors. Where it is open for writing no other opener of this kind has it, and where it is open for
-/// reading alone no other has it for writing. Its descriptor is no standard stream's, also where those are closed: so
-/// nothing that a program writes to its output can reach the file, and its input is never read from it.
+/// A file of whole sectors. While it is open for writing, no other `FileDisk` has the file open; while it is open only
+/// for reading, no other has it open for writing. Its descriptor is never that of a standard stream, even if those are
+/// closed: so no output of the program can reach the file, and no input is read from it.
 #[derive(Drop)]
 pub struct FileDisk {
     file: File,
@@ -26,7 +26,7 @@ pub struct FileDisk {
     writable: bool,
     /// Whether the file grew since the last sync that succeeded.
     grown: bool,
-    /// What it and its handle for early syncs know of each other, if it has one.
+    /// What the device and its handle for early syncs share, if it has one.
     ahead: Option<Arc<Marks, Global>>,
     /// Why the last call that failed did so.
     fault: Option<DiskFault>,

@@ -42,8 +42,8 @@ pub struct FuseDisk<D> {
 }
 
 impl<D: SectorDisk> FuseDisk<D> {
-    /// Passes k reads, writes and syncs to the inner device. Then one fails, or every one.
-    /// `done` says whether a failing write is made none the less.
+    /// Passes k reads, writes and syncs to the inner device. Then one call fails, or every call. `done` says whether a
+    /// failing write is made all the same.
     pub fn new(inner: D, k: u64, fuse: Fuse, done: bool) -> FuseDisk<D>
         ensures inner { result.inner ≡ inner }
         ensures left { result.left ≡ k }
@@ -64,7 +64,7 @@ impl<D: SectorDisk> FuseDisk<D> {
         }
     }
 
-    /// The inner device, as the calls left it.
+    /// Returns the inner device, as the calls left it.
     pub fn into_inner(self) -> D
         ensures { result ≡ self.inner }
     {
@@ -81,7 +81,8 @@ impl<D: SectorDisk> FuseDisk<D> {
         inner
     }
 
-    /// How many reads, writes and syncs it has passed on, whatever the inner device answered. At 2^64 - 1 it stays.
+    /// How many reads, writes and syncs it has passed on, whatever the inner device returned. The count stays at 2^64 -
+    /// 1.
     pub fn calls(&self) -> u64
         ensures { result ≡ self.now.passed }
     {
@@ -89,7 +90,7 @@ impl<D: SectorDisk> FuseDisk<D> {
     }
 }
 
-// One call less is left to pass, or the fuse blows, which is answered.
+// Counts a call: one less is left to pass, or the fuse blows. Returns whether it blows.
 fn burn(left: &mut u64, blown: &mut bool, fuse: Fuse) -> bool
     ensures blows { result ≡ blows left.old blown.old fuse }
     ensures left { left.new ≡ left.old - 1 }
@@ -104,7 +105,7 @@ fn burn(left: &mut u64, blown: &mut bool, fuse: Fuse) -> bool
     again
 }
 
-// The outcome of a call that was passed on, which is counted.
+// Counts a call that was passed on, and returns its outcome.
 fn passed_on(passed: &mut u64, outcome: Result<(), DiskFault>) -> Result<(), DiskFault>
     ensures outcome { result ≡ outcome }
     ensures passed { passed.new ≡ passed_after false passed.old }

@@ -28,8 +28,8 @@ pub enum Torn {
 // A write or sync that was made.
 #[derive(Clone, Copy)]
 pub(crate) enum PastCall {
-    // So many sectors from the first on.
-    // Of the last ones the overwritten bytes aren't kept, since they stayed as they were.
+    // A write of so many sectors from the first on. The overwritten bytes of the last ones aren't kept, since the write
+    // didn't change them.
     Write {
         first: usize,
         sectors: usize,
@@ -97,7 +97,7 @@ fn changed(old: &[u8], new: &[u8]) -> usize
     n
 }
 
-// Puts a call and its overwritten bytes into the record. Where there is no memory for them, the record stays as it was.
+// Puts a call and its overwritten bytes into the record. If there is no memory for them, the record doesn't change.
 fn remember(
     past: &mut Vec<PastCall>,
     kept: &mut Vec<u8>,
@@ -146,7 +146,7 @@ impl MemDisk {
         }
     }
 
-    /// A device of so many sectors of zero bytes, with nothing pending. Refused where there is no memory for it.
+    /// Makes a device of so many sectors of zero bytes, with nothing pending. Refused if there is no memory for it.
     pub fn new(alloc: Global, sectors: usize) -> Result<MemDisk, AllocError>
         ensures bytes { IfOk result (λ disk. disk.bytes.items ≡ replicate (512 * sectors) 0) }
         ensures past { IfOk result (λ disk. disk.past.items ≡ []) }
@@ -159,8 +159,8 @@ impl MemDisk {
         Ok(MemDisk::from_bytes(alloc, bytes))
     }
 
-    /// Takes room for the record of so many writes and syncs that write so many sectors in all.
-    /// Refused where there is none.
+    /// Allocates the record of so many writes and syncs that write so many sectors in all. Refused if memory is
+    /// refused.
     pub fn reserve(&mut self, calls: usize, sectors: usize) -> Result<(), AllocError>
         ensures room { OnOk result (HasRoom calls (512 * sectors) self.new.past self.new.kept) }
         ensures bytes { self.new.bytes ≡ self.old.bytes }
@@ -175,8 +175,8 @@ impl MemDisk {
         self.kept.reserve(size)
     }
 
-    /// Cuts the device to its first sectors, with nothing pending. Its record begins anew;
-    /// faults and calls are counted on.
+    /// Cuts the device to its first sectors, with nothing pending. Its record is empty then; the counts of faults and
+    /// calls go on.
     #[tactic(auto, unfolding(crate::specs::Memory::total_kept, crate::specs::Memory::fit_all))]
     pub fn cut(&mut self, sectors: usize)
         requires { sectors ≤ self.old.sectors }
@@ -203,7 +203,7 @@ impl MemDisk {
 
     #[tactic(auto, unfolding(crate::specs::Memory::total_kept, crate::specs::Memory::fit_all))]
     /// A crash. The i-th unsynced sector by number takes the choice i mod the number of choices; with none all are old.
-    /// Afterwards nothing is pending, and the record begins anew; faults and calls are counted on.
+    /// Afterwards nothing is pending, and the record is empty; the counts of faults and calls go on.
     pub fn crash(&mut self, torn: &[Torn])
         ensures crash { IsCrash self.old.sectors (pending_after self.old.past.items false) torn.now
             (bytes_at self.old.synced self.old.past.items self.old.kept.items self.old.bytes.items)

@@ -1,4 +1,5 @@
-//! A device in memory that keeps no record of its writes and syncs. Proofs alone know them, so no crash can be asked.
+//! A device in memory that keeps no record of its writes and syncs. Only proofs know them, so the device can't be
+//! crashed.
 ghost use Rattle.std.specs.Prelude.{◌≡◌, ◌*◌, ◌/◌, ◌++◌, ◌∷◌, [], List, ℕ, true, length, replicate, IsOk, IfOk};
 ghost use Rattle.gx_disk.specs.Sectors.{IsSpan};
 ghost use Rattle.gx_disk.specs.Device.{Counts, Reads, Writes, Syncs};
@@ -14,7 +15,7 @@ use std::alloc::{AllocError, Global};
 use std::marker::Model;
 
 /// The writes and syncs of a device since it was made, and the bytes that they overwrote. Only proofs read it: it takes
-/// no bytes, so it may grow for ever.
+/// no bytes, so it may grow without bound.
 #[derive(Drop)]
 pub(crate) struct Past {
     pub(crate) ghost calls: { List PastCall },
@@ -37,8 +38,8 @@ impl Past {
     }
 }
 
-/// A device in memory, of which no crash can be asked. Contracts see it as they see a `MemDisk`. Neither a write nor a
-/// sync of it takes memory, so none fails.
+/// A device in memory that can't be crashed. Contracts see it as they see a `MemDisk`. Its writes and syncs take no
+/// memory, so none fails.
 #[derive(Drop)]
 pub struct RamDisk {
     sectors: usize,
@@ -51,7 +52,7 @@ pub struct RamDisk {
 }
 
 impl RamDisk {
-    /// A device of so many sectors of zero bytes, with nothing pending. Refused where there is no memory for it.
+    /// Makes a device of so many sectors of zero bytes, with nothing pending. Refused if there is no memory for it.
     #[tactic(auto, unfolding(crate::specs::Memory::total_kept, crate::specs::Memory::fit_all))]
     pub fn new(alloc: Global, sectors: usize) -> Result<RamDisk, AllocError>
         ensures bytes { IfOk result (λ disk. disk.bytes.items ≡ replicate (512 * sectors) 0) }
@@ -70,7 +71,7 @@ impl RamDisk {
         })
     }
 
-    /// What was made of the device, once this call of it is made.
+    /// Returns the calls that were made of the device, with this one behind them.
     fn past_after(&self, call: &PastCall) -> Past
         ensures { (result.calls ≡ self.now.past.calls ++ call.now ∷ [])
             × (result.kept ≡ self.now.past.kept ++ kept_of call.now self.now.bytes.items) }

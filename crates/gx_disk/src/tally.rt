@@ -1,4 +1,4 @@
-//! A count that only proofs read. It takes no bytes, so it may rise for ever.
+//! A count that only proofs read. It takes no bytes, so it may rise without bound.
 ghost use Rattle.std.specs.Prelude.{◌≡◌, ◌+◌, ℕ, MatchResult};
 ghost use base.Fml.{ftrue};
 
@@ -26,7 +26,7 @@ impl Tally {
         Tally {}
     }
 
-    /// It was done once more.
+    /// The count after one time more.
     pub(crate) fn next(&self) -> Tally
         ensures { result.count ≡ self.now.count + 1 }
     {
@@ -34,7 +34,7 @@ impl Tally {
     }
 }
 
-/// A call's outcome. A refusal counts as one fault.
+/// Returns a call's outcome. A refusal counts as one fault.
 pub(crate) fn counted(faults: &mut Tally, outcome: Result<(), DiskFault>) -> Result<(), DiskFault>
     ensures outcome { result ≡ outcome }
     ensures faults { MatchResult outcome (λ _. faults.new.count ≡ faults.old.count)

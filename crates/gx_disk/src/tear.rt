@@ -86,7 +86,7 @@ fn old_bytes<'a>(calls: &[PastCall], kept: &'a [u8], sectors: usize, s: usize) -
     None
 }
 
-// Puts a sector's bytes over those that are there.
+// Overwrites a sector with these bytes.
 #[tactic(auto, using(crate::proofs::Tearing::sector_put))]
 fn overwrite_sector(bytes: &mut Vec<u8>, s: usize, new: &[u8])
     requires size { length new.now ≡ 512 }
@@ -147,7 +147,7 @@ fn one_if(yes: bool) -> usize
     if yes { 1 } else { 0 }
 }
 
-// Gives a sector its bytes by the i-th choice if it is pending. Answers the place of the next choice.
+// If a sector is pending, gives it its bytes by the i-th choice. Returns the place of the next choice.
 #[tactic(auto, unfolding(crate::specs::Crash::crashed))]
 fn tear_next(
     bytes: &mut Vec<u8>,

@@ -8,7 +8,7 @@ use Rattle.gx_glog.specs.Turning.{TouchesIn}
 use Rattle.gx_pool.specs.Elsewhere.{LeavesPages}
 
 module _ (d e : Device) where
-  -- gates and bodies stand ahead of the pages
+  -- gates and bodies lie ahead of the pages
   pub batches_apart : Touches LOG_AT LOG_SECTORS d e → LeavesPages d e
   batches_apart touches = record { first = LOG_AT; count = LOG_SECTORS; ahead = omega arith; touches = touches }
 

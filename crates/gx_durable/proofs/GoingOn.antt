@@ -1,4 +1,4 @@
--- A log that was found goes on where it stands.
+-- A log that was found goes on from where it ends.
 use Rattle.std.proofs.Common.{◌≡◌, ◌∙◌, sym, ap, refl, subst, inl, inr, ℕ, ◌<◌, ◌≤◌, ◌&&◌, List, None, Some, Option, Result, Ok, Err, arith}
 use Rattle.std.proofs.Math.Path.{fun_ext}
 use Rattle.std.specs.Prelude.{OnOk, nat_le, nat_lt}
@@ -110,7 +110,7 @@ module _ {E P : Type 0} (k : Known E P) (r : Reading E P) where
     abbrev n : ℕ
     n = opened d.seen
 
-    -- the first two sectors are as they were
+    -- the first two sectors are unchanged
     head_kept : (image : List ℕ) → KeepsRun x n d.seen image → head_in image ≡ head_in d.seen
     head_kept image keeps =
         let at = placed x in
@@ -119,7 +119,7 @@ module _ {E P : Type 0} (k : Known E P) (r : Reading E P) where
     pages_kept : (image : List ℕ) → KeepsRun x n d.seen image → (s : ℕ) → PAGES_AT ≤ s → sector_of image s ≡ sector_of d.seen s
     pages_kept image keeps s from = let at = placed x in keeps.others s (inr (omega (arith, at.bodies, at.to, from)))
 
-    -- each body is as it was
+    -- each body is unchanged
     kept_sizes : (image : List ℕ) → KeepsRun x n d.seen image → HasSizes image
     kept_sizes image keeps j less =
         let at = placed x in

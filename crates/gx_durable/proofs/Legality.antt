@@ -37,7 +37,7 @@ module _ {E P : Type 0} (k : Known E P) (l : IsLawful k) (r : Reading E P) where
       ap (λ b. if b then r.content (bytes_of image p) else r.no_page) (and_all (nat_lt 0 p) (nat_le p pages) (lt-ltb 0 p low) (le-leb p pages high))
 
   module _ (log : List (Record E P)) (image : List ℕ) (t : Tree P) (is : IsLog k log) (of : IsTreeOf k r log image t) where
-    -- the tree of an image agrees with the one that the theory tells of
+    -- the tree of an image agrees with the theory's
     agrees : AgreeOnUsed (tree_of k (area_of r k.pages image) log) t
     agrees = record {
       counter = of.counter;

@@ -9,7 +9,7 @@ use Rattle.gx_glog.specs.declared.extent.Extent.{Extent}
 use Rattle.gx_glog.specs.declared.stage.Turn.{Turn}
 use Rattle.gx_glog.specs.declared.stage.Turn.TheVariants as turn
 use Rattle.gx_glog.specs.Layout.{selected_of, is_open, open_run}
-use Rattle.gx_glog.specs.State.{Log, turning}
+use Rattle.gx_glog.specs.State.{Log}
 use Rattle.gx_glog.specs.State as log_state
 use Rattle.gx_glog.specs.Standing.{MayTurn}
 use Rattle.gx_glog.specs.Turning.{TurnCallFor, GoesOnTurning, KeepsMayTurn}
@@ -26,7 +26,7 @@ use Rattle.gx_durable.specs.Spelled.{Reading}
 use Rattle.gx_durable.specs.Bodies.{AreBodies}
 use Rattle.gx_durable.specs.Area.{area_of}
 use Rattle.gx_durable.specs.Standing.{MayRenew, Carries, Stands}
-use Rattle.gx_durable.specs.Steps.{bodies_turned, GoesOn}
+use Rattle.gx_durable.specs.Steps.{bodies_turned}
 use Rattle.gx_durable.specs.Steps as steps
 use Rattle.gx_durable.specs.Opening.{FoundIsUpToTurn, ACrashBeforeTheTurn, UpMayTurn, AfterCall, FirstTurnKeeps}
 use Rattle.gx_durable.proofs.Crashes.{crash_leaves, shown_stands, stands_before}

@@ -36,7 +36,7 @@ use Rattle.gx_durable.proofs.Reading.{later_stamps}
 use Rattle.gx_durable.proofs.Recording.{write_stores}
 use Rattle.gx_durable.proofs.Stepping.{call_stands}
 
--- a page that may be written has a stamp, up to the last batch that the pool was told of
+-- a page that may be written has a stamp, up to the last batch that the pool has noted
 stamp_up_to : (gated : ℕ) (stamp : Option ℕ) → is_gated gated stamp ≡ true → (place : ℕ) × (stamp ≡ Some place) × (place ≤ gated)
 stamp_up_to gated None is = absurd cc
 stamp_up_to gated (Some place) is = (place, refl, leb-true place gated is)

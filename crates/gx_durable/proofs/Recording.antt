@@ -37,7 +37,7 @@ one_page {P} page p content area x this other = elim (true_or_false (page == p))
   | inr not_so ↦ other (λ e. unequal page p (sym e) not_so) ∙ sym (ap (λ b. if b then content else area p) not_so)
 ]
 
--- the bytes of a page that is in a frame are told by its contents, whatever the stamp
+-- the contents of a page in a frame decide its bytes, whatever the stamp
 kept_bytes : (o n : Option Kept) (was now : List ℕ) → contents_of n ≡ contents_of o → (o ≡ None → now ≡ was) → bytes_by n now ≡ bytes_by o was
 kept_bytes None None was now same rests = rests refl
 kept_bytes None (Some k) was now same rests = absurd (let never : ◌≡◌ {A = Option Contents} (Some k.page) None = same in cc)

@@ -18,7 +18,7 @@ use Rattle.gx_durable.proofs.Stepping.{none_flies, step_up, step_goes, call_stan
 use Rattle.gx_durable.proofs.Stamping.{step_said, step_stamped}
 
 module _ {E P : Type 0} (k : Known E P) (r : Reading E P) where
-  -- a step of the log, after which the pool is told
+  -- a step of the log, which is then noted in the pool
   pub step_runs : (old new : Log) (frames frames' : State) (d e : Device) (made : ℕ) (result : Result Stage Refusal) → frames' ≡ told_frames result new frames → Counts made d e result → Goes old new result
       → (d.honest ≡ true → CallOf new d e result) → (result ≡ Ok Idle → e ≡ d)
       → (d.honest ≡ true → On old d.seen d.pending → Keeps old new d e result) → StepKeepsRunning k r old new frames frames' d e result

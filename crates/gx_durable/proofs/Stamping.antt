@@ -26,7 +26,7 @@ kept_there : (s : State) (n : ℕ) (o : Option ℕ) → kept_at (record s { gate
 kept_there s n None = refl
 kept_there s n (Some i) = refl
 
--- a pool that is told keeps its pages
+-- a pool in which a gated batch is noted keeps its pages
 pub told_kept : (s : State) (n p : ℕ) → kept (record s { gated = n }) p ≡ kept s p
 unfolding kept
 told_kept s n p = kept_there s n (place_of s p)
@@ -130,7 +130,7 @@ none_later log frames placed p place is = elim (placed p place is) [
   | inr fills ↦ omega (arith, fills.0)
 ]
 
--- a log that has as many places taken, and fills with as much
+-- a log that has the same number of places taken, and the same filling batch
 pub same_placed : (old new : Log) (frames : State) → new.used ≡ old.used → new.filling ≡ old.filling → AllPlaced old frames → AllPlaced new frames
 same_placed old new frames used filling placed p place is = elim (placed p place is) [
   | inl began ↦ inl (omega (arith, began, used))

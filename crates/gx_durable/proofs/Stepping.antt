@@ -163,7 +163,7 @@ calls_were BodySync due new before now is calls = calls
 calls_were Gate due new before now is calls = let C : Log → Type 0 = λ x. CallFor {T = Stage} Gate x before now (Ok Gate) in subst C is calls
 calls_were GateSync due new before now is calls = calls
 
--- which call it was, told of the batch that was due
+-- which call it was, by the batch that was due
 call_was : (due new : Log) (before now : Device) (result : Result Stage Refusal) → Made due new result → CallOf new before now result
     → CallFor {T = Stage} due.stage due before now result
 call_was due new before now (Ok stage) made calls =

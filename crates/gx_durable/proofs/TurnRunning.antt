@@ -39,7 +39,7 @@ module _ {E P : Type 0} (r : Reading E P) (x : Rec) (old new : Log) where
       subst F (sym (ap (λ (g : Log). g.flight) puts.2)) (spelling_adds r old.flight head x is (record { in_range = range; has_key = key }))
   head_grows NoRoom range puts head key is = let F : List ℕ → Type 0 = λ bytes. AreRecords r bytes head in subst F (sym (ap (λ (g : Log). g.flight) puts.1)) is
 
-  -- what the device carries is told as before
+  -- what the device carries is as before
   pub head_carries : (k : Known E P) (result : Appended) (sectors : ℕ) (seen : List ℕ) (pending : ℕ → Bool) (bodies : List (List (Record E P))) (s : Logged E P) → old.stage ≡ Idle
       → PutsFirst (spelling x) old new result → Carries k r old sectors seen pending bodies s → Carries k r new sectors seen pending bodies s
   head_carries k (At place) sectors seen pending bodies s idle puts c =
@@ -104,7 +104,7 @@ turned_stamped log new frames s (Ok t) turns behind places clean =
 turned_stamped log new frames s (Err refusal) turns behind places clean =
     let L : Log → Type 0 = λ g. Stamped g frames s in subst L (sym turns.1) (none_stamped log frames s behind places clean)
 
--- the head is as it was until the turn has ended
+-- the head is unchanged until the turn has ended
 pub same_head : (log new : Log) (result : Result Turn Refusal) (X : List ℕ → Type 0) → log_state.Turns log new result → X log.flight → Until result (X new.flight)
 same_head log new (Ok turn.Done) X turns x = tt
 same_head log new (Ok turn.Closed) X turns x = subst X (sym (ap (λ (g : Log). g.flight) (turns.1 ∙ ap (λ u. after_turn u log) (sym turns.0)))) x
@@ -119,7 +119,7 @@ pub told_call : (call : Turn) (frames frames' : State) → frames' ≡ told_turn
 told_call call frames frames' is = is
 
 module _ {E P : Type 0} (k : Known E P) (r : Reading E P) where
-  -- a step of a turn, after which the pool is told
+  -- a step of a turn, which is then noted in the pool
   pub turn_runs : (old new : Log) (frames frames' : State) (d e : Device) (result : Result Turn Refusal) → frames' ≡ told_result result frames → Counts 1 d e result → old.stage ≡ Idle → NoneDirty frames
       → log_state.Turns old new result → (d.honest ≡ true → TurnCallFor old.turn old d e result)
       → (d.honest ≡ true → On old d.seen d.pending → KeepsTurning old new d e result) → TurnKeepsRunning k r old new frames frames' d e result

@@ -12,7 +12,7 @@ use Rattle.gx_glog.specs.declared.stage.Stage.TheVariants.{Idle}
 use Rattle.gx_glog.specs.declared.stage.Turn.{Turn}
 use Rattle.gx_glog.specs.declared.stage.Turn.TheVariants as turn
 use Rattle.gx_glog.specs.Layout.{gates_of, bodies_of, other_of, body_of, batches_of}
-use Rattle.gx_glog.specs.State.{Log, turning, after_turn, turned}
+use Rattle.gx_glog.specs.State.{Log, after_turn, turned}
 use Rattle.gx_glog.specs.State as log_state
 use Rattle.gx_glog.specs.Standing.{gated_of}
 use Rattle.gx_glog.specs.Turning.{TurnCallFor, TurnCalls, Selects, TouchesIn}

@@ -23,7 +23,8 @@ first_glog = starting A 1
 abbrev pub first_records : (E P : Type 0) → List (Record E P)
 first_records E P = Counters 0 0 2 1 ∷ []
 
--- Of a device as it was laid down, all of it settled, that says what is known of it, whose two pages are a sound tree and can be read: the log that starts there is up.
+-- Of a freshly formatted device, with everything durable, that says what is known of it, whose two pages are a sound
+-- tree and can be read: the log that starts there is up.
 abbrev pub FirstIsUp : {E P : Type 0} → Known E P → Reading E P → Type 0
 FirstIsUp {E} {P} k r = (sectors : ℕ) (seen : List ℕ) (pending : ℕ → Bool) → HasHead k.head seen pending → HasFirstLog seen → IsFirstSettled pending → 2 ≤ k.pages → HasPages k.pages sectors
     → IsSettledBut (λ p. false) sectors pending → k.sound (tree_of k (area_of r k.pages seen) (first_records E P)) → PagesFit r (tree_of k (area_of r k.pages seen) (first_records E P))

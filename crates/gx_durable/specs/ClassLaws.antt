@@ -23,7 +23,7 @@ module _ {B : Type 0} (IsKey : B → Type 0) (spelling : B → List ℕ) (k : Kn
   abbrev pub KeysAreRead : Type 0
   KeysAreRead = (row : ℕ) (key : B) → IsKey key → IsReadAs row key
 
-  -- bytes of a key's length are read as an entry of the class only where they are a key's
+  -- bytes of a key's length are read as an entry of the class only if they are a key's
   abbrev pub OnlyKeysAreEntries : Type 0
   OnlyKeysAreEntries = (row : ℕ) (bytes : List ℕ) → length bytes ≡ r.key → ((i : ℕ) → slice_index bytes i < 256) → k.is_entry (r.entry row bytes) ≡ true
       → IsKey (r.entry row bytes).key × (bytes ≡ spelling (r.entry row bytes).key)

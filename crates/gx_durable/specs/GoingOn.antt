@@ -38,8 +38,8 @@ opened seen = open_run seen (selected_of seen) 0 PLACES
 abbrev pub found_state : {E P : Type 0} → Known E P → Reading E P → List ℕ → List (List (Record E P)) → Logged E P
 found_state k r seen bodies = found (area_of r k.pages seen) (records_of bodies)
 
--- A settled device says what is known of it, and has these open bodies, which are undamaged, over a page area that is good for them and can
--- be read.
+-- A synced device says what is known of it, and has these open bodies, which are undamaged, over a page area that is
+-- good for them and can be read.
 pub record IsFoundGood {E P : Type 0} (k : Known E P) (r : Reading E P) (sectors : ℕ) (seen : List ℕ) (pending : ℕ → Bool) (bodies : List (List (Record E P))) : Type 0 where
   pub settled : (n : ℕ) → pending n ≡ false
   pub head : head_in seen ≡ k.head

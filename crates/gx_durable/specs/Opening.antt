@@ -36,8 +36,8 @@ pub record UpToTurn {E P : Type 0} (k : Known E P) (r : Reading E P) (log : Log)
 abbrev pub found_glog : List ℕ → Log
 found_glog seen = starting (selected_of seen) (open_run seen (selected_of seen) 0 PLACES)
 
--- Of a settled device that says what is known of it, whose open bodies are undamaged, over a page area that is good for them and can be read: the log that starts behind them is
--- up to its turn, whatever the later gates are.
+-- Of a synced device that says what is known of it, whose open bodies are undamaged, over a page area that is good for
+-- them and can be read: the log that starts behind them is up to its turn, whatever the later gates are.
 abbrev pub FoundIsUpToTurn : {E P : Type 0} → Known E P → Reading E P → Type 0
 FoundIsUpToTurn {E} {P} k r = (sectors : ℕ) (seen : List ℕ) (pending : ℕ → Bool) (bodies : List (List (Record E P))) → ((n : ℕ) → pending n ≡ false) → 512 * PAGES_AT ≤ length seen
     → HasPages k.pages sectors → ((j : ℕ) → j < open_run seen (selected_of seen) 0 PLACES → IsSize (size_in (body_of seen (selected_of seen) j)))

@@ -70,7 +70,8 @@ abbrev pub images_of : List (ℕ × Contents) → List (ℕ × List ℕ)
 images_of [] = []
 images_of (change ∷ changes) = (change.0, image_of change.1) ∷ images_of changes
 
--- So it is of a write that gives its leaf as that was changed, and of pages that are given in the order of their changes.
+-- This holds of a write that gives its leaf as that was changed, and of pages that are given in the order of their
+-- changes.
 abbrev pub WriteStaysStored : {E P : Type 0} → Reading E P → Type 0
 WriteStaysStored {E} {P} r = (pages : ℕ) (seen : List ℕ) (old new : State) (s : Logged E P) (tx row : ℕ) (key : List ℕ) (before after : Bool) (leaf : ℕ) (contents : Contents)
     → StoresOne r pages seen old new leaf contents → IsStored r pages old seen s

@@ -1,4 +1,4 @@
-//! The calls of a log and a pool, each with what it makes of the state that the device carries.
+//! The calls of a log and a pool, each with its effect on the state that the device carries.
 ghost use Rattle.std.specs.Prelude.{◌≡◌, ◌<◌, ◌≤◌, true, OnOk, IfErr};
 ghost use Rattle.gx_disk.specs.declared.layout.TheConstants.{PAGES_AT};
 ghost use Rattle.gx_disk.specs.Device.{Counts, IsSettled};
@@ -22,8 +22,8 @@ use gx_glog::{Appended, Glog, Stage};
 use gx_pool::{PageTest, Pool};
 use gx_record::Record;
 
-/// Puts a record that may come into the log's filling buffer, and returns the place of its batch. Nothing is written to
-/// the device. `NoRoom` where the log has none for it; nothing then changes.
+/// Puts a record that the log may have next into its filling buffer, and returns the place of its batch. Nothing is
+/// written to the device. `NoRoom` if the log has no room for it; nothing changes then.
 pub fn append<M: Spelled>(log: &mut Glog, logged: &Record<'_>) -> Appended
     requires in_range { IsInRange (rec_of logged.now) }
     requires place { log.old.used < PLACES }
@@ -35,7 +35,7 @@ pub fn append<M: Spelled>(log: &mut Glog, logged: &Record<'_>) -> Appended
     log.append(logged)
 }
 
-// Tells the pool of the last batch, where its gate was synced.
+// Notes the last batch in the pool, if its gate was synced.
 fn tell_pool<T: PageTest>(pool: &mut Pool<T>, stage: Stage, used: u8)
     ensures frames { pool.new.frames ≡ told stage used pool.old.frames }
     ensures test { pool.new.test ≡ pool.old.test }
@@ -46,9 +46,8 @@ fn tell_pool<T: PageTest>(pool: &mut Pool<T>, stage: Stage, used: u8)
     }
 }
 
-/// Makes the log's next device call; once a gate is synced the pool learns of its batch. Returns which call it was, and
-/// Idle where nothing is logged and none was made. Refused where the device call fails (`Device`); it is then still
-/// due.
+/// Makes the log's next device call; once a gate is synced the pool learns of its batch. Returns which call it was, or
+/// `Idle` if nothing is logged and none was made. Refused if the device call fails (`Device`); it is then still due.
 ///
 /// Of an honest device: the batch that filled is in flight from its first call on, and its commits are durable from its
 /// gate's sync on, and not before. Whether it succeeds or not, no page of the device changes, no set changes, and at
@@ -74,8 +73,8 @@ pub fn log_step<M: Spelled, T: PageTest, D: SectorDisk>(
     Ok(stage)
 }
 
-/// Settles all that was written. Whether it succeeds or not, no page of the device changes, the log stays up, and at
-/// each moment what a crash may leave stands for a kept set. Refused where the device call fails (`Device`).
+/// Makes all writes durable. Whether it succeeds or not, no page of the device changes, the log stays up, and at each
+/// moment what a crash may leave stands for a kept set. Refused if the device call fails (`Device`).
 pub fn sync<M: Spelled, D: SectorDisk>(disk: &mut D) -> Result<(), Refusal>
     ensures counts { Counts 1 (D.state disk.old) (D.state disk.new) result }
     ensures settled { (D.state disk.old).honest ≡ true → OnOk result (IsSettled (D.state disk.new)) }

@@ -1,4 +1,4 @@
-//! What holds of bytes and records. Each function is its contract alone.
+//! Laws of bytes and records. Each function is its contract alone.
 ghost use Rattle.gx_recovery.specs.Known.{Limits};
 ghost use Rattle.gx_durable.specs.Beginning.{FirstIsUp, HeadsFit};
 ghost use Rattle.gx_durable.specs.Opening.{FoundIsUpToTurn, ACrashBeforeTheTurn, UpMayTurn};
@@ -33,7 +33,7 @@ pub fn bodies_are_told<M: Spelled>()
 {}
 
 /// Of a device that a log is up on, whatever a crash leaves is an undamaged log over a page area that is good for it,
-/// and stands for the kept set of its own last commit, which is none before the durable one. So it does for a state
+/// and stands for the kept set of its own last commit, which isn't before the durable one. So it does for a state
 /// before that one which had the same sets. Where trees are read of the pages in use, that image is legal for the log
 /// that it has: the device has its pages, its tree is sound, and what is live in that, except for what open
 /// transactions wrote, is the set.
@@ -43,9 +43,9 @@ pub fn a_crash_leaves_a_kept_set<M: Spelled>()
     ensures legal { (d : Limits) → WhatStandsIsLegal (M.known d) M.reading }
 {}
 
-/// A pool's stamps stay places of batches where what is dirty was so before, or was changed as of the batch that fills.
-/// That is so of what is brought, made and changed. Once the record that gives what was changed is appended, each dirty
-/// page is given. Once each batch that began is gated and nothing fills, each dirty page may be written.
+/// A pool's stamps remain places of batches if each dirty page was dirty before, or was changed as of the batch that
+/// fills. Pages that are brought, made and changed keep this. Once the record that gives the changed pages is appended,
+/// each dirty page is given. Once each batch that began is gated and nothing fills, each dirty page may be written.
 pub fn stamps_stay<M: Spelled>()
     ensures later { LaterStampsStay M.Entry M.Page }
     ensures clean { CleanIsStamped M.Entry M.Page }
@@ -61,13 +61,13 @@ pub fn reads_stay_up<M: Spelled, D: SectorDisk>()
     ensures { (l : Limits) (a b : D) → ReadsStayUp (M.known l) M.reading (D.state a) (D.state b) }
 {}
 
-/// A log that starts on a device as it was laid down is up there, where its two pages are a sound tree.
+/// A log that starts on a freshly formatted device is up there, if its two pages are a sound tree.
 pub fn a_new_device_is_up<M: Spelled>()
     ensures { (l : Limits) → FirstIsUp (M.known l) M.reading }
 {}
 
-/// A renewed log fits one body, where keys have up to 41 bytes:
-/// 29 bytes for its numbers, and up to 63 for each of 512 notes.
+/// A renewed log fits one body, if keys have up to 41 bytes: 29 bytes for its numbers, and up to 63 for each of 512
+/// notes.
 pub fn heads_fit_a_body<M: Spelled>()
     ensures { (l : Limits) → HeadsFit (M.known l) M.reading }
 {}
@@ -86,9 +86,9 @@ pub fn pages_are_stored<M: Spelled>()
     ensures pages { PagesStayStored M.reading }
 {}
 
-/// A log that starts behind an image's open bodies, where these are undamaged and the page area is good for them, is up
-/// to its turn, whatever the later gates are; and so is a log that is up, with nothing in flight. Whatever a crash
-/// leaves of its device stands for the kept set too. Its turn is `turn_step`, and after that it is up.
+/// A log that starts behind an image's open bodies, if these are undamaged and the page area is good for them, is up to
+/// its turn, whatever the later gates are; so is a log that is up with nothing in flight. Whatever a crash leaves of
+/// its device stands for the kept set too. Its turn is `turn_step`, and after that it is up.
 pub fn a_found_log_is_up_to_its_turn<M: Spelled>()
     ensures found { (l : Limits) → FoundIsUpToTurn (M.known l) M.reading }
     ensures up { (l : Limits) → UpMayTurn (M.known l) M.reading }

@@ -1,4 +1,4 @@
-//! A page's write, with what it makes of the state that the device carries.
+//! A page's write, with its effect on the state that the device carries.
 ghost use Rattle.std.specs.Prelude.{◌≡◌, false, IfErr, IfOk, Ok};
 ghost use Rattle.gx_disk.specs.Device.{CountsFault, SameDevice};
 ghost use Rattle.gx_pool.specs.Area.{IsPage};
@@ -13,9 +13,8 @@ use gx_disk::SectorDisk;
 use gx_geom::Refusal;
 use gx_pool::{PageTest, Pool};
 
-/// Writes a page to its sectors, where it has changes and all of them are in gated batches, and returns whether that
-/// was so; else nothing is done.
-/// Refused with `Device` where the device failed. The page is then kept as it was, with its changes.
+/// Writes a page to its sectors if it has changes and all of them are in gated batches, and returns whether it did;
+/// else does nothing. Refused with `Device` if the device failed. The page is then kept unchanged, with its changes.
 ///
 /// Of an honest device, while no turn is under way: whether it succeeds or not, the log stays up over the page area
 /// that is read now, no set changes, and at each moment what a crash may leave stands for a kept set. Where each page

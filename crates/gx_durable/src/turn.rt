@@ -1,5 +1,5 @@
-//! The calls of a turn to the other extent, each with what it makes of the state that the device carries.
-ghost use Rattle.std.specs.Prelude.{◌≡◌, ◌≤◌, [], true, length, IfErr};
+//! The calls of a turn to the other extent, each with its effect on the state that the device carries.
+ghost use Rattle.std.specs.Prelude.{◌≡◌, ◌≤◌, [], true, length};
 ghost use Rattle.gx_disk.specs.declared.layout.TheConstants.{PAGES_AT};
 ghost use Rattle.gx_disk.specs.Device.{Counts};
 ghost use Rattle.gx_record.specs.Format.{IsInRange, spelling};
@@ -20,9 +20,9 @@ use gx_glog::{Appended, Glog, Stage, Turn};
 use gx_pool::{PageTest, Pool};
 use gx_record::Record;
 
-/// Puts a record behind those of the head, which a turn makes the other extent's first batch: the counters first, and
-/// then a note for each entry that an open transaction wrote, in the order of the log that is renewed. `NoRoom` where
-/// the body has none for it; nothing then changes. A batch that begins drops the head.
+/// Appends a record to the head, which a turn makes the other extent's first batch: the counters first, and then a note
+/// for each entry that an open transaction wrote, in the order of the log that is renewed. `NoRoom` if the body has no
+/// room for it; nothing changes then. The start of a batch drops the head.
 pub fn put_first<M: Spelled>(log: &mut Glog, logged: &Record<'_>) -> Appended
     requires in_range { IsInRange (rec_of logged.now) }
     requires idle { log.old.stage ≡ Stage.Idle }
@@ -34,7 +34,7 @@ pub fn put_first<M: Spelled>(log: &mut Glog, logged: &Record<'_>) -> Appended
     log.put_first(logged)
 }
 
-// Tells the pool of a turn that has ended.
+// Notes in the pool that a turn has ended.
 fn tell_turned<T: PageTest>(pool: &mut Pool<T>, call: Turn)
     requires { NoneDirty pool.old.frames }
     ensures frames { pool.new.frames ≡ told_turn call pool.old.frames }
@@ -48,10 +48,10 @@ fn tell_turned<T: PageTest>(pool: &mut Pool<T>, call: Turn)
 }
 
 /// Makes the next device call of the turn to the other extent; the pool learns of a turn that has ended. Returns which
-/// call it was. Refused where the device call fails (`Device`); it is then still due.
+/// call it was. Refused if the device call fails (`Device`); it is then still due.
 ///
-/// Of an honest device, where the head is the renewed log and each page is written and settled: the log stays up, with
-/// the same records until the last call, and with the head alone after it. Whether it succeeds or not, no page of the
+/// Of an honest device, if the head is the renewed log and each page is written and synced: the log stays up, with the
+/// same records until the last call, and with the head alone after it. Whether it succeeds or not, no page of the
 /// device changes, no set changes, and at each moment what a crash may leave stands for a kept set.
 pub fn turn_step<M: Spelled, T: PageTest, D: SectorDisk>(
     log: &mut Glog,

@@ -13,7 +13,7 @@ use Rattle.gx_pool.specs.Bringing.{OnlyRead}
 use Rattle.gx_glog.specs.State.{Log}
 use Rattle.gx_recovery.specs.Known.{Known, Limits}
 use Rattle.gx_recovery.specs.Records.{Record}
-use Rattle.gx_events.specs.Events.{Event, Fails}
+use Rattle.gx_events.specs.Happenings.{Happening, Fails}
 use Rattle.gx_index_laws.specs.Classes.{Class, IsLawful, Page, known_of}
 use Rattle.gx_index_laws.specs.Happening as happening
 use Rattle.gx_index_laws.specs.Happening.{AreHappening}
@@ -34,7 +34,6 @@ use Rattle.gx_store.specs.Faults as faults
 use Rattle.gx_store.specs.Since.{GoesOn}
 use Rattle.gx_store.specs.State.{Shelf}
 use Rattle.gx_store.proofs.Going.{as_it_was_joined, goes_on_joined, why_later}
-use Rattle.gx_storage.specs.declared.flusher.Help as storage
 use Rattle.gx_storage.specs.Bringing.{bringing}
 use Rattle.gx_storage.specs.Changes.{IsLogged, IsUnlogged, begun, has_room}
 use Rattle.gx_storage.specs.Flushing.{Helps}
@@ -80,7 +79,7 @@ module _ {B D : Type 0} (c : Class B) (lawful : 4 ≤ c.rules.most → IsLawful 
       lost_led c r f passes d e old bodies i h w most log (of_reads d e reads h.keeps.steady.honest) (keeps bodies i.log (known_lawful c (lawful h.some)) h.keeps) (lawful h.some)
 
 -- what no session notices, and what comes then
-pub leads_joined : {B D : Type 0} (c : Class B) (r : Reading (Entry B) (Page B)) (f : Format B) (passes : ℕ → Contents → Bool) (d m e : Device) (old mid new : Parts B D) (events : List (Event B))
+pub leads_joined : {B D : Type 0} (c : Class B) (r : Reading (Entry B) (Page B)) (f : Format B) (passes : ℕ → Contents → Bool) (d m e : Device) (old mid new : Parts B D) (events : List (Happening B))
     → Leads c r f passes d m old mid [] → Leads c r f passes m e mid new events → Leads c r f passes d e old new events
 leads_joined {B} c r f passes d m e old mid new events first next bodies i h =
     let one = first bodies i h in
@@ -93,9 +92,9 @@ leads_joined {B} c r f passes d m e old mid new events first next bodies i h =
       leaves = leaves_joined (Stands (known_of c) r i.log) d m e one.leaves (subst (λ (j : index.State B). Leaves (Stands (known_of c) r j.log) m e) one.happening two.leaves);
     }
 
--- what comes of pages that were refused, by the fault
+-- what follows if pages are refused, by the fault
 pub by_refusal : {B D : Type 0} (told : Refusal → Outcome B) (was new : Parts B D) (outcome : Outcome B) (P : Parts B D → Outcome B → Type 0) (n : StoreFault) → IsRefusedAs told n was new outcome
-    → (CanBeHelped n → (found : Option storage.Help) → Helps was.volume.shelf n found → P was (Help (need_of (runs was.checkpoint) found)))
+    → (CanBeHelped n → (found : Option Need) → Helps was.volume.shelf n found → P was (Help (need_of (runs was.checkpoint) found)))
     → (n ≡ fault.Device → P (record was { sessions = failed_state was.sessions }) (told DeviceRefusal))
     → (n ≡ fault.Damaged → P (record was { sessions = failed_state was.sessions }) (told DamagedRefusal))
     → P new outcome
@@ -167,7 +166,7 @@ help_later passes d m e running s t u n on stay is = record {
   stamps = λ page. is.stamps page ∙ stay page;
 }
 
--- the same with what is said of want of room
+-- the same with the statement on a lack of room
 pub help_early : {D : Type 0} (passes : ℕ → Contents → Bool) (d m e : Device) (running : Bool) (s t u : Shelf D) (n : Need) → GoesOn passes d m s t → StampsStay s t → (due : Bool) → (is : IsHelp passes m e running t u n)
     → IsEarly is.fault due → (now : IsHelp passes d e running s u n) × IsEarly now.fault due
 unfolding help_later

@@ -61,7 +61,7 @@ module _ {B D : Type 0} (state : D → Device) where
   read_so old mid new first same =
       subst (λ (v : Volume D). OnlyRead (state old.volume.shelf.disk) (state v.shelf.disk)) (sym same) first
 
--- what storage tells of a change, or of none
+-- what storage's contracts say of a change, or of none
 module _ {B D : Type 0} (known : Limits → Known (Entry B) (Page B)) (r : Reading (Entry B) (Page B)) (f : Format B) (passes : ℕ → Contents → Bool) (d e : Device) (v w : Volume D) where
   if_read : (size : ℕ) (x : Rec) (any : Bool) → IsLoggedIf known r f passes size d e v w x any → OnlyRead d e
   if_read size x true logged = logged.goes_on.device

@@ -74,7 +74,7 @@ module _ {C B D : Type 0} (shape : Members B) (proper : B → Bool) (said : List
   abbrev makes : Parts B D → Event B → Outcome B → Parts B D → Type 0
   makes = Makes shape (traits_of proper said class) state
 
-  -- An engine holds an index, of which the session's call has so much left; and there is so much to flush.
+  -- An engine holds an index, in which the session's call has so much left to do; and so much is left to flush.
   record At (w h : ℕ) (e : Parts B D) : Type 0 where
     bodies : List (List (Record (Entry B) (Page B)))
     is : index.State B

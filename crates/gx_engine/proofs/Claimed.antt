@@ -31,7 +31,7 @@ module _ {B W : Type 0} (k : Keys B) (e : Entry B) where
       ap (λ b. b || is_claimed k e (slots_of ps hs)) (slot_claims p h (none 0 (omega arith)))
       ∙ ap (λ b. claims k e h || b) (slots_claim ps hs (omega (arith, same)) (λ i low. none (suc i) (omega (arith, low))))
 
--- some session claims an entry exactly where a slot of the index does
+-- some session claims an entry exactly if a slot of the index does
 pub claimed_alike : {B W : Type 0} (k : Keys B) (sessions : State B W) (i : index.State B) → IsKept k sessions → AreOf sessions i
     → (e : Entry B) → claimed_in k e sessions.table ≡ is_claimed k e i.slots
 claimed_alike k sessions i kept of e =

@@ -17,7 +17,7 @@ use Rattle.gx_node.specs.Writes.{is_sweepable}
 use Rattle.gx_tree.specs.declared.descent.Descended.{Descended}
 use Rattle.gx_node.specs.Store.{Store, tree_of}
 use Rattle.gx_recovery.specs.Known.{Known, Limits}
-use Rattle.gx_events.specs.Events.{Event}
+use Rattle.gx_events.specs.Happenings.{Happening}
 use Rattle.gx_index_laws.specs.Classes.{Class, IsLawful, Page}
 use Rattle.gx_durable.specs.Spelled.{Reading}
 use Rattle.gx_durable.specs.Classes.{reading_of}
@@ -89,7 +89,7 @@ pub never_stepped : {B D : Type 0} (c : Class B) (lawful : 4 ≤ c.rules.most �
     (at : phase_at (s - 1) old.sessions.phases ≡ phase.Open (Insert entry) (Descends parent item))
     → (IsSteady d old.volume.shelf.frames → Used (tree_of (store_of f d.seen old.volume.shelf)) item.page
     → (0 < ((tree_of (store_of f d.seen old.volume.shelf)).node item.page).level) × (length ((tree_of (store_of f d.seen old.volume.shelf)).node item.page).children ≡ 0))
-    → (new : Parts B D) (o : Outcome B) (events : List (Event B)) → Moves c (reading_of said f) f passes d e s old new o events
+    → (new : Parts B D) (o : Outcome B) (events : List (Happening B)) → Moves c (reading_of said f) f passes d e s old new o events
 never_stepped c lawful said f passes d e old kept s is entry parent item at damaged new o events bodies i h =
     let l = lawful h.some in
     let r = reading_of said f in

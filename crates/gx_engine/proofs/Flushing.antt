@@ -19,7 +19,7 @@ use Rattle.gx_recovery.specs.Analysis.{analysis, number_of}
 use Rattle.gx_recovery.specs.Redo.{tree_of}
 use Rattle.gx_recovery.specs.Logged.{Logged, all_records, begun, durable, gate_synced, latest}
 use Rattle.gx_recovery.proofs.States.{tree_agrees}
-use Rattle.gx_events.specs.Events.{Works, Durable, Fails}
+use Rattle.gx_events.specs.Happenings.{Works, Durable, Fails}
 use Rattle.gx_index_laws.specs.Classes.{Class, IsLawful, Page, known_of, tree_in}
 use Rattle.gx_index_laws.specs.States as index
 use Rattle.gx_index_laws.specs.Whole.{IsWhole}
@@ -55,7 +55,7 @@ use Rattle.gx_engine.specs.Holds.{AreAt, Holds, KnowsFlight, Leads}
 all_in_flight : {E P : Type 0} (k : Known E P) (s : Logged E P) → s.flight ≡ [] → latest k s ≡ durable k (gate_synced (begun s))
 all_in_flight {E} {P} k s none = ap (λ (x : List (Record E P)). number_of k (s.gated ++ (x ++ s.filling))) none
 
--- a batch that begins, and a gate's sync, leave the records as they are
+-- the start of a batch and a gate's sync don't change the records
 begun_records : {E P : Type 0} (s : Logged E P) → s.flight ≡ [] → all_records (begun s) ≡ all_records s
 begun_records {E} {P} s none =
     ap (λ (x : List (Record E P)). s.gated ++ x) (append-nil s.filling) ∙ sym (ap (λ (x : List (Record E P)). s.gated ++ (x ++ s.filling)) none)
@@ -307,7 +307,7 @@ module _ {B D : Type 0} (c : Class B) (r : Reading (Entry B) (Page B)) (f : Form
 module _ {B D : Type 0} (c : Class B) (l : IsLawful c) (r : Reading (Entry B) (Page B)) (f : Format B) (passes : ℕ → Contents → Bool)
     (d e : Device) (old : Parts B D) (w : Volume D) (bodies : List (List (Record (Entry B) (Page B)))) (i : index.State B) (h : Holds c r f passes d old bodies i)
     (works : old.sessions.failed ≡ false) (same_most : w.most ≡ old.volume.most) (calm : old.checkpoint ≢ Turning) where
-  -- by what comes of the log's call
+  -- by the outcome of the log's call
   abbrev Comes : Stage → List ℕ → Result Stage Refusal → Type 0
   Comes stage filling result =
       Becomes (known_of c) r f passes d e w (bodies_stepped result bodies (with_batch stage filling i.log)) i.log (stepped result (with_batch stage filling i.log))

@@ -15,7 +15,7 @@ use Rattle.gx_tree.specs.declared.look.Look.{Look}
 use Rattle.gx_recovery.specs.Records.{Record}
 use Rattle.gx_recovery.specs.Logged.{Logged}
 use Rattle.gx_events.specs.Engines.{IsSame}
-use Rattle.gx_events.specs.Events.{Event, Works}
+use Rattle.gx_events.specs.Happenings.{Happening, Works}
 use Rattle.gx_events.proofs.EventRuns.{run_follows}
 use Rattle.gx_index_laws.specs.Classes.{Class, IsLawful, Page, known_of}
 use Rattle.gx_index_laws.specs.Happening.{Happens}
@@ -83,7 +83,7 @@ module _ {B D : Type 0} (c : Class B) (lawful : 4 ≤ c.rules.most → IsLawful 
       lowers = (let first = one.lowers in let next = two.lowers in omega (arith, first, next));
     }
 
-    reply_joined : (reply : Reply B) (event : Event B) → Moved c r f passes m e s mid new (Replied reply) one.led.index (event ∷ [])
+    reply_joined : (reply : Reply B) (event : Happening B) → Moved c r f passes m e s mid new (Replied reply) one.led.index (event ∷ [])
         → Moved c r f passes d e s old new (Replied reply) i (Works ∷ event ∷ [])
     reply_joined reply event two = record {
       led = record {
@@ -108,7 +108,7 @@ module _ {B D : Type 0} (c : Class B) (lawful : 4 ≤ c.rules.most → IsLawful 
       let one = first bodies i h in
       more_joined bodies i h one.0 one.1 (next one.0.led.bodies one.0.led.index one.0.led.holds)
 
-  pub then_replies : MovesOn c r f passes d m s old mid → (reply : Reply B) (event : Event B) → Moves c r f passes m e s mid new (Replied reply) (event ∷ [])
+  pub then_replies : MovesOn c r f passes d m s old mid → (reply : Reply B) (event : Happening B) → Moves c r f passes m e s mid new (Replied reply) (event ∷ [])
       → Moves c r f passes d e s old new (Replied reply) (Works ∷ event ∷ [])
   then_replies first reply event next bodies i h =
       let one = first bodies i h in
@@ -124,7 +124,7 @@ module _ {B D : Type 0} (c : Class B) (lawful : 4 ≤ c.rules.most → IsLawful 
   reached_more (inl same) next = subst (λ (x : Parts B D). Moves c r f passes (state x.volume.shelf.disk) e s x new More (Works ∷ [])) (sym same) next
   reached_more (inr on) next = then_more c lawful r f passes was (state mid.volume.shelf.disk) e s old mid new on next
 
-  pub reached_reply : Reaches c r f passes state s old mid → (reply : Reply B) (event : Event B) → Moves c r f passes (state mid.volume.shelf.disk) e s mid new (Replied reply) (event ∷ [])
+  pub reached_reply : Reaches c r f passes state s old mid → (reply : Reply B) (event : Happening B) → Moves c r f passes (state mid.volume.shelf.disk) e s mid new (Replied reply) (event ∷ [])
       → MovesSo c r f passes was e s old new (Replied reply) (IsJust event)
   reached_reply (inl same) reply event next bodies i h =
       (event ∷ [], inl refl, subst (λ (x : Parts B D). Moves c r f passes (state x.volume.shelf.disk) e s x new (Replied reply) (event ∷ [])) (sym same) next bodies i h)
@@ -153,7 +153,7 @@ module _ {B D : Type 0} (c : Class B) (lawful : 4 ≤ c.rules.most → IsLawful 
 
   -- what no engine at the look holds, none at what it was holds
   pub none_at_hand : (begun : Bool) → IsFirstUnless begun e look → ((bodies : List (List (Record (Entry B) (Page B)))) (i : index.State B) → Holds c r f passes d (calling s call (Looks look) e) bodies i → ⊥)
-      → (m : Device) (new : Parts B D) (outcome : Outcome B) (events : List (Event B)) → Moves c r f passes d m s (calling s call (work_before begun look) e) new outcome events
+      → (m : Device) (new : Parts B D) (outcome : Outcome B) (events : List (Happening B)) → Moves c r f passes d m s (calling s call (work_before begun look) e) new outcome events
   none_at_hand true first none m new outcome events bodies i h = absurd (none bodies i h)
   none_at_hand false first none m new outcome events bodies i h =
       let one = begun_on first bodies i h in
@@ -182,5 +182,5 @@ module _ {B D : Type 0} (c : Class B) (r : Reading (Entry B) (Page B)) (f : Form
   pub on_again : MovesOn c r f passes d m s (calling s call work (record e { sessions = now })) new → MovesOn c r f passes d m s e new
   on_again on = again e s call was at now is work here (λ x. MovesOn c r f passes d m s x new) on
 
-  pub moves_again : (outcome : Outcome B) (events : List (Event B)) → Moves c r f passes d m s (calling s call work (record e { sessions = now })) new outcome events → Moves c r f passes d m s e new outcome events
+  pub moves_again : (outcome : Outcome B) (events : List (Happening B)) → Moves c r f passes d m s (calling s call work (record e { sessions = now })) new outcome events → Moves c r f passes d m s e new outcome events
   moves_again outcome events said = again e s call was at now is work here (λ x. Moves c r f passes d m s x new outcome events) said

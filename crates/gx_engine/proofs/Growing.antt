@@ -8,9 +8,9 @@ use Rattle.gx_node.specs.Reading.{Format}
 use Rattle.gx_glog.specs.State.{Log}
 use Rattle.gx_glog.specs.declared.stage.Stage.{Stage}
 use Rattle.gx_recovery.specs.Logged as logged
-use Rattle.gx_recovery.specs.Logged.{Logged, all_records, appended}
+use Rattle.gx_recovery.specs.Logged.{Logged, appended}
 use Rattle.gx_recovery.specs.Records.{Record}
-use Rattle.gx_events.specs.Events.{Event}
+use Rattle.gx_events.specs.Happenings.{Happening}
 use Rattle.gx_index_laws.specs.Classes.{Class, Page, known_of}
 use Rattle.gx_index_laws.specs.Happening.{AreHappening}
 use Rattle.gx_index_laws.specs.States as index
@@ -31,7 +31,7 @@ module _ {B D : Type 0} (c : Class B) (r : Reading (Entry B) (Page B)) (f : Form
     (w : Volume D) (most : w.most ≡ old.volume.most) (flies : FliesOn old.volume.log w.log) (leaves : Leaves (Stands (known_of c) r i.log) d e)
     (x : Record (Entry B) (Page B)) (keeps : Keeps (known_of c) r f passes e w bodies (appended x i.log)) where
   -- these events happened, and no commit
-  unfoldable pub grown_led : (events : List (Event B)) (j : index.State B) → AreHappening c i events j → IsWhole c j → j.log ≡ appended x i.log → length j.older ≡ length i.older → j.oldest ≡ i.oldest
+  unfoldable pub grown_led : (events : List (Happening B)) (j : index.State B) → AreHappening c i events j → IsWhole c j → j.log ≡ appended x i.log → length j.older ≡ length i.older → j.oldest ≡ i.oldest
       → (new : State B (Work B)) → Sits c new j → new.latest ≡ old.sessions.latest → (new.failed ≡ false → old.sessions.failed ≡ false)
       → Led c r f passes d e (record old { volume = w; sessions = new }) i events
   grown_led events j are whole log older oldest new sits latest working_yet = record {
@@ -68,7 +68,7 @@ SameLog {B} i j = ◌≡◌ {A = Logged (Entry B) (Page B) × ℕ} (j.log, j.nex
 module _ {B D : Type 0} (c : Class B) (r : Reading (Entry B) (Page B)) (f : Format B) (passes : ℕ → Contents → Bool) (d e : Device) (old : Parts B D)
     (bodies : List (List (Record (Entry B) (Page B)))) (i : index.State B) (h : Holds c r f passes d old bodies i)
     (w : Volume D) (most : w.most ≡ old.volume.most) (log : w.log ≡ old.volume.log) (settled : StaysSettled d e) (stays : StaysSame (known_of c) r f passes d e w bodies i.log) where
-  unfoldable pub stayed_led : (events : List (Event B)) (j : index.State B) → AreHappening c i events j → IsWhole c j → SameLog i j → (new : State B (Work B)) → Sits c new j
+  unfoldable pub stayed_led : (events : List (Happening B)) (j : index.State B) → AreHappening c i events j → IsWhole c j → SameLog i j → (new : State B (Work B)) → Sits c new j
       → new.latest ≡ old.sessions.latest → (new.failed ≡ false → old.sessions.failed ≡ false) → Led c r f passes d e (record old { volume = w; sessions = new }) i events
   stayed_led events j are whole as_it_was new sits latest working_yet =
       let same : j.log ≡ i.log = ap (λ (x : Logged (Entry B) (Page B) × ℕ). x.0) as_it_was in

@@ -15,7 +15,7 @@ use Rattle.gx_disk.specs.Device.{Device}
 use Rattle.gx_glog.specs.declared.stage.Stage.{Stage}
 use Rattle.gx_glog.specs.declared.stage.Stage.TheVariants.{Body, BodySync, Gate, GateSync, Idle}
 use Rattle.gx_events.specs.Engines.{Engine}
-use Rattle.gx_events.specs.Events as laws
+use Rattle.gx_events.specs.Happenings as laws
 use Rattle.gx_events.specs.declared.outcome.Need.TheVariants as need
 use Rattle.gx_events.specs.declared.outcome.Outcome.{Outcome}
 use Rattle.gx_events.specs.declared.outcome.Outcome.TheVariants.{Replied, More, Help, Nothing, Refused}
@@ -124,7 +124,7 @@ module _ {B D : Type 0} (d e : Device) (old new : Parts B D) where
 
 -- The moves of a commit.
 module _ {B D : Type 0} (s : ℕ) (old new : Parts B D) (engine : Engine B) (works : engine.failed ≡ false) where
-  pub seal_is : (number : ℕ) (outcome : Outcome B) (events : List (laws.Event B)) → SealComes s old new outcome → AreSealing s number outcome events → IsMove s engine outcome events
+  pub seal_is : (number : ℕ) (outcome : Outcome B) (events : List (laws.Happening B)) → SealComes s old new outcome → AreSealing s number outcome events → IsMove s engine outcome events
   seal_is number More events comes are = (works, (laws.Seals s are.0 number, are.1, refl))
   seal_is number (Help need.Log) events comes are = (works, are)
   seal_is number (Help need.Checkpoint) events comes are = (works, are)

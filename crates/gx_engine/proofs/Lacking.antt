@@ -59,7 +59,7 @@ never outcome given is not lacks = let says : is_lack outcome ≡ false = ap is_
 
 -- ---- asks
 
--- a lock isn't refused for want of memory
+-- a lock isn't refused for lack of memory
 abbrev NoMemory : {A : Type 0} → Result A Refusal → Type 0
 NoMemory (Ok done) = Unit {0}
 NoMemory (Err why) = is_memory why ≡ false
@@ -248,7 +248,7 @@ memory_is refusal.HistoryFull is = let no : ⊥ = cc in absurd no
 memory_is (refusal.Busy s) is = let no : ⊥ = cc in absurd no
 memory_is refusal.Memory is = refl
 
--- so want of memory is a reply, or a refusal
+-- so a lack of memory is a reply, or a refusal
 lack_is : {B : Type 0} (outcome : Outcome B) → is_lack outcome ≡ true
     → (outcome ≡ Replied (reply.Refused refusal.Memory)) ⊎ (outcome ≡ Refused refusal.Memory)
 lack_is (Replied reply.Ok) is = let no : ⊥ = cc in absurd no
@@ -366,7 +366,7 @@ module _ {B D : Type 0} (k : Keys B) (known : Limits → Known (Entry B) (Page B
   sweep_never page true outcome comes lacks = never outcome (Refused refusal.Failed) comes.0 refl lacks
   sweep_never page false outcome comes lacks = swept_never page (is_page page old) outcome comes (lack_is outcome lacks)
 
-  -- Whatever an event comes to, it lacks memory only where it may take some.
+  -- Whatever its outcome, an event reports a lack of memory only if it may take some.
   pub step_lacks : (event : Event B) (outcome : Outcome B)
       → StepComes k known r f passes IsKey spelling key d e event old new outcome → LacksOnlyThere event old outcome
   step_lacks (Ask s call) outcome comes lacks = absurd (ask_never k s call old new outcome comes lacks)
@@ -380,7 +380,7 @@ module _ {B D : Type 0} (k : Keys B) (known : Limits → Known (Entry B) (Page B
   step_lacks (Sweep page) outcome comes lacks =
       absurd (sweep_never page old.sessions.failed outcome comes lacks)
 
--- A step of the log, or of a checkpoint, is never refused for want of memory.
+-- A step of the log, or of a checkpoint, is never refused for lack of memory.
 pub flushing_never : {B D : Type 0} (event : Event B) (e : Parts B D) (why : Refusal) → IsFlushing event
     → LacksOnlyThere event e (Refused why) → why ≡ refusal.Memory → ⊥
 flushing_never LogStep e why flushes lacks is = let took : false ≡ true = lacks (ap is_memory is) in cc

@@ -29,7 +29,7 @@ use Rattle.gx_recovery.specs.Logged.{Logged, all_records}
 use Rattle.gx_recovery.specs.Logged as logged
 use Rattle.gx_events.specs.Slots.{Slot, Working, slot_at, with_slot, is_unanswered}
 use Rattle.gx_events.specs.Slots as slots
-use Rattle.gx_events.specs.Events.{Event, Works, Closes, RefusesCall}
+use Rattle.gx_events.specs.Happenings.{Happening, Works, Closes, RefusesCall}
 use Rattle.gx_index_laws.specs.Classes.{Class, IsLawful, Page, known_of}
 use Rattle.gx_index_laws.specs.Measures.{work_left}
 use Rattle.gx_index_laws.specs.States as index
@@ -114,7 +114,7 @@ module _ {B D : Type 0} (c : Class B) (l : IsLawful c) (r : Reading (Entry B) (P
     failed = failed ∙ h.sessions.failed;
   }
 
-  -- whatever phase it comes to, its notes tell the same
+  -- whatever phase follows, its notes are the same
   pub told_at : (p : Phase B (Work B)) → AreTold (with_phase_of s p old.sessions) (analysis (known_of c) (all_records i.log)).touched
   told_at p =
       told_phase c.keys old.sessions kept s is (analysis (known_of c) (all_records i.log)).touched p
@@ -140,7 +140,7 @@ module _ {B D : Type 0} (c : Class B) (l : IsLawful c) (r : Reading (Entry B) (P
   -- the pages may have been brought meanwhile
   module _ (e : Device) (w : Volume D) (same_most : w.most ≡ old.volume.most) (same_log : w.log ≡ old.volume.log) (settled : StaysSettled d e)
       (stays : StaysSame (known_of c) r f passes d e w bodies i.log) where
-    goes : (outcome : Outcome B) (events : List (Event B)) (j : index.State B) → AreHappening c i events j → IsWhole c j → SameLog i j → (new : State B (Work B)) → AreOf new j → AreAt c.keys new j
+    goes : (outcome : Outcome B) (events : List (Happening B)) (j : index.State B) → AreHappening c i events j → IsWhole c j → SameLog i j → (new : State B (Work B)) → AreOf new j → AreAt c.keys new j
         → AreTold new (analysis (known_of c) (all_records i.log)).touched → new.latest ≡ old.sessions.latest → (new.failed ≡ false → old.sessions.failed ≡ false)
         → Lowers c r f passes s outcome old (record old { volume = w; sessions = new }) i j → Moved c r f passes d e s old (record old { volume = w; sessions = new }) outcome i events
     goes outcome events j are whole as_it_was new of is_at told latest working_yet lowers =
@@ -203,7 +203,7 @@ module _ {B D : Type 0} (c : Class B) (l : IsLawful c) (r : Reading (Entry B) (P
     abbrev pub answered_index : index.State B
     answered_index = slotted s (Working held.locks (map note_of held.notes) None) index.Rests i
 
-    pub answers : (reply : Reply B) (event : Event B) → happening.Happens c i event answered_index
+    pub answers : (reply : Reply B) (event : Happening B) → happening.Happens c i event answered_index
         → Moved c r f passes d e s old (record old { volume = w; sessions = answered_state s old.sessions }) (Replied reply) i (event ∷ [])
     answers reply event now =
         let of = session_of c.keys old.sessions (answered_state s old.sessions) i kept h.sessions s phase.Working held refl (held_as_it_is s old.sessions.table) index.Rests refl refl refl refl in
@@ -274,10 +274,10 @@ module _ {B D : Type 0} (c : Class B) (lawful : 4 ≤ c.rules.most → IsLawful 
       let l = lawful h.some in
       closes c l r f passes d old kept s is call was at bodies i h d old.volume refl refl (same_device d) (as_it_stays c l r f passes d old kept s is call was at bodies i h) works
 
--- the same events, told in another way
+-- the same events in another form
 pub same_events : {B D : Type 0} (c : Class B) (r : Reading (Entry B) (Page B)) (f : Format B) (passes : ℕ → Contents → Bool) (d e : Device) (s : ℕ) (old new : Parts B D) (outcome : Outcome B)
-    (events told : List (Event B)) → events ≡ told → Moves c r f passes d e s old new outcome told → Moves c r f passes d e s old new outcome events
-same_events {B} {D} c r f passes d e s old new outcome events told are moves = subst (λ (xs : List (Event B)). Moves c r f passes d e s old new outcome xs) (sym are) moves
+    (events told : List (Happening B)) → events ≡ told → Moves c r f passes d e s old new outcome told → Moves c r f passes d e s old new outcome events
+same_events {B} {D} c r f passes d e s old new outcome events told are moves = subst (λ (xs : List (Happening B)). Moves c r f passes d e s old new outcome xs) (sym are) moves
 
 -- a call's work is replaced
 pub replaced : {B : Type 0} (s : ℕ) (call : Call B) (was now : Work B) (old new : State B (Work B)) → phase_at (s - 1) old.phases ≡ phase.Open call was

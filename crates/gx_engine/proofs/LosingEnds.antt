@@ -1,4 +1,5 @@
--- Transactions that a crash cut off, each held with a session: what the sessions have in the end, and what an undamaged log tells.
+-- Transactions that a crash cut off, each held with a session: what the sessions have in the end, and which touches an
+-- undamaged log has.
 use Rattle.std.proofs.Common.{◌≡◌, ℕ, zero, suc, ◌-◌, ◌<◌, ◌≤◌, Bool, true, false, not, ◌&&◌, ◌||◌, inl, inr, cond, List, [], ◌∷◌, length, map, refl, ap, sym, ◌∙◌, arith}
 use Rattle.std.specs.Prelude.{◌==◌, nat_le}
 use Rattle.std.specs.List.{slice_index_or, list_all, AllByRecursion}
@@ -9,7 +10,6 @@ use Rattle.std.proofs.lemmas.Bool.{cases_order, eqb-true, leb-true}
 use Rattle.gx_machine.specs.declared.entry.Entry.{Entry}
 use Rattle.gx_machine.specs.Keys.{Keys}
 use Rattle.gx_events.specs.Slots as slots
-use Rattle.gx_events.specs.Slots.{Slot}
 use Rattle.gx_events.specs.Losers.{loser_slot}
 use Rattle.gx_events.proofs.Places.{is_numbered}
 use Rattle.gx_events.proofs.Sees.{same_turned}
@@ -24,7 +24,7 @@ use Rattle.gx_recovery.proofs.Told.{Told}
 use Rattle.gx_recovery.proofs.Touches.{Before, InOrder}
 use Rattle.gx_index_laws.specs.Classes.{Class, IsLawful, Page, known_of}
 use Rattle.gx_index_laws.specs.Openings as openings
-use Rattle.gx_index_laws.specs.Openings.{losers_of, listed_for, notes_for, numbers_of}
+use Rattle.gx_index_laws.specs.Openings.{listed_for, notes_for, numbers_of}
 use Rattle.gx_index_laws.proofs.Numbered.{or_first, is_in, touches, in_touching, touching_in, IsAt, placed_in, in_placed, listed_at, listed_there, numbers_counted}
 use Rattle.gx_index_laws.proofs.Standing.{known_lawful}
 use Rattle.gx_txn.specs.Tables.{Held}
@@ -32,10 +32,10 @@ use Rattle.gx_phases.specs.Moves.{transaction_of}
 use Rattle.gx_phases.specs.States as phases
 use Rattle.gx_phases.specs.States.{State, held_at, phase_at, slot_of, slots_of}
 use Rattle.gx_engine.specs.declared.work.Work.{Work}
-use Rattle.gx_engine.specs.Losing.{AreCutOff, AreHeld, ComesBefore, ComeInOrder}
+use Rattle.gx_engine.specs.Losing.{AreCutOff, AreHeld, ComesBefore, ComeInOrder, note_in}
 use Rattle.gx_engine.specs.Noted.{AreFrom, AreInTurn, AreTold, HasIt, has_transaction, touch_by, touched_by}
 use Rattle.gx_engine.proofs.Losing.{groups_of}
-use Rattle.gx_engine.proofs.LosingStates.{entry_in, held_for, index_map, low_number, note_in, number_for, phase_for, taken_up}
+use Rattle.gx_engine.proofs.LosingStates.{entry_in, held_for, index_map, low_number, number_for, phase_for, taken_up}
 
 module _ {B : Type 0} where
   notes_both : (g : List (Touch (Entry B))) → map phases.note_of (map note_in g) ≡ map openings.note_of g
@@ -180,7 +180,7 @@ module _ {B : Type 0} (k : Keys B) (xs : List (Touch (Entry B))) (cut : AreCutOf
     };
   }
 
--- what the analysis of an undamaged log tells
+-- what the analysis of an undamaged log returns
 module _ {B : Type 0} (c : Class B) (l : IsLawful c) where
   abbrev k : Known (Entry B) (Page B)
   k = known_of c

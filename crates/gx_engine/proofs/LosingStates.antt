@@ -30,7 +30,7 @@ use Rattle.gx_phases.specs.Moves.{TakesUp, may_lose}
 use Rattle.gx_phases.specs.States.{State, fresh_state, phase_at}
 use Rattle.gx_engine.specs.declared.work.Work.{Work}
 use Rattle.gx_engine.specs.declared.work.Work.TheVariants.{Rests}
-use Rattle.gx_engine.specs.Losing.{AllRest, IsAtRest, ComesBefore, ComeInOrder, OnlyHeld, session_after}
+use Rattle.gx_engine.specs.Losing.{AllRest, IsAtRest, ComesBefore, ComeInOrder, OnlyHeld, note_in, session_after}
 use Rattle.gx_engine.specs.Noted.{touched_by}
 use Rattle.gx_engine.proofs.Losing.{last_of, numbers_again, numbers_more, IsEnd, last_number, groups_of, IsPlaced, placed_again, placed_new}
 
@@ -52,9 +52,6 @@ module _ {B : Type 0} where
   -- what a session has of the touches of its transaction
   abbrev pub entry_in : Touch (Entry B) → Entry B
   entry_in x = x.entry
-
-  abbrev pub note_in : Touch (Entry B) → txn.Note B
-  note_in x = record { entry = x.entry; before = x.before; leaf = x.leaf }
 
   abbrev pub held_for : List (Touch (Entry B)) → Held B
   held_for g = record { locks = record { claims = map entry_in g; predicates = [] }; notes = map note_in g }

@@ -33,7 +33,7 @@ use Rattle.gx_durable.specs.Spelled.{Reading}
 use Rattle.gx_storage.specs.Keeps.{tree_shown}
 use Rattle.gx_storage.specs.State.{Volume}
 
--- what stands in a slot counts
+-- a pair in a slot counts
 pub slot_counts : {X : Type 0} (test : X → Bool) (xs : List X) (slot : ℕ) (x : X) → slice_get xs slot ≡ Some x → test x ≡ true → 0 < how_many test xs
 slot_counts test [] slot x at passes = cc
 slot_counts test (y ∷ ys) zero x at passes =
@@ -42,7 +42,7 @@ slot_counts test (y ∷ ys) zero x at passes =
     omega (arith, one)
 slot_counts test (y ∷ ys) (suc slot) x at passes = let rest = slot_counts test ys slot x at passes in omega (arith, rest)
 
--- what holds of each holds of what stands in a slot
+-- what holds of each holds of the pair in a slot
 each_slot : {X : Type 0} (P : X → Type 0) (xs : List X) (slot : ℕ) (x : X) → slice_get xs slot ≡ Some x → Each P xs → P x
 each_slot P [] slot x at each = cc
 each_slot P (y ∷ ys) zero x at each = let same : y ≡ x = cc in subst P same each.0

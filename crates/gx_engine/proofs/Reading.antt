@@ -30,7 +30,7 @@ use Rattle.gx_tree.proofs.Searched.{leads_to}
 use Rattle.gx_tree.proofs.Turned.{falls, goes_on, next_is_used}
 use Rattle.gx_recovery.specs.Records.{Record}
 use Rattle.gx_events.specs.Slots.{Slot, slot_at}
-use Rattle.gx_events.specs.Events.{Event, Closes, RefusesCall}
+use Rattle.gx_events.specs.Happenings.{Happening, Closes, RefusesCall}
 use Rattle.gx_events.specs.Wants as laws
 use Rattle.gx_index_laws.specs.Classes.{Class, IsLawful, Page, known_of, pair_of}
 use Rattle.gx_index_laws.specs.Happening.{with_work}
@@ -196,12 +196,12 @@ module _ {B D : Type 0} (c : Class B) (lawful : 4 ≤ c.rules.most → IsLawful 
           (subst (λ (x : Slot B). IsLook one (wants_pair c x) after.stack.items (pairs_found after.found.items)) (sym slot) next)
           (omega (arith, fewer, was, now))
 
--- what comes of pages that were refused
+-- what follows if pages are refused
 module _ {B D : Type 0} (s : ℕ) (call : Call B) (old : Parts B D) (w : Volume D) (new : Parts B D) (outcome : Outcome B) where
   abbrev middle : Parts B D
   middle = record old { volume = w }
 
-  pub by_refusal : (P : Parts B D → Outcome B → List (Event B) → Type 0) → (n : StoreFault) → IsRefused n middle new outcome
+  pub by_refusal : (P : Parts B D → Outcome B → List (Happening B) → Type 0) → (n : StoreFault) → IsRefused n middle new outcome
       → ((need : Need) → P middle (Help need) [])
       → P (record middle { sessions = failed_state old.sessions }) (Replied (RefusedCall refusal.Device)) (RefusesCall s refusal.Device ∷ [])
       → (n ≡ fault.Damaged → P (record middle { sessions = failed_state old.sessions }) (Replied (RefusedCall refusal.Damaged)) [])
@@ -281,7 +281,7 @@ module _ {B D : Type 0} (c : Class B) (lawful : 4 ≤ c.rules.most → IsLawful 
   pub pages_at_hand : (n : StoreFault) → faults.IsWhy passes d now (bringing e.volume) w.shelf n → (new : Parts B D) (outcome : Outcome B) → IsRefused n (record was { volume = w }) new outcome
       → Moves c r f passes d (state new.volume.shelf.disk) s was new outcome (look_events s call outcome)
   pages_at_hand n why new outcome refuses =
-      by_refusal s call was w new outcome (λ (x : Parts B D) (o : Outcome B) (events : List (Event B)). Moves c r f passes d (state x.volume.shelf.disk) s was x o events) n refuses
+      by_refusal s call was w new outcome (λ (x : Parts B D) (o : Outcome B) (events : List (Happening B)). Moves c r f passes d (state x.volume.shelf.disk) s was x o events) n refuses
       (refused_moves c lawful r f passes d now was was_kept s is call work its_phase works w most same_log reads keeps)
       (device_moves c lawful r f passes d now was was_kept s is call work its_phase works w most same_log reads keeps)
       (λ damaged bodies i h. absurd (subst (λ (x : StoreFault). faults.IsWhy passes d now (bringing e.volume) w.shelf x) damaged why h.keeps.steady h.keeps.readable))

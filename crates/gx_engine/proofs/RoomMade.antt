@@ -1,8 +1,6 @@
 -- The room that a write's move makes where it goes on: which pages were taken, and what was swept.
-use Rattle.std.proofs.Common.{◌≡◌, ◌≢◌, ◌∙◌, ap, sym, refl, subst, inl, inr, ⊎_elim, ◌⊎◌, ℕ, ◌-◌, ◌<◌, ◌≤◌, Bool, true, false, Some, List, length, arith}
+use Rattle.std.proofs.Common.{◌≡◌, ◌∙◌, ap, sym, refl, subst, inl, inr, ⊎_elim, ◌⊎◌, ℕ, ◌-◌, ◌<◌, true, false, List, length, arith}
 use Rattle.gx_machine.specs.declared.call.Call.{Call}
-use Rattle.gx_machine.specs.declared.call.Call.TheVariants.{Insert}
-use Rattle.gx_machine.specs.declared.entry.Entry.{Entry}
 use Rattle.gx_machine.specs.Keys.{Keys}
 use Rattle.gx_disk.specs.Device.{Device}
 use Rattle.gx_node.specs.Reading.{Format}

@@ -5,7 +5,7 @@ use Rattle.gx_disk.specs.Device.{Device}
 use Rattle.gx_disk.proofs.Leaving.{leaves_joined, leaves_weaker, nothing_leaves}
 use Rattle.gx_page.specs.Contents.{Contents}
 use Rattle.gx_node.specs.Reading.{Format}
-use Rattle.gx_events.specs.Events as laws
+use Rattle.gx_events.specs.Happenings as laws
 use Rattle.gx_recovery.specs.Records.{Record}
 use Rattle.gx_index_laws.specs.Classes.{Class, Page}
 use Rattle.gx_index_laws.specs.Happening.{AreHappening}
@@ -18,7 +18,7 @@ use Rattle.gx_engine.specs.Running.{AreSteps, Ran, StandsForOne}
 use Rattle.gx_engine.specs.States.{Parts}
 
 -- what happened, and then happened more, happened
-happening_joined : {B : Type 0} (c : Class B) (i j k : index.State B) (first next : List (laws.Event B)) → AreHappening c i first j → AreHappening c j next k
+happening_joined : {B : Type 0} (c : Class B) (i j k : index.State B) (first next : List (laws.Happening B)) → AreHappening c i first j → AreHappening c j next k
     → AreHappening c i (first ++ next) k
 happening_joined c i j k [] next one other = subst (λ (x : _). AreHappening c x next k) one other
 happening_joined c i j k (event ∷ first) next one other = (one.0, one.1, happening_joined c one.0 j k first next one.2 other)

@@ -58,7 +58,7 @@ module _ {B : Type 0} (k : Keys B) (old new : State B (Work B)) (i j : index.Sta
       subst (λ (n : ℕ). IsAt k p h.notes (j.work n) (j.restored n)) (sym same) own)
       (λ ne. other_at a (λ same. ne (ap (λ n. n - 1) same)) (phase_at (a - 1) old.phases) (held_at (a - 1) old.table) (at a there))))
 
--- the table as it is, with what a session holds
+-- the present table, with what a session holds
 pub held_as_it_is : {B : Type 0} (s : ℕ) (table : List (Held B)) → table ≡ with_held s (held_at (s - 1) table) table
 held_as_it_is s table = sym (set-get_or table (s - 1) nothing_held)
 
@@ -150,7 +150,7 @@ not_due e early =
     let both = or_parts (runs e.checkpoint) (nat_le CHECKPOINT_AT e.volume.log.used) early in
     (both.0, leb-false CHECKPOINT_AT e.volume.log.used both.1)
 
--- pages that were only read stand in a checkpoint as they did
+-- pages that were only read are in a checkpoint as before
 pub reads_stand : {D : Type 0} (x : Checkpoint) (v w : Volume D) → w.log ≡ v.log → ((page : ℕ) → stamp_of (kept w.shelf.frames page) ≡ stamp_of (kept v.shelf.frames page))
     → StandsIn x v → StandsIn x w
 reads_stand Off v w log stamps stands = ap (λ (g : Log). g.turn) log ∙ stands

@@ -21,7 +21,7 @@ use Rattle.gx_engine.specs.Slots.{AreTaken, is_held, slots_room}
 use Rattle.gx_engine.specs.States.{Parts}
 use Rattle.gx_engine.specs.Writes.{AsksHere}
 
--- A refusal that isn't for want of room says nothing of how much was asked for: that is then what a sweep takes.
+-- A refusal that isn't for lack of room doesn't say how much was asked for: that is then what a sweep takes.
 pub lacks_taken : {B D : Type 0} (passes : ℕ → Contents → Bool) (d e : Device) (f : Format B) (claimed : Entry B → Bool) (v : Volume D) (page : ℕ) (t : Shelf D) (n : StoreFault) (slots : List ℕ)
     → (n ≡ store.NoRoom → AreTaken claimed f d v page slots) → faults.IsWhy passes d e (begun v (slots_room v page slots)) t n
     → (these : List ℕ) × AreTaken claimed f d v page these × faults.IsWhy passes d e (begun v (slots_room v page these)) t n
@@ -35,7 +35,8 @@ short : (small : Bool) (count : ℕ) → count ≤ MOST_SLOTS → sweep_room sma
 short true count few = omega (arith, few)
 short false count few = omega arith
 
--- A sweep that was refused asked for the room of what it takes; or its refusal is none for want of room, and so for that of a split too.
+-- A sweep that was refused asked for the room of what it removes; or its refusal isn't for lack of room, and so counts
+-- as one of a split too.
 pub sweep_asks : {B D : Type 0} (passes : ℕ → Contents → Bool) (d e : Device) (f : Format B) (k : Keys B) (old : Parts B D) (page : ℕ) (t : Shelf D) (n : StoreFault) (slots : List ℕ)
     → (n ≡ store.NoRoom → AreTaken (is_held k old) f d old.volume page slots) → length slots ≤ MOST_SLOTS → faults.IsWhy passes d e (begun old.volume (slots_room old.volume page slots)) t n
     → (size : ℕ) × AsksHere k f d old page size × (size ≤ SPLIT_RECORD) × faults.IsWhy passes d e (begun old.volume size) t n

@@ -68,7 +68,7 @@ module _ {E P : Type 0} (k : Known E P) (l : IsLawful k) where
         ap (λ (zs : List (Touch E)). first_if (y.transaction == t) y zs) rest
         ∙ elim (y.transaction == t) as (λ b. first_if b y (touching k x (its ys)) ≡ touching k x (first_if b y (its ys))) [ true ↦ sym (at_by x y (its ys) Greater is) | false ↦ refl ]
 
-    -- a touch of its own
+    -- a transaction's own touch
     pub touching_own : (x : Touch E) (xs : List (Touch E)) → x.transaction ≡ t → InOrder k xs → its (touching k x xs) ≡ touching k x (its xs)
     touching_own x [] own order = ap (λ b. first_if b x []) (eq-eqb x.transaction t own)
     touching_own x (y ∷ ys) own order = own_by x y ys (touch_cmp k x y) own refl order.0 (touching_own x ys own order.1)

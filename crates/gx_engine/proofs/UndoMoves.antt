@@ -36,7 +36,7 @@ use Rattle.gx_recovery.specs.Logged.{Logged, all_records}
 use Rattle.gx_recovery.specs.Records as records
 use Rattle.gx_recovery.specs.Coming.{IsSaid}
 use Rattle.gx_recovery.specs.Records.{Record, Said, Write}
-use Rattle.gx_events.specs.Events.{Event, EndsUndo, RefusesCall, Undoes, Works}
+use Rattle.gx_events.specs.Happenings.{Happening, EndsUndo, RefusesCall, Undoes, Works}
 use Rattle.gx_events.specs.Slots as slots
 use Rattle.gx_events.specs.Slots.{Slot, is_unanswered, slot_at}
 use Rattle.gx_index_laws.specs.Classes.{Class, IsLawful, Page, is_of, known_of}
@@ -219,7 +219,7 @@ module _ {B D : Type 0} (c : Class B) (lawful : 4 ≤ c.rules.most → IsLawful 
       sits : Sits c old.sessions i
       sits = sits_of c r f passes d old bodies i h
 
-      -- its pair stands in the leaf or to the right of it
+      -- its pair is in the leaf or to the right of it
       seeks : SeeksFor c one (slot_at s i.slots) n.entry leaf
       seeks =
           subst (λ (q : ℕ). SeeksFor c one (slot_at s i.slots) n.entry q) (sym its_leaf)
@@ -286,7 +286,7 @@ module _ {B D : Type 0} (c : Class B) (lawful : 4 ≤ c.rules.most → IsLawful 
             let lowers = undoing.right_lowers c (l bodies i h) old.sessions kept works s is m was at i h.whole (sits bodies i h) n next.note absent in
             let past = left_then (phase_at (s - 1) old.sessions.phases) m was at (work_left c i s) in
             let now = left_now c.keys old.sessions kept s is m (Seeks right) (work_left c j s) in
-            subst (λ (q : ℕ). (events : List (Event B)) × AreUndoing s old.sessions More events
+            subst (λ (q : ℕ). (events : List (Happening B)) × AreUndoing s old.sessions More events
             × Moved c r f passes d e s old (record old { volume = w; sessions = with_phase_of s (phase.Undoing m (Seeks q)) old.sessions }) More i events) here (
               Works ∷ [],
               inl refl,
@@ -488,7 +488,7 @@ some_comes {B} {D} known r f passes IsKey k spelling key d e s old new outcome e
     (subst (λ (next : Option ℕ). UndoBy known r f passes IsKey k spelling key false next d e s old new outcome) (sym place)
     (n, here, subst (λ (q : ℕ). RestoreComes known r f passes IsKey k spelling key d e s m n q old new outcome) its_leaf (comes m place)))
 
--- What a call that sets a mark tells, as what was sought.
+-- What a call that sets a mark says, as the result of a seek.
 pub seeking : {B D : Type 0} (known : Limits → Known (Entry B) (Page B)) (r : Reading (Entry B) (Page B)) (f : Format B) (passes : ℕ → Contents → Bool) (IsKey : B → Type 0) (shape : Members B)
     (spelling : B → List ℕ) (key : ℕ) (d e : Device) (v w : Volume D) (t : ℕ) (n : Note B) (leaf : ℕ)
     → (result : Result Sought (StepFault StoreFault)) → IfOk result (MarkIsLogged known r f passes spelling key t n.entry leaf n.before d e v w)

@@ -18,8 +18,8 @@ use Rattle.gx_recovery.specs.Records as records
 use Rattle.gx_recovery.specs.Logged.{all_records, appended, durable}
 use Rattle.gx_recovery.proofs.Folds.{analysis-snoc}
 use Rattle.gx_events.specs.Slots as slots
-use Rattle.gx_events.specs.Slots.{Slot, Undoing, slot_at, with_slot, is_unanswered, noted}
-use Rattle.gx_events.specs.Events.{EndsUndo, Undoes, Works}
+use Rattle.gx_events.specs.Slots.{Slot, Undoing, slot_at, with_slot}
+use Rattle.gx_events.specs.Happenings.{EndsUndo, Undoes, Works}
 use Rattle.gx_index_laws.specs.Classes.{Class, IsLawful, Page, is_live, is_of, known_of}
 use Rattle.gx_index_laws.specs.Happening.{Happens, changed_at, slotted, with_record, with_restored, with_work}
 use Rattle.gx_index_laws.specs.Measures.{work_left}
@@ -56,7 +56,7 @@ use Rattle.gx_engine.proofs.Restored.{all_done, moved_done, not_done, one_more_d
 use Rattle.gx_engine.proofs.Serving.{held_as_it_is, session_at, session_of, session_slots, slot_is}
 use Rattle.gx_engine.proofs.Touching.{touching_notes, touching_other, touching_own}
 
--- one of those that a list keeps stands in it
+-- an item is in a list, between these others
 record StandsIn {X : Type 0} (x : X) (xs : List X) : Type 0 where
   before : List X
   after : List X
@@ -182,7 +182,7 @@ module _ {B : Type 0} (c : Class B) (l : IsLawful c) (old : State B (Work B)) (k
         subst (λ (x : Note B). IsNoted c.keys x held.notes) (get_or_from_slice_get held.notes restored n n next)
         (each_noted c.keys l.keys held.notes restored n in_order (slice_get_within held.notes restored n next))
 
-    -- where its undo has not begun, its leaf is the one that the log tells
+    -- if its undo has not begun, its leaf is the one in the log
     from_its_leaf : SeeksFor c (tree_now c i) (slot_at s i.slots) n.entry n.leaf
     from_its_leaf =
         let there : slice_get (touched_by t touches) restored ≡ Some (touch_by t n) =
@@ -199,7 +199,7 @@ module _ {B : Type 0} (c : Class B) (l : IsLawful c) (old : State B (Work B)) (k
         subst (λ (x : Note B). SeeksFor c (tree_now c i) (slot_at s i.slots) x.entry leaf) same
         (subst (λ (x : index.Work B). DoesWork c (tree_now c i) (slot_at s i.slots) x) now.2 (whole.works s))
 
-    -- the pair stands in its leaf or to the right of it
+    -- the pair is in its leaf or to the right of it
     pub seeks_now : SeeksFor c (tree_now c i) (slot_at s i.slots) n.entry (leaf_of n was)
     seeks_now = seeks_by was refl is_at.0
 

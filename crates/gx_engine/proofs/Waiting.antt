@@ -7,11 +7,10 @@ use Rattle.gx_page.specs.Contents.{Contents}
 use Rattle.gx_pool.specs.Bringing.{OnlyRead}
 use Rattle.gx_node.specs.Reading.{Format}
 use Rattle.gx_recovery.specs.Records.{Record}
-use Rattle.gx_events.specs.Events.{RefusesCall}
+use Rattle.gx_events.specs.Happenings.{RefusesCall}
 use Rattle.gx_events.specs.Slots.{is_unanswered, slot_at}
 use Rattle.gx_index_laws.specs.Classes.{Class, IsLawful, Page, known_of}
 use Rattle.gx_index_laws.specs.Happening as happening
-use Rattle.gx_index_laws.specs.Happening.{AreHappening}
 use Rattle.gx_index_laws.specs.States as index
 use Rattle.gx_index_laws.proofs.AskedCalls.{faulted}
 use Rattle.gx_index_laws.proofs.Quiet.{as_it_is}

@@ -45,7 +45,6 @@ use Rattle.gx_store.specs.Faults as faults
 use Rattle.gx_store.specs.State.{Shelf}
 use Rattle.gx_storage.specs.Bringing.{bringing}
 use Rattle.gx_storage.specs.Changes.{begun, has_room}
-use Rattle.gx_storage.specs.declared.flusher.Help as storage
 use Rattle.gx_storage.specs.Flushing.{HasNoRoom, Helps, IsLeastWritable, frame_by}
 use Rattle.gx_storage.specs.Imaged.{is_imaged}
 use Rattle.gx_storage.specs.Keeps.{Keeps}
@@ -58,7 +57,7 @@ use Rattle.gx_events.specs.declared.outcome.Outcome.TheVariants.{Help}
 use Rattle.gx_phases.specs.declared.phase.Phase.{Phase}
 use Rattle.gx_phases.specs.declared.phase.Phase.TheVariants as phase
 use Rattle.gx_phases.specs.Moves.{next_of, transaction_of}
-use Rattle.gx_events.specs.Events.{Event}
+use Rattle.gx_events.specs.Happenings.{Happening}
 use Rattle.gx_phases.specs.States.{State as Sessions, WaitsForSealed, phase_at}
 use Rattle.gx_engine.specs.declared.checkpoint.Checkpoint.{Checkpoint}
 use Rattle.gx_engine.specs.declared.checkpoint.Checkpoint.TheVariants.{Off, Running, Turning}
@@ -157,7 +156,7 @@ module _ {B D : Type 0} where
       let due = (not_due (runs e.checkpoint) e.volume.log.used early).1 in
       fills_by (length e.volume.log.filling) e.volume.log.used size none (omega (arith, due)) small
 
-  helped : (passes : ℕ → Contents → Bool) (d e : Device) (old new : Parts B D) (n : Need) (shelf : Shelf D) (early : StoreFault → Type 0) (why : StoreFault) (named : Option storage.Help)
+  helped : (passes : ℕ → Contents → Bool) (d e : Device) (old new : Parts B D) (n : Need) (shelf : Shelf D) (early : StoreFault → Type 0) (why : StoreFault) (named : Option Need)
       → (early fault.NoRoom → shelf.has_room ≡ false → 1 ≤ length old.volume.log.filling) → CanBeHelped why → faults.IsWhy passes d e shelf new.volume.shelf why → early why
       → Helps new.volume.shelf why named → n ≡ need_of (runs old.checkpoint) named → WaitsForRoom old n ⊎ WaitsForFrames old new n
   helped passes d e old new n shelf early fault.NoRoom named room can why is helps names =
@@ -440,12 +439,12 @@ module _ {C B D : Type 0} (shape : Members B) (proper : B → Bool) (said : List
       let stepped = made.steps l bodies i holds in
       let none : stepped.events ≡ [] = stepped.are.1 in
       let same : stepped.led.index ≡ i =
-      subst (λ (events : List (Event B)). AreHappening (class_of shape proper l) i events stepped.led.index) none stepped.led.happening in
+      subst (λ (events : List (Happening B)). AreHappening (class_of shape proper l) i events stepped.led.index) none stepped.led.happening in
       let waits = waits_made old new s n made.order.0.stands made in
       λ a. ap (λ (x : Sessions B (Work B)). left_by (phase_at (a - 1) x.phases) (work_left (class_of shape proper l) stepped.led.index a)) waits.sessions
       ∙ ap (λ (j : index.State B). left_by (phase_at (a - 1) old.sessions.phases) (work_left (class_of shape proper l) j a)) same
 
-  -- nor is there more to flush
+  -- nor is more left to flush
   pub waiting_flushes : (old new : Parts B D) (s : ℕ) (n : Need) → Makes shape (traits_of proper said class) state old (Move s) (Help n) new → backlog new ≤ backlog old
   waiting_flushes old new s n made =
       let waits = waits_made old new s n made.order.0.stands made in

@@ -1,10 +1,10 @@
--- What an ask comes to.
+-- The outcome of an ask.
 use Rattle.std.specs.Prelude.{ℕ, ◌≡◌, List, [], ◌∷◌}
 use Rattle.gx_machine.specs.declared.call.Call.{Call}
 use Rattle.gx_machine.specs.declared.reply.Asked.{Asked}
 use Rattle.gx_machine.specs.declared.reply.Asked.TheVariants as asked
 use Rattle.gx_machine.specs.Keys.{Keys}
-use Rattle.gx_events.specs.Events.{Event}
+use Rattle.gx_events.specs.Happenings.{Happening}
 use Rattle.gx_events.specs.declared.outcome.Outcome.{Outcome}
 use Rattle.gx_events.specs.declared.outcome.Outcome.TheVariants.{Replied, More, Help, Nothing, Refused}
 use Rattle.gx_phases.specs.Asked.{IsAsked, asked_event}
@@ -13,7 +13,7 @@ use Rattle.gx_engine.specs.declared.work.Work.{Work}
 use Rattle.gx_engine.specs.declared.work.Work.TheVariants.{Rests}
 use Rattle.gx_engine.specs.States.{Parts}
 
--- what an ask is given, as an outcome
+-- an ask's reply as an outcome
 abbrev pub outcome_of : {B : Type 0} → Asked B → Outcome B
 outcome_of (asked.Now reply) = Replied reply
 outcome_of asked.Open = More
@@ -27,7 +27,7 @@ AskComes k s call old Nothing new = ⊥
 AskComes k s call old (Refused why) new = ⊥
 
 -- the index's event that it is
-abbrev pub ask_events : {B : Type 0} → ℕ → Call B → State B (Work B) → Outcome B → List (Event B)
+abbrev pub ask_events : {B : Type 0} → ℕ → Call B → State B (Work B) → Outcome B → List (Happening B)
 ask_events s call old (Replied reply) = asked_event s call old (asked.Now reply) ∷ []
 ask_events s call old More = asked_event s call old asked.Open ∷ []
 ask_events s call old (Help need) = []

@@ -1,4 +1,4 @@
--- What there is left to flush: a number that each step of the log and of a checkpoint and each page's write lowers.
+-- What is left to flush: a number that each step of the log and of a checkpoint and each page's write lowers.
 use Rattle.std.specs.Prelude.{ℕ, ◌+◌, ◌*◌, nat_le, Bool, true, false, List, [], ◌∷◌}
 use Rattle.gx_glog.specs.declared.stage.Stage.{Stage}
 use Rattle.gx_glog.specs.declared.stage.Stage.TheVariants.{Body, BodySync, Gate, GateSync, Idle}

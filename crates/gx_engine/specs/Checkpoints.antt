@@ -46,7 +46,7 @@ pub record WritesNext {B D : Type 0} (d e : Device) (old new : Parts B D) (outco
   pub least : IsLeastWritable old.volume.shelf.frames (Some page)
   pub writes : PageIsWritten page d e old new false outcome
 
--- The same where pages are dirty, and none may be written: a device that lied.
+-- The same where pages are dirty, and none may be written: a device that isn't honest.
 pub record FindsNoPage {B D : Type 0} (old new : Parts B D) (outcome : Outcome B) : Type 0 where
   pub quiet : IsQuiet old.volume
   pub dirty : NoneDirty old.volume.shelf.frames → ⊥
@@ -57,7 +57,7 @@ pub record FindsNoPage {B D : Type 0} (old new : Parts B D) (outcome : Outcome B
 abbrev pub WritesDirty : {B D : Type 0} → Device → Device → Parts B D → Parts B D → Outcome B → Type 0
 WritesDirty d e old new outcome = WritesNext d e old new outcome ⊎ FindsNoPage old new outcome
 
--- the volume over its device as that is now, with the log as it is now behind another head
+-- the volume over its device now, with the present log behind another head
 abbrev pub settled_volume : {D : Type 0} → Volume D → Volume D → Volume D
 settled_volume v w = record v { log = record v.log { flight = w.log.flight }; shelf = record v.shelf { disk = w.shelf.disk } }
 
@@ -73,7 +73,7 @@ SyncComes {B} {D} old new outcome (Err why) =
     (outcome ≡ Refused DeviceRefusal)
     × (new ≡ record old { volume = record old.volume { shelf = record old.volume.shelf { disk = new.volume.shelf.disk } }; sessions = failed_state old.sessions })
 
--- Once no page is dirty: what was written is settled, and then the head of the renewed log is put in memory.
+-- Once no page is dirty: the pages are synced, and then the head of the renewed log is put in memory.
 pub record BeginsTurn {B D : Type 0} (d e : Device) (old new : Parts B D) (outcome : Outcome B) : Type 0 where
   pub quiet : IsQuiet old.volume
   pub clean : NoneDirty old.volume.shelf.frames
@@ -112,7 +112,7 @@ abbrev pub StepsOff : {B D : Type 0} → Device → Device → Parts B D → Par
 StepsOff d e old new false outcome = (outcome ≡ Nothing) × (new ≡ old)
 StepsOff d e old new true outcome = RunsOn d e (record old { checkpoint = Running }) new outcome
 
--- by how far the checkpoint is
+-- by the checkpoint's stage
 abbrev pub StepsFrom : {B D : Type 0} → Device → Device → Parts B D → Parts B D → Checkpoint → Outcome B → Type 0
 StepsFrom d e old new Off outcome = StepsOff d e old new (nat_le CHECKPOINT_AT old.volume.log.used) outcome
 StepsFrom d e old new Running outcome = RunsOn d e old new outcome

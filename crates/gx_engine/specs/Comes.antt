@@ -1,4 +1,4 @@
--- What an event comes to, whichever it is.
+-- The outcome of an event of any kind.
 use Rattle.std.specs.Prelude.{ℕ, ◌≡◌, ◌-◌, Bool, true, false, List}
 use Rattle.gx_geom.specs.declared.refusal.Refusal.TheVariants.{BadSession, Failed, NoCall}
 use Rattle.gx_machine.specs.declared.entry.Entry.{Entry}
@@ -32,7 +32,7 @@ use Rattle.gx_engine.specs.Sweeping.{SweepComes}
 use Rattle.gx_engine.specs.Undoing.{UndoComes}
 use Rattle.gx_engine.specs.Writes.{WriteComes}
 
--- an event that was refused, or answered, with no more
+-- an event that was only refused, or only got a reply
 abbrev pub IsOnly : {B D : Type 0} → Outcome B → Parts B D → Parts B D → Outcome B → Type 0
 IsOnly given old new outcome = (outcome ≡ given) × (new ≡ old)
 
@@ -47,7 +47,7 @@ module _ {B : Type 0} (k : Keys B) (known : Limits → Known (Entry B) (Page B))
   CallMoves d e s old new Commit outcome = SealComes s old new outcome
   CallMoves d e s old new Abort outcome = IsOnly (Refused NoCall) old new outcome
 
-  -- by how far the session is
+  -- by the session's phase
   abbrev pub MovesAt : {D : Type 0} → Device → Device → ℕ → Parts B D → Parts B D → Phase B (Work B) → Outcome B → Type 0
   MovesAt d e s old new phase.Free outcome = IsOnly (Refused NoCall) old new outcome
   MovesAt d e s old new phase.Working outcome = IsOnly (Refused NoCall) old new outcome
@@ -65,7 +65,7 @@ module _ {B : Type 0} (k : Keys B) (known : Limits → Known (Entry B) (Page B))
   abbrev pub MoveComes : {D : Type 0} → Device → Device → ℕ → Parts B D → Parts B D → Outcome B → Type 0
   MoveComes d e s old new outcome = MovesBy d e (is_session s) (has_call (phase_at (s - 1) old.sessions.phases)) old.sessions.failed s old new outcome
 
-  -- what each event comes to
+  -- the outcome of each event
   abbrev pub StepComes : {D : Type 0} → Device → Device → Event B → Parts B D → Parts B D → Outcome B → Type 0
   StepComes d e (Ask s call) old new outcome = AskComes k s call old outcome new
   StepComes d e (Move s) old new outcome = MoveComes d e s old new outcome

@@ -1,9 +1,9 @@
--- What the moves of a commit come to.
+-- The outcomes of a commit's moves.
 use Rattle.std.specs.Prelude.{ℕ, ◌≡◌, ◌+◌, Bool, true, false, Option, None, Some, nat_le, List, [], ◌∷◌}
 use Rattle.gx_machine.specs.declared.entry.Entry.{Entry}
 use Rattle.gx_machine.specs.declared.reply.Reply.TheVariants.{Committed}
 use Rattle.gx_record.specs.Rec as rec
-use Rattle.gx_events.specs.Events.{Event, Acknowledges, Seals}
+use Rattle.gx_events.specs.Happenings.{Happening, Acknowledges, Seals}
 use Rattle.gx_events.specs.declared.outcome.Need.TheVariants as need
 use Rattle.gx_events.specs.declared.outcome.Outcome.{Outcome}
 use Rattle.gx_events.specs.declared.outcome.Outcome.TheVariants.{Replied, More, Help, Nothing, Refused}
@@ -35,12 +35,12 @@ SealComes s old new (Replied reply) = ⊥
 SealComes s old new Nothing = ⊥
 SealComes s old new (Refused why) = ⊥
 
--- the index's event that it is: what stood is the set of that number
-abbrev pub AreSealing : {B : Type 0} → ℕ → ℕ → Outcome B → List (Event B) → Type 0
+-- a seal as the index's event: the set so far gets that number
+abbrev pub AreSealing : {B : Type 0} → ℕ → ℕ → Outcome B → List (Happening B) → Type 0
 AreSealing {B} s number More events = (set : List (Entry B)) × (events ≡ Seals s set number ∷ [])
 AreSealing s number other events = events ≡ []
 
--- the answer of a commit whose number is durable; another one waits for the log, by whether a checkpoint runs
+-- the reply to a commit whose number is durable; any other waits for the log, or for a checkpoint if one runs
 abbrev pub commit_outcome : {B : Type 0} → Bool → Option ℕ → Outcome B
 commit_outcome running None = Help (log_need running)
 commit_outcome running (Some number) = Replied (Committed number)
@@ -53,6 +53,6 @@ AcknowledgeBy false s number old new outcome = (outcome ≡ Help (log_need (runs
 abbrev pub AcknowledgeComes : {B D : Type 0} → ℕ → ℕ → Parts B D → Parts B D → Outcome B → Type 0
 AcknowledgeComes s number old new outcome = AcknowledgeBy (nat_le number old.sessions.durable) s number old new outcome
 
-abbrev pub acknowledge_events : {B : Type 0} → ℕ → Outcome B → List (Event B)
+abbrev pub acknowledge_events : {B : Type 0} → ℕ → Outcome B → List (Happening B)
 acknowledge_events s (Replied (Committed number)) = Acknowledges s number ∷ []
 acknowledge_events s other = []

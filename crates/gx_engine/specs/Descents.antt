@@ -1,4 +1,4 @@
--- What the steps of an insert's descent tell.
+-- What the contracts of the steps of an insert's descent say.
 use Rattle.std.specs.Prelude.{ℕ, suc, ◌≡◌, ◌≢◌, ◌<◌, ◌≤◌, ◌+◌, ◌^◌, Bool, true, false, Option, None, Some, Result, Ok, Err, List, [], ◌∷◌, length}
 use Rattle.gx_machine.specs.declared.entry.Entry.{Entry}
 use Rattle.gx_disk.specs.Device.{Device}
@@ -83,9 +83,9 @@ module _ {B : Type 0} (known : Limits → Known (Entry B) (Page B)) (r : Reading
     Adding d e v w transaction entry page (Ok done) = HasAdded d e v w transaction entry page
     Adding d e v w transaction entry page (Err fault) = HasNotAdded d e v w page fault
 
--- What makes room for a descent tells: the sweep of a leaf, and the split of a node.
+-- What the contracts of the steps that make room for a descent say: the sweep of a leaf, and the split of a node.
 module _ {B : Type 0} (known : Limits → Known (Entry B) (Page B)) (r : Reading (Entry B) (Page B)) (f : Format B) (passes : ℕ → Contents → Bool) where
-  -- A leaf's marked pairs that nobody claims are gone, with the record of that.
+  -- A leaf's marked pairs that no session claims are removed, with the record of that.
   pub record HasSwept {D : Type 0} (claimed : Entry B → Bool) (d e : Device) (v w : Volume D) (page : ℕ) : Type 0 where
     pub slots : List ℕ
     pub taken : AreTaken claimed f d v page slots

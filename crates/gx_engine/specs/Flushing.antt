@@ -1,4 +1,4 @@
--- What the flusher's events come to.
+-- The outcomes of the flusher's events.
 use Rattle.std.specs.Prelude.{ℕ, ◌≡◌, ◌+◌, Bool, true, false, Some, Result, Ok, Err, IfOk, MatchResult, List, [], ◌∷◌}
 use Rattle.gx_geom.specs.declared.refusal.Refusal.{Refusal}
 use Rattle.gx_geom.specs.declared.refusal.Refusal.TheVariants.{Device as DeviceRefusal, Failed}
@@ -9,7 +9,7 @@ use Rattle.gx_glog.specs.State.{Goes, calls_of}
 use Rattle.gx_pool.specs.Marks.{is_gated}
 use Rattle.gx_pool.specs.State.{Kept, kept, stamp_of}
 use Rattle.gx_pool.specs.Writing.{WritesPage}
-use Rattle.gx_events.specs.Events.{Event, Works, Durable, Fails}
+use Rattle.gx_events.specs.Happenings.{Happening, Works, Durable, Fails}
 use Rattle.gx_durable.specs.Steps.{told_frames}
 use Rattle.gx_events.specs.declared.outcome.Outcome.{Outcome}
 use Rattle.gx_events.specs.declared.outcome.Outcome.TheVariants.{More, Nothing, Refused}
@@ -43,7 +43,7 @@ pub record LogGoes {D : Type 0} (d e : Device) (v w : Volume D) (result : Result
   pub counts : Counts (calls_of result) d e result
   pub only : w ≡ record v { log = w.log; shelf = record v.shelf { disk = w.shelf.disk; frames = told_frames result w.log v.shelf.frames } }
 
--- what comes of that
+-- the outcome of that
 abbrev pub LogComes : {B D : Type 0} → Parts B D → Parts B D → Outcome B → Result Stage Refusal → Type 0
 LogComes old new outcome (Ok stage) = (outcome ≡ log_outcome stage) × (new ≡ noted stage (record old { volume = new.volume }))
 LogComes old new outcome (Err why) = (outcome ≡ Refused DeviceRefusal) × (new ≡ record old { volume = new.volume; sessions = failed_state old.sessions })
@@ -55,7 +55,7 @@ LogSteps d e old new false true outcome = (outcome ≡ Nothing) × (new ≡ old)
 LogSteps d e old new false false outcome = (result : Result Stage Refusal) × LogGoes d e old.volume new.volume result × LogComes old new outcome result
 
 -- the index's events that it is: a batch begins; its gate is synced, so that commits are durable up to this number; a fault
-abbrev pub log_events : {B : Type 0} → Stage → ℕ → Outcome B → List (Event B)
+abbrev pub log_events : {B : Type 0} → Stage → ℕ → Outcome B → List (Happening B)
 log_events Idle number More = Works ∷ []
 log_events Body number More = []
 log_events BodySync number More = []
@@ -76,7 +76,7 @@ pub record PageGoes {D : Type 0} (page : ℕ) (d e : Device) (v w : Volume D) (r
   pub faults : MatchResult result (λ _. e.faults ≡ d.faults) (λ _. e.faults ≡ d.faults + 1)
   pub only : w ≡ record v { shelf = record v.shelf { disk = w.shelf.disk; frames = w.shelf.frames } }
 
--- what comes of that
+-- the outcome of that
 abbrev pub page_outcome : {B : Type 0} → Bool → Outcome B
 page_outcome true = More
 page_outcome false = Nothing
@@ -91,7 +91,7 @@ PageIsWritten page d e old new true outcome = IsEnded old new outcome
 PageIsWritten page d e old new false outcome = (result : Result Bool Refusal) × PageGoes page d e old.volume new.volume result × PageComes old new outcome result
 
 -- the index's events that it is: the page area is another, where it was written or may have been; a fault
-abbrev pub page_events : {B : Type 0} → Outcome B → List (Event B)
+abbrev pub page_events : {B : Type 0} → Outcome B → List (Happening B)
 page_events More = Works ∷ []
 page_events (Refused DeviceRefusal) = Works ∷ Fails ∷ []
 page_events other = []

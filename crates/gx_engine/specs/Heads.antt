@@ -1,4 +1,5 @@
--- The head of the renewed log, as it is put in memory: the numbers, and the sessions' notes by their transactions in turn.
+-- The head of the renewed log, as it is put in memory: the numbers, and the sessions' notes in the order of their
+-- transactions.
 use Rattle.std.specs.Prelude.{ℕ, ◌≡◌, ◌⊎◌, ◌+◌, ◌-◌, ◌*◌, ◌<◌, ◌≤◌, nat_le, nat_lt, Bool, true, ◌&&◌, Option, None, Some, Result, Ok, Err, List, ◌∷◌, ◌++◌, length}
 use Rattle.gx_machine.specs.declared.entry.Entry.{Entry}
 use Rattle.gx_machine.specs.Machine.{is_session}

@@ -46,7 +46,7 @@ HasWork need.Checkpoint e = is_due e ≡ true
 abbrev pub DoesWork : {B D : Type 0} → Outcome B → Parts B D → Parts B D → Type 0
 DoesWork given old new = ((given ≡ More) × (backlog new < backlog old)) ⊎ ((why : Refusal) × (given ≡ Refused why))
 
--- what comes of the event that is named, by its own call
+-- the outcome of the event that is named, by its own call
 abbrev pub HelpComes : {B D : Type 0} → Device → Device → Need → Parts B D → Parts B D → Outcome B → Type 0
 HelpComes d e need.Log old new outcome = LogSteps d e old new old.sessions.failed (runs old.checkpoint) outcome
 HelpComes d e (need.Write page) old new outcome = PageIsWritten page d e old new old.sessions.failed outcome
@@ -63,7 +63,7 @@ module _ {B D : Type 0} (shape : Members B) (traits : Traits B) (state : D → D
   abbrev pub HoldsIndex : Parts B D → List (List (Record (Entry B) (Page B))) → index.State B → Type 0
   HoldsIndex e bodies i = Holds (class_of shape traits.is_proper l) (reading_of traits.said (format_of (own traits))) (format_of (own traits)) (is_node (format_of (own traits))) (state e.volume.shelf.disk) e bodies i
 
-  -- where an engine holds an index of the class, and this event starts or goes on with a session's call, that is so
+  -- this holds if an engine holds an index of the class, and this event starts or goes on with a session's call
   abbrev pub WhereHeld : Parts B D → ℕ → Event B → Type 0 → Type 0
   WhereHeld e s first P = (bodies : List (List (Record (Entry B) (Page B)))) (i : index.State B) → HoldsIndex e bodies i → StartsCall s first → P
 
@@ -72,12 +72,12 @@ module _ {B D : Type 0} (shape : Members B) (traits : Traits B) (state : D → D
   NamesWork = (old new : Parts B D) (s : ℕ) (n : Need) (bodies : List (List (Record (Entry B) (Page B)))) (i : index.State B) → HoldsIndex old bodies i
       → Makes shape traits state old (Move s) (Help n) new → HasWork n new
 
-  -- What a page that is to be brought waits for has work to do, and there is no more to flush than there was.
+  -- What the bringing of a page waits for has work to do, and no more is left to flush than before.
   abbrev pub PageNamesWork : Type 0
   PageNamesWork = (old new : Parts B D) (n : Need) (bodies : List (List (Record (Entry B) (Page B)))) (i : index.State B) → HoldsIndex new bodies i → IsOrderly old → IsOrderly new
       → BringComes {A = Unit {0}} (is_node (format_of (own traits))) (state old.volume.shelf.disk) (state new.volume.shelf.disk) old new (Err (Help n)) → HasWork n new × (backlog new ≤ backlog old)
 
-  -- A move that waits leaves each session's call as much to do as it had.
+  -- A move that waits leaves each session's call as much to do as before.
   abbrev pub WaitingLeavesAll : Type 0
   WaitingLeavesAll = (old new : Parts B D) (s : ℕ) (n : Need) (bodies : List (List (Record (Entry B) (Page B)))) (i : index.State B) (holds : HoldsIndex old bodies i)
       → (made : Makes shape traits state old (Move s) (Help n) new)

@@ -18,7 +18,7 @@ use Rattle.gx_recovery.specs.Known.{Known}
 use Rattle.gx_recovery.specs.Records.{Record}
 use Rattle.gx_recovery.specs.Analysis.{analysis}
 use Rattle.gx_recovery.specs.Logged.{Logged, all_records, durable, gate_synced, latest}
-use Rattle.gx_events.specs.Events.{Event}
+use Rattle.gx_events.specs.Happenings.{Happening}
 use Rattle.gx_index_laws.specs.Classes.{Class, Page, known_of}
 use Rattle.gx_index_laws.specs.States as index
 use Rattle.gx_index_laws.specs.Whole.{IsWhole}
@@ -38,7 +38,7 @@ use Rattle.gx_engine.specs.declared.work.Work.TheVariants.{Rests, Looks, Descend
 use Rattle.gx_engine.specs.Noted.{AreTold}
 use Rattle.gx_engine.specs.States.{Parts}
 
--- a call whose pair stands in this leaf or to the right of it
+-- a call whose pair is in this leaf or to the right of it
 abbrev pub CallSeeks : {B : Type 0} → Call B → ℕ → index.Work B → Type 0
 CallSeeks Begin leaf is = ⊥
 CallSeeks (Insert e) leaf is = is ≡ index.Seeks e leaf
@@ -75,14 +75,14 @@ MayBegin (Search query) = Unit {0}
 MayBegin Commit = Unit {0}
 MayBegin Abort = ⊥
 
--- What an open call is at, as the index's laws have it. Of one that has not begun nothing is said but that it may.
+-- The state of an open call, as the index's laws have it. Of one that has not begun nothing is said but that it may.
 abbrev pub CallIsAt : {B : Type 0} → Call B → Work B → index.Work B → Type 0
 CallIsAt call Rests is = MayBegin call
 CallIsAt call (Looks look) is = (is ≡ index.Looks look.stack.items (pairs_found look.found.items)) × MayHaveFound call (pairs_found look.found.items)
 CallIsAt call (Descends parent item) is = CallDescends call is (λ e. index.Descends e parent item)
 CallIsAt call (Seeks leaf) is = CallSeeks call leaf is
 
--- what an undo is at: it has not begun with the next note, or seeks that one's pair
+-- the state of an undo: it has not begun with the next note, or seeks that note's pair
 abbrev pub UndoIsAt : {B : Type 0} → List (Note B) → ℕ → Work B → index.Work B → Type 0
 UndoIsAt notes restored Rests is = is ≡ index.Rests
 UndoIsAt notes restored (Looks look) is = ⊥
@@ -93,7 +93,7 @@ UndoIsAt {B} notes restored (Seeks leaf) is = (n : Note B) × (slice_get notes r
 abbrev pub AreDone : {B : Type 0} → Keys B → List (Note B) → ℕ → List (Entry B) → Type 0
 AreDone {B} k notes restored done = (e : Entry B) → has k e done ≡ has k e (take restored (entries_of notes))
 
--- what a session is at, by how far it is and by its notes
+-- the state of a session, by its phase and by its notes
 abbrev pub IsAt : {B : Type 0} → Keys B → Phase B (Work B) → List (Note B) → index.Work B → List (Entry B) → Type 0
 IsAt k phase.Free notes is done = Unit {0}
 IsAt k phase.Working notes is done = Unit {0}
@@ -101,11 +101,11 @@ IsAt k (phase.Open call work) notes is done = CallIsAt call work is
 IsAt k (phase.Undoing restored work) notes is done = UndoIsAt notes restored work is × AreDone k notes restored done
 IsAt k (phase.Waiting number) notes is done = Unit {0}
 
--- the sessions are at what an index's sessions are at
+-- the sessions are in the states of an index's sessions
 abbrev pub AreAt : {B : Type 0} → Keys B → State B (Work B) → index.State B → Type 0
 AreAt k sessions i = (a : ℕ) → is_session a ≡ true → IsAt k (phase_at (a - 1) sessions.phases) (held_at (a - 1) sessions.table).notes (i.work a) (i.restored a)
 
--- The sessions are an index's: what they are at, and what they have noted.
+-- The sessions are an index's: their states, and what they have noted.
 pub record Sits {B : Type 0} (c : Class B) (sessions : State B (Work B)) (i : index.State B) : Type 0 where
   pub of : AreOf sessions i
   pub at : AreAt c.keys sessions i
@@ -116,7 +116,8 @@ pub record MayRenewBy {E P : Type 0} (k : Known E P) (r : Reading E P) (next : �
   pub may : MayRenew k r head sectors pending s
   pub begun : may.next ≤ next
 
--- The number that an engine notes is that of the last commit in flight, where a batch is, whose first call was made.
+-- The number that an engine notes is that of the last commit in flight, if a batch is in flight whose first call was
+-- made.
 abbrev pub KnowsFlight : Stage → ℕ → ℕ → Type 0
 KnowsFlight Idle noted number = Unit {0}
 KnowsFlight Body noted number = ⊥
@@ -125,10 +126,10 @@ KnowsFlight Gate noted number = noted ≡ number
 KnowsFlight GateSync noted number = noted ≡ number
 
 module _ {B : Type 0} (c : Class B) (r : Reading (Entry B) (Page B)) (f : Format B) (passes : ℕ → Contents → Bool) where
-  -- An engine over a device holds an index, which is whole: its pages and log are the index's, its sessions are the index's and at
-  -- the same, its sessions' notes are what the log's transactions have touched, and its last commit has the number of the log's.
-  -- While it hasn't failed, it knows the last commit in flight, no head is there before a checkpoint turns, and in one that turns the
-  -- log may be renewed.
+  -- An engine over a device holds an index, which is whole: its pages and log are the index's, its sessions are the
+  -- index's and in the same states, its sessions' notes are what the log's transactions have touched, and its last
+  -- commit has the number of the log's. While it hasn't failed, it knows the last commit in flight, no head exists
+  -- before a checkpoint turns, and in one that turns the log may be renewed.
   pub record Holds {D : Type 0} (d : Device) (e : Parts B D) (bodies : List (List (Record (Entry B) (Page B)))) (i : index.State B) : Type 0 where
     pub most : e.volume.most ≡ c.rules.most
     pub some : 4 ≤ c.rules.most
@@ -142,9 +143,10 @@ module _ {B : Type 0} (c : Class B) (r : Reading (Entry B) (Page B)) (f : Format
     pub bare : e.sessions.failed ≡ false → e.checkpoint ≢ Turning → e.volume.log.stage ≡ Idle → e.volume.log.flight ≡ []
     pub turns : e.sessions.failed ≡ false → e.checkpoint ≡ Turning → MayRenewBy (known_of c) r i.next e.volume.log.flight d.sectors d.pending i.log
 
-  -- These events happened to an index: the engine holds what they led to. At each moment since, whatever a crash may leave is legal
-  -- and stands for a set that the index of before keeps, with a number from the one that was durable then to the last.
-  pub record Led {D : Type 0} (d e : Device) (new : Parts B D) (i : index.State B) (events : List (Event B)) : Type 0 where
+  -- These events happened to an index: the engine holds what they led to. At each moment since, whatever a crash may
+  -- leave is legal and stands for a set that the index before the events keeps, with a number from the one that was
+  -- durable then to the last.
+  pub record Led {D : Type 0} (d e : Device) (new : Parts B D) (i : index.State B) (events : List (Happening B)) : Type 0 where
     pub bodies : List (List (Record (Entry B) (Page B)))
     pub index : index.State B
     pub happening : AreHappening c i events index
@@ -152,10 +154,10 @@ module _ {B : Type 0} (c : Class B) (r : Reading (Entry B) (Page B)) (f : Format
     pub leaves : Leaves (Stands (known_of c) r i.log) d e
 
   -- whatever index an engine held, it holds what these events led to
-  abbrev pub Leads : {D : Type 0} → Device → Device → Parts B D → Parts B D → List (Event B) → Type 0
+  abbrev pub Leads : {D : Type 0} → Device → Device → Parts B D → Parts B D → List (Happening B) → Type 0
   Leads d e old new events = (bodies : List (List (Record (Entry B) (Page B)))) (i : index.State B) → Holds d old bodies i → Led d e new i events
 
   -- the same, where it depends on that index which events these were
-  abbrev pub LeadsSo : {D : Type 0} → Device → Device → Parts B D → Parts B D → (List (Event B) → Type 0) → Type 0
+  abbrev pub LeadsSo : {D : Type 0} → Device → Device → Parts B D → Parts B D → (List (Happening B) → Type 0) → Type 0
   LeadsSo d e old new AreSo = (bodies : List (List (Record (Entry B) (Page B)))) (i : index.State B) → Holds d old bodies i
-      → (events : List (Event B)) × AreSo events × Led d e new i events
+      → (events : List (Happening B)) × AreSo events × Led d e new i events

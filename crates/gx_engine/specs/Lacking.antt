@@ -1,4 +1,4 @@
--- Want of memory: which events may be refused it. For every other one the room was made before.
+-- Lack of memory: which events may be refused memory. For every other event it was allocated before.
 use Rattle.std.specs.Prelude.{◌≡◌, Bool, true, false}
 use Rattle.gx_geom.specs.declared.refusal.Refusal.{Refusal}
 use Rattle.gx_geom.specs.declared.refusal.Refusal.TheVariants.{Memory}
@@ -25,7 +25,7 @@ is_lack (Replied (RefusedCall why)) = is_memory why
 is_lack (Refused why) = is_memory why
 is_lack other = false
 
--- a call takes memory: a search, and a write as long as it looks for its pair
+-- a call takes memory: a search, and a write while it looks for its pair
 abbrev pub takes_memory : {B : Type 0} → Phase B (Work B) → Bool
 takes_memory (phase.Open (Search query) work) = true
 takes_memory (phase.Open (Insert entry) work) = is_looking work
@@ -37,6 +37,6 @@ abbrev pub may_take : {B D : Type 0} → Event B → Parts B D → Bool
 may_take (Move s) e = takes_memory (phase_in s e)
 may_take other e = false
 
--- an event is refused memory only where it may take some
+-- an event is refused memory only if it may take some
 abbrev pub LacksOnlyThere : {B D : Type 0} → Event B → Parts B D → Outcome B → Type 0
 LacksOnlyThere event e outcome = is_lack outcome ≡ true → may_take event e ≡ true

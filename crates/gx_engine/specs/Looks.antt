@@ -1,4 +1,4 @@
--- What the moves of a call that looks come to.
+-- The outcomes of the moves of a call that looks.
 use Rattle.std.specs.Prelude.{ℕ, ◌≡◌, ◌<◌, ◌⊎◌, Bool, true, false, List, [], ◌∷◌}
 use Rattle.gx_geom.specs.declared.refusal.Refusal.TheVariants.{Device as DeviceRefusal, Damaged as DamagedRefusal, Memory}
 use Rattle.gx_machine.specs.declared.call.Call.{Call}
@@ -11,7 +11,7 @@ use Rattle.gx_index_laws.specs.Classes.{Class, Page}
 use Rattle.gx_durable.specs.Spelled.{Reading}
 use Rattle.gx_tree.specs.declared.found.Found.{Found}
 use Rattle.gx_tree.specs.declared.look.Look.{Look}
-use Rattle.gx_events.specs.Events.{Event, Works, Closes, RefusesCall}
+use Rattle.gx_events.specs.Happenings.{Happening, Works, Closes, RefusesCall}
 use Rattle.gx_events.specs.declared.outcome.Outcome.{Outcome}
 use Rattle.gx_events.specs.declared.outcome.Outcome.TheVariants.{Replied, More, Help}
 use Rattle.gx_phases.specs.declared.phase.Phase.{Phase}
@@ -31,7 +31,7 @@ pub record LooksFor {B : Type 0} (entry : Entry B) (call : Call B) (work : Work 
   pub at : now ≡ phase.Open call work
   pub looking : is_looking work ≡ true
 
--- a look begins at the root, with the counter of splits as it is, and has found nothing
+-- a look begins at the root, with the present counter of splits, and has found nothing
 abbrev pub IsFirst : {B D : Type 0} → Parts B D → Look B → Type 0
 IsFirst e look = (look.stack.items ≡ record { page = 1; seen = e.volume.shelf.counter } ∷ []) × (look.found.items ≡ [])
 
@@ -39,7 +39,7 @@ abbrev pub IsFirstUnless : {B D : Type 0} → Bool → Parts B D → Look B → 
 IsFirstUnless true e look = Unit {0}
 IsFirstUnless false e look = IsFirst e look
 
--- what a call is at while its look reads a page: the look, or nothing where that hadn't begun
+-- the state of a call while its look reads a page: the look, or nothing if that hadn't begun
 abbrev pub work_before : {B : Type 0} → Bool → Look B → Work B
 work_before true look = Looks look
 work_before false look = Rests
@@ -48,8 +48,8 @@ work_before false look = Rests
 abbrev pub Reaches : {B D : Type 0} → Class B → Reading (Entry B) (Page B) → Format B → (ℕ → Contents → Bool) → (D → Device) → ℕ → Parts B D → Parts B D → Type 0
 Reaches c r f passes state s old new = (old ≡ new) ⊎ MovesOn c r f passes (state old.volume.shelf.disk) (state new.volume.shelf.disk) s old new
 
--- A look read no page: its call is closed, since memory was refused; or the engine has failed; or another event has to come first, and
--- the call is at what it was.
+-- A look read no page: its call is closed, since memory was refused; or the engine has failed; or another event has to
+-- come first, and the call's state is unchanged.
 abbrev pub StopComes : {B D : Type 0} → (ℕ → Contents → Bool) → Device → Device → ℕ → Parts B D → Parts B D → Outcome B → Type 0
 StopComes passes d e s old new (Replied (RefusedCall Memory)) = new ≡ record (brought old new) { sessions = answered_state s old.sessions }
 StopComes passes d e s old new (Replied (RefusedCall DeviceRefusal)) = (d.faults < e.faults) × (new ≡ record (brought old new) { sessions = failed_state old.sessions })
@@ -58,13 +58,13 @@ StopComes passes d e s old new (Help n) = IsHelp passes d e (runs old.checkpoint
 StopComes passes d e s old new other = ⊥
 
 -- the index's event that it is
-abbrev pub look_events : {B : Type 0} → ℕ → Call B → Outcome B → List (Event B)
+abbrev pub look_events : {B : Type 0} → ℕ → Call B → Outcome B → List (Happening B)
 look_events s call More = Works ∷ []
 look_events s call (Replied (RefusedCall Memory)) = Closes s call Memory ∷ []
 look_events s call (Replied (RefusedCall DeviceRefusal)) = RefusesCall s DeviceRefusal ∷ []
 look_events s call other = []
 
--- what a write's look turns into, by what it has found: it seeks its pair in the leaf where that stood, and else it goes on
+-- what follows a write's look, by what it has found: it seeks its pair in the leaf where that was, and else it goes on
 abbrev pub turned_by : {B : Type 0} → List (Found B) → Look B → Work B
 turned_by [] look = Looks look
 turned_by (one ∷ found) look = Seeks one.leaf

@@ -11,18 +11,18 @@ use Rattle.gx_machine.specs.declared.limits.TheConstants.{MAX_CLAIMS, SESSIONS}
 use Rattle.gx_events.specs.Losers.{loser_slot}
 use Rattle.gx_recovery.specs.Records.{Touch}
 use Rattle.gx_index_laws.specs.Openings.{losers_of, numbers_of}
+use Rattle.gx_txn.specs.declared.note.Note.{Note}
 use Rattle.gx_phases.specs.declared.phase.Phase.{Phase}
 use Rattle.gx_phases.specs.declared.phase.Phase.TheVariants.{Free, Working, Open, Undoing, Waiting}
 use Rattle.gx_phases.specs.Moves.{transaction_of}
 use Rattle.gx_phases.specs.States.{State, slots_of}
-use Rattle.gx_engine.specs.declared.losers.Loser.{Loser}
 use Rattle.gx_engine.specs.declared.work.Work.{Work}
 use Rattle.gx_engine.specs.declared.work.Work.TheVariants.{Rests, Looks, Descends, Seeks}
-use Rattle.gx_engine.specs.Noted.{AreNoted, touch_by}
+use Rattle.gx_engine.specs.Noted.{AreNoted}
 
--- a transaction's note, as a touch of the log
-abbrev pub touch_of : {B : Type 0} → Loser B → Touch (Entry B)
-touch_of x = touch_by x.transaction x.note
+-- what undoing a touched entry needs
+abbrev pub note_in : {B : Type 0} → Touch (Entry B) → Note B
+note_in x = record { entry = x.entry; before = x.before; leaf = x.leaf }
 
 -- one touch comes before another: it is of a lower transaction, which has touched another entry; or it is of a lower entry of the same
 -- transaction
@@ -35,8 +35,8 @@ abbrev pub ComeInOrder : {B : Type 0} → Keys B → List (Touch (Entry B)) → 
 ComeInOrder k [] = Unit {0}
 ComeInOrder k (x ∷ xs) = AllByRecursion (ComesBefore k x) xs × ComeInOrder k xs
 
--- These are what an undamaged log tells of touches: by transaction and then entry, no entry twice, at most 512, of at most eight
--- transactions.
+-- An undamaged log may have these touches: in the order of transaction and then entry, no entry twice, at most 512, of
+-- at most eight transactions.
 pub record AreCutOff {B : Type 0} (k : Keys B) (xs : List (Touch (Entry B))) : Type 0 where
   pub in_order : ComeInOrder k xs
   pub eight : length (numbers_of xs) ≤ SESSIONS
@@ -66,7 +66,7 @@ pub record AreHeld {B : Type 0} (xs : List (Touch (Entry B))) (sessions : State 
   pub transactions : (a : ℕ) → is_session a ≡ true → transaction_of a sessions ≡ slice_index_or (numbers_of xs) (a - 1) 0
   pub noted : AreNoted sessions xs
 
--- All are held where an undamaged log tells them; where it is refused, none does.
+-- All get sessions if an undamaged log may have them; if that is refused, no undamaged log has them.
 abbrev pub HoldsAll : {B : Type 0} → Keys B → List (Touch (Entry B)) → State B (Work B) → Result (Unit {0}) Refusal → Type 0
 HoldsAll k xs new (Ok done) = AreCutOff k xs → AreHeld xs new
 HoldsAll k xs new (Err why) = (why ≡ Damaged) × (AreCutOff k xs → ⊥)

@@ -9,8 +9,8 @@ use Rattle.gx_engine.specs.Calls.{MakesCalls, TellsAs}
 use Rattle.gx_engine.specs.States.{IsOrderly, Parts}
 use Rattle.gx_engine.specs.Setting.{StepComesAs, StepsAs}
 
--- An event with its outcome, as the contract of an engine's step has them, over a class of keys and devices that are seen so. The engine
--- stands in order before and after it.
+-- An event with its outcome, as the contract of an engine's step has them, over a class of keys and devices that are
+-- seen so. The engine's invariant holds before and after it.
 pub record Makes {B D : Type 0} (shape : Members B) (traits : Traits B) (state : D → Device)
     (old : Parts B D) (event : Event B) (outcome : Outcome B) (new : Parts B D) : Type 0 where
   pub comes : StepComesAs shape traits state event old new outcome

@@ -1,4 +1,4 @@
--- What a session's moves come to, and what its call has left.
+-- The outcomes of a session's moves, and what its call has left to do.
 use Rattle.std.specs.Prelude.{ℕ, ◌≡◌, ◌<◌, ◌-◌, ◌^◌, Bool, List, [], ◌∷◌}
 use Rattle.gx_machine.specs.declared.call.Call.{Call}
 use Rattle.gx_machine.specs.declared.entry.Entry.{Entry}
@@ -6,7 +6,7 @@ use Rattle.gx_disk.specs.Device.{Device}
 use Rattle.gx_page.specs.Contents.{Contents}
 use Rattle.gx_node.specs.Reading.{Format}
 use Rattle.gx_recovery.specs.Records.{Record}
-use Rattle.gx_events.specs.Events.{Event, Works}
+use Rattle.gx_events.specs.Happenings.{Happening, Works}
 use Rattle.gx_index_laws.specs.Classes.{Class, Page}
 use Rattle.gx_index_laws.specs.Measures.{work_left}
 use Rattle.gx_index_laws.specs.States as index
@@ -25,8 +25,8 @@ use Rattle.gx_engine.specs.States.{Parts}
 abbrev pub calling : {B D : Type 0} → ℕ → Call B → Work B → Parts B D → Parts B D
 calling s call work e = record e { sessions = with_phase_of s (phase.Open call work) e.sessions }
 
--- What a call has left, by how far its session is, where its index has so much left for it: one that hasn't begun in the tree has more
--- than any that has.
+-- What a call has left to do, by its session's phase, if its index has so much left for it: one that hasn't begun in
+-- the tree has more than any that has.
 abbrev pub left_by : {B : Type 0} → Phase B (Work B) → ℕ → ℕ
 left_by (phase.Open call Rests) left = 2 ^ 39
 left_by other left = left
@@ -42,21 +42,21 @@ module _ {B : Type 0} (c : Class B) (r : Reading (Entry B) (Page B)) (f : Format
   Lowers s other old new i j = Unit {0}
 
   -- A session's move led to these events, and lowers what its call has left where it goes on.
-  pub record Moved {D : Type 0} (d e : Device) (s : ℕ) (old new : Parts B D) (outcome : Outcome B) (i : index.State B) (events : List (Event B)) : Type 0 where
+  pub record Moved {D : Type 0} (d e : Device) (s : ℕ) (old new : Parts B D) (outcome : Outcome B) (i : index.State B) (events : List (Happening B)) : Type 0 where
     pub led : Led c r f passes d e new i events
     pub lowers : Lowers s outcome old new i led.index
 
   -- whatever index an engine held
-  abbrev pub Moves : {D : Type 0} → Device → Device → ℕ → Parts B D → Parts B D → Outcome B → List (Event B) → Type 0
+  abbrev pub Moves : {D : Type 0} → Device → Device → ℕ → Parts B D → Parts B D → Outcome B → List (Happening B) → Type 0
   Moves d e s old new outcome events = (bodies : List (List (Record (Entry B) (Page B)))) (i : index.State B) → Holds c r f passes d old bodies i
       → Moved d e s old new outcome i events
 
   -- the same, where it depends on that index which events these were
-  abbrev pub MovesSo : {D : Type 0} → Device → Device → ℕ → Parts B D → Parts B D → Outcome B → (List (Event B) → Type 0) → Type 0
+  abbrev pub MovesSo : {D : Type 0} → Device → Device → ℕ → Parts B D → Parts B D → Outcome B → (List (Happening B) → Type 0) → Type 0
   MovesSo d e s old new outcome AreSo = (bodies : List (List (Record (Entry B) (Page B)))) (i : index.State B) → Holds c r f passes d old bodies i
-      → (events : List (Event B)) × AreSo events × Moved d e s old new outcome i events
+      → (events : List (Happening B)) × AreSo events × Moved d e s old new outcome i events
 
-  -- whatever index an engine held, a move goes on, and the log's state is as it was
+  -- whatever index an engine held, a move goes on, and the log's state is unchanged
   abbrev pub MovesOn : {D : Type 0} → Device → Device → ℕ → Parts B D → Parts B D → Type 0
   MovesOn d e s old new = (bodies : List (List (Record (Entry B) (Page B)))) (i : index.State B) → Holds c r f passes d old bodies i
       → (moved : Moved d e s old new More i (Works ∷ [])) × (moved.led.index.log ≡ i.log)

@@ -1,4 +1,4 @@
--- An event over and over, until there is nothing to do.
+-- An event that is repeated until there is nothing to do.
 use Rattle.std.specs.Prelude.{ℕ, ◌≡◌, ◌<◌, length, Result, Ok, Err, List, [], ◌∷◌}
 use Rattle.gx_geom.specs.declared.refusal.Refusal.{Refusal}
 use Rattle.gx_events.specs.declared.event.Event.{Event}
@@ -41,7 +41,7 @@ module _ {B D : Type 0} (makes : Parts B D → Event B → Outcome B → Parts B
     pub made : AreMade makes old steps new
     pub many : length steps ≡ count
 
-  -- It was made over and over, 2^56 times at most, until its outcome was this.
+  -- It was repeated, 2^56 times at most, until its outcome was this.
   pub record IsRepeated (event : Event B) (old : Parts B D) (last : Outcome B) (new : Parts B D) : Type 0 where
     pub count : ℕ
     pub middle : Parts B D

@@ -5,7 +5,7 @@ use Rattle.gx_disk.specs.Device.{Device}
 use Rattle.gx_disk.specs.Moments.{Leaves}
 use Rattle.gx_page.specs.Contents.{Contents}
 use Rattle.gx_node.specs.Reading.{Format}
-use Rattle.gx_events.specs.Events as laws
+use Rattle.gx_events.specs.Happenings as laws
 use Rattle.gx_recovery.specs.Records.{Record}
 use Rattle.gx_index_laws.specs.Classes.{Class, Page, known_of}
 use Rattle.gx_index_laws.specs.Happening.{AreHappening}
@@ -30,11 +30,11 @@ module _ {B : Type 0} (c : Class B) (r : Reading (Entry B) (Page B)) (f : Format
   StandsForOne [] image = ⊥
   StandsForOne (i ∷ indexes) image = Stands (known_of c) r i.log image ⊎ StandsForOne indexes image
 
-  -- They are events of the index, one after another, and the engine holds what they led to. At each moment of them, whatever a crash may
-  -- leave stands for a kept set of an index that was passed, from the first on.
+  -- They are events of the index, one after another, and the engine holds what they led to. At each moment of them,
+  -- whatever a crash may leave stands for a set that one of the indexes on the way keeps, from the first on.
   pub record Ran {D : Type 0} (d e : Device) (new : Parts B D) (i : index.State B) : Type 0 where
     pub passed : List (index.State B)
-    pub events : List (laws.Event B)
+    pub events : List (laws.Happening B)
     pub bodies : List (List (Record (Entry B) (Page B)))
     pub index : index.State B
     pub happening : AreHappening c i events index

@@ -1,4 +1,4 @@
--- What the moves of an insert or a delete come to whose pair stands.
+-- The outcomes of the moves of an insert or a delete whose pair is in a leaf.
 use Rattle.std.specs.Prelude.{ℕ, ◌≡◌, ◌≢◌, ◌<◌, ◌≤◌, ◌==◌, ◌&&◌, ◌⊎◌, Bool, true, false, not}
 use Rattle.std.specs.Ordering.{is_eq}
 use Rattle.gx_geom.specs.declared.refusal.Refusal.{Refusal}
@@ -50,7 +50,7 @@ abbrev pub write_call : {B : Type 0} → Bool → Entry B → Call B
 write_call true entry = Delete entry
 write_call false entry = Insert entry
 
--- its reply, once it is written; and the refusal, where the pair has the mark already
+-- its reply, once it is written; and its refusal, if the pair has the mark already
 abbrev pub written_reply : {B : Type 0} → Bool → Reply B
 written_reply true = Deleted
 written_reply false = Inserted
@@ -75,29 +75,31 @@ pub record IsNoted {B D : Type 0} (k : Keys B) (s : ℕ) (entry : Entry B) (leaf
   pub most : new.volume.most ≡ old.volume.most
 
 module _ {B : Type 0} (f : Format B) (IsKey : B → Type 0) (k : Keys B) where
-  -- An entry's pair was sought in a leaf of the tree that is shown: it stands in this slot with this mark; or it isn't there, and that is
-  -- the leaf to the right.
+  -- An entry's pair was sought in a leaf of the tree that is shown: it is in this slot with this mark; or it isn't in
+  -- the leaf, and that is the leaf to the right.
   pub record IsSought {D : Type 0} (d : Device) (v : Volume D) (entry : Entry B) (leaf : ℕ) (sought : Sought) : Type 0 where
     pub wants : Pair B → Bool
     pub wanted : (x : Pair B) → IsKey x.key → wants x ≡ ((x.row == entry.row) && is_eq (k.cmp x.key entry.key))
     pub seeks : tree.Seeks wants ((tree_of (store_of f d.seen v.shelf)).node leaf) sought
 
-  -- It wasn't sought: pages were refused, or the page is no leaf that is taken.
+  -- It wasn't sought: pages were refused, or the page is no leaf in use.
   pub record IsUnsought {D : Type 0} (passes : ℕ → Contents → Bool) (d e : Device) (v w : Volume D) (leaf : ℕ) (fault : StepFault StoreFault) : Type 0 where
     pub why : IsWhy (faults.IsWhy passes d e (bringing v) w.shelf) fault
     pub damaged : fault ≡ step.Damaged → Used (tree_of (store_of f e.seen w.shelf)) leaf → ((tree_of (store_of f e.seen w.shelf)).node leaf).level ≢ 0
 
--- What such a move comes to, of a class whose keys are spelled in so many bytes.
+-- The outcome of such a move, for a class whose keys are spelled in so many bytes.
 module _ {B : Type 0} (f : Format B) (IsKey : B → Type 0) (k : Keys B) (key : ℕ) where
-  -- Another event has to come first: a checkpoint, since one is due, and the pair stands in the leaf with the other mark; or what makes
-  -- room in the log, for the record of a mark that is set, by the leaf's bit, where none is due, or among the frames. No page got a change.
+  -- Another event has to come first: a checkpoint, since one is due, and the pair is in the leaf with the other mark;
+  -- or, if none is due, an event that makes room in the log for the record of a mark, whose size depends on the leaf's
+  -- bit; or one that frees a frame. No page changed.
   abbrev pub IsPutOff : {D : Type 0} → (ℕ → Contents → Bool) → Device → Device → Entry B → ℕ → Bool → Parts B D → Parts B D → Need → Type 0
   IsPutOff passes d e entry leaf marked old new n =
       ((n ≡ need.Checkpoint) × (is_due old ≡ true) × StampsStay old.volume.shelf new.volume.shelf × ((slot : ℕ) × IsSought f IsKey k e new.volume entry leaf (Here slot (not marked))))
       ⊎ ((size : ℕ) × ((size ≡ 0) ⊎ (size ≡ mark_room (is_imaged old.volume.imaged leaf) key)) × (size ≤ SPLIT_RECORD) × ((help : IsHelp passes d e (runs old.checkpoint) (begun old.volume size) new.volume.shelf n) × IsEarly help.fault (is_due old)))
 
-  -- The pair is sought further to the right, nothing is logged, and no page is taken; or its mark was set, and the write is noted; or it has the mark
-  -- already, and nothing is logged; or the engine has failed; or another event has to come first, and the call is at what it was.
+  -- The pair is sought further to the right, nothing is logged, and no page is taken; or its mark was set, and the
+  -- write is noted; or it has the mark already, and nothing is logged; or the engine has failed; or another event has
+  -- to come first, and the call's state is unchanged.
   abbrev pub SeekComes : {D : Type 0} → (ℕ → Contents → Bool) → Device → Device → ℕ → Entry B → ℕ → Bool → Parts B D → Parts B D → Outcome B → Type 0
   SeekComes passes d e s entry leaf marked old new More =
       (next : ℕ) × (new ≡ calling s (write_call marked entry) (Seeks next) (brought old new)) × (IsSteady d old.volume.shelf.frames → new.volume.shelf.used ≡ old.volume.shelf.used)

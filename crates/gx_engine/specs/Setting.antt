@@ -19,7 +19,7 @@ use Rattle.gx_tree.specs.declared.descent.Descended.{Descended}
 use Rattle.gx_tree.specs.declared.seek.Sought.{Sought}
 use Rattle.gx_tree.specs.declared.split.Split.{Split}
 use Rattle.gx_tree.specs.declared.split_root.RootSplit.{RootSplit}
-use Rattle.gx_events.specs.Events as laws
+use Rattle.gx_events.specs.Happenings as laws
 use Rattle.gx_recovery.specs.Known.{Known, Limits}
 use Rattle.gx_index_laws.specs.Classes.{Class, Page}
 use Rattle.gx_durable.specs.Spelled.{Reading}
@@ -50,7 +50,7 @@ use Rattle.gx_engine.specs.Sweeping.{BringComes, SweepComes, SweepsPage, is_held
 use Rattle.gx_engine.specs.Undoing.{RestoreComes, Seeking, UndoComes}
 use Rattle.gx_engine.specs.Writes.{IsFull}
 
--- how far a session is
+-- a session's phase
 abbrev pub phase_in : {B D : Type 0} → ℕ → Parts B D → Phase B (Work B)
 phase_in s e = phase_at (s - 1) e.sessions.phases
 
@@ -60,7 +60,7 @@ abbrev pub Between : {B D : Type 0} {R : Type 1} → (D → Device) → (Device 
 Between state relates old new = relates (state old.volume.shelf.disk) (state new.volume.shelf.disk) old new
 
 module _ {C B D : Type 0} (class : Ghosts C B) (state : D → Device) where
-  -- what bringing a page came to, and bringing one to lend it; the contents are those of a page that is lent
+  -- the outcome of bringing a page, and of bringing one to lend it; the contents are those of a page that is lent
   abbrev pub BringComesAs : {A : Type 0} → Parts B D → Parts B D → Result A (Outcome B) → Type 0
   BringComesAs old new result =
       BringComes (is_node (format_of class)) (state old.volume.shelf.disk) (state new.volume.shelf.disk) old new result
@@ -74,7 +74,7 @@ module _ {C B D : Type 0} (class : Ghosts C B) (state : D → Device) where
   IsLentAs page e contents =
       StandsAs (format_of class) (is_node (format_of class)) (state e.volume.shelf.disk) page e contents
 
-  -- what a look that read no page came to, and a search's move
+  -- the outcome of a look that read no page, and of a search's move
   abbrev pub StopComesAs : ℕ → Parts B D → Parts B D → Outcome B → Type 0
   StopComesAs s old new outcome =
       StopComes (is_node (format_of class)) (state old.volume.shelf.disk) (state new.volume.shelf.disk) s old new
@@ -134,25 +134,25 @@ module _ {B D : Type 0} (shape : Members B) (traits : Traits B)
   at e = on e.volume
 
   -- whatever index of the class an engine held: it holds what these events led to, or events of this kind
-  abbrev pub LeadsAs : Parts B D → Parts B D → List (laws.Event B) → Type 0
+  abbrev pub LeadsAs : Parts B D → Parts B D → List (laws.Happening B) → Type 0
   LeadsAs old new events = (l : Limits) → Leads (class l) reading form passes (at old) (at new) old new events
 
-  abbrev pub LeadsSoAs : Parts B D → Parts B D → (List (laws.Event B) → Type 0) → Type 0
+  abbrev pub LeadsSoAs : Parts B D → Parts B D → (List (laws.Happening B) → Type 0) → Type 0
   LeadsSoAs old new AreSo = (l : Limits) → LeadsSo (class l) reading form passes (at old) (at new) old new AreSo
 
   -- the same of events that leave each session's call as much to do
-  abbrev pub SparesAs : Parts B D → Parts B D → List (laws.Event B) → Type 0
+  abbrev pub SparesAs : Parts B D → Parts B D → List (laws.Happening B) → Type 0
   SparesAs old new events = (l : Limits) → Spares (class l) reading form passes (at old) (at new) old new events
 
-  abbrev pub SparesSoAs : Parts B D → Parts B D → (List (laws.Event B) → Type 0) → Type 0
+  abbrev pub SparesSoAs : Parts B D → Parts B D → (List (laws.Happening B) → Type 0) → Type 0
   SparesSoAs old new AreSo = (l : Limits) → SparesSo (class l) reading form passes (at old) (at new) old new AreSo
 
   -- the same of a session's move; of one that goes on; and of a look that is at hand
-  abbrev pub MovesAs : ℕ → Parts B D → Parts B D → Outcome B → List (laws.Event B) → Type 0
+  abbrev pub MovesAs : ℕ → Parts B D → Parts B D → Outcome B → List (laws.Happening B) → Type 0
   MovesAs s old new outcome events =
       (l : Limits) → Moves (class l) reading form passes (at old) (at new) s old new outcome events
 
-  abbrev pub MovesSoAs : ℕ → Parts B D → Parts B D → Outcome B → (List (laws.Event B) → Type 0) → Type 0
+  abbrev pub MovesSoAs : ℕ → Parts B D → Parts B D → Outcome B → (List (laws.Happening B) → Type 0) → Type 0
   MovesSoAs s old new outcome AreSo =
       (l : Limits) → MovesSo (class l) reading form passes (at old) (at new) s old new outcome AreSo
 
@@ -171,7 +171,7 @@ module _ {B D : Type 0} (shape : Members B) (traits : Traits B)
   abbrev pub HoldsFromAs : Limits → D → Start B → Parts B D → Type 0
   HoldsFromAs l disk start e = HoldsFrom (class l) reading form passes (state disk) start e
 
-  -- what comes of a move of an open call, of a move, and of an event, whichever it is
+  -- the outcome of a move of an open call, of a move, and of an event, whichever it is
   abbrev pub CallMovesAs : ℕ → Parts B D → Parts B D → Call B → Outcome B → Type 0
   CallMovesAs s old new call outcome =
       CallMoves keys known reading form passes traits.is_key traits.spelling traits.KEY (at old) (at new) s old new call
@@ -187,7 +187,7 @@ module _ {B D : Type 0} (shape : Members B) (traits : Traits B)
       StepComes keys known reading form passes traits.is_key traits.spelling traits.KEY (at old) (at new) event old new
       outcome
 
-  -- what comes of the sweep of a page in use, and of any
+  -- the outcome of the sweep of a page in use, and of any
   abbrev pub SweepsPageAs : ℕ → Parts B D → Parts B D → Outcome B → Type 0
   SweepsPageAs page old new outcome = SweepsPage keys known reading form passes page (at old) (at new) old new outcome
 
@@ -195,7 +195,7 @@ module _ {B D : Type 0} (shape : Members B) (traits : Traits B)
   SweepComesAs page old new failed outcome =
       SweepComes keys known reading form passes page (at old) (at new) old new failed outcome
 
-  -- what comes of the seek of a note's pair, of the move that seeks it, and of an undo's move
+  -- the outcome of the seek of a note's pair, of the move that seeks it, and of an undo's move
   abbrev pub SeekingAs : Volume D → Volume D → ℕ → Note B → ℕ → Result Sought (StepFault StoreFault) → Type 0
   SeekingAs v w transaction note leaf result =
       Seeking known reading form passes traits.is_key keys traits.spelling traits.KEY (on v) (on w) v w transaction note
@@ -211,8 +211,8 @@ module _ {B D : Type 0} (shape : Members B) (traits : Traits B)
       UndoComes known reading form passes traits.is_key keys traits.spelling traits.KEY (at old) (at new) s old new
       outcome
 
-  -- what the steps of a descent tell: of a step down, of a pair that is added, of a leaf's sweep, and of a node's
-  -- split and the root's
+  -- what the contracts of a descent's steps say: a step down, an added pair, a leaf's sweep, and the splits of a node
+  -- and of the root
   abbrev pub SteppingAs : Volume D → Volume D → TraversalItem → B → Result (Descended B) (StepFault StoreFault) → Type 0
   SteppingAs v w item coming result =
       Stepping known reading form passes traits.cost traits.joined traits.spelling traits.KEY (on v) (on w) v w item coming

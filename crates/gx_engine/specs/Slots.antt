@@ -1,4 +1,5 @@
--- What a sweep takes of a leaf: the slots of its marked pairs that no session claims; and the record of that, and its room.
+-- What a sweep removes from a leaf: the slots of its marked pairs that no session claims; and the record of that, and
+-- its room.
 use Rattle.std.specs.Prelude.{ℕ, ◌≡◌, Bool, List, length}
 use Rattle.gx_machine.specs.declared.entry.Entry.{Entry}
 use Rattle.gx_machine.specs.Keys.{Keys}
@@ -24,7 +25,7 @@ node_shown f d page e = (tree_of (store_of f d.seen e.volume.shelf)).node page
 abbrev pub is_held : {B D : Type 0} → Keys B → Parts B D → Entry B → Bool
 is_held k e entry = claimed_in k entry e.sessions.table
 
--- these are the slots of a leaf's marked pairs that nobody claims
+-- these are the slots of a leaf's marked pairs that no session claims
 abbrev pub AreTaken : {B D : Type 0} → (Entry B → Bool) → Format B → Device → Volume D → ℕ → List ℕ → Type 0
 AreTaken claimed f d v page slots = IsSteady d v.shelf.frames → slots ≡ swept_slots claimed ((tree_of (store_of f d.seen v.shelf)).node page)
 

@@ -1,4 +1,4 @@
--- What an engine is that starts, and that it holds the index that is opened over what was found on its device.
+-- The state of an engine that starts; and that it holds the index that is opened over what was found on its device.
 use Rattle.std.specs.Prelude.{ℕ, ◌≡◌, ◌⊎◌, ◌-◌, ◌≤◌, Bool, true, false, None, List, [], map, length, replicate}
 use Rattle.gx_geom.specs.declared.refusal.Refusal.{Refusal}
 use Rattle.gx_geom.specs.declared.refusal.Refusal.TheVariants.{Damaged, Memory}
@@ -28,10 +28,10 @@ use Rattle.gx_engine.specs.declared.checkpoint.Checkpoint.TheVariants.{Running}
 use Rattle.gx_engine.specs.declared.start.Start.{Start}
 use Rattle.gx_engine.specs.declared.work.Work.{Work}
 use Rattle.gx_engine.specs.Holds.{Holds}
-use Rattle.gx_engine.specs.Losing.{AllRest, AreCutOff, AreHeld, OnlyHeld, touch_of}
+use Rattle.gx_engine.specs.Losing.{AllRest, AreCutOff, AreHeld, OnlyHeld}
 use Rattle.gx_engine.specs.States.{Parts}
 
--- frames that no page is in, and that know of batches up to this one
+-- frames without pages, for which batches up to this one are gated
 pub record AreFresh (frames batch : ℕ) (s : Frames) : Type 0 where
   pub count : length s.marks ≡ frames
   pub none : (page : ℕ) → kept s page ≡ None
@@ -42,17 +42,17 @@ pub record AreFresh (frames batch : ℕ) (s : Frames) : Type 0 where
 abbrev pub rested : {B : Type 0} → Start B → Log
 rested start = starting start.extent start.bodies
 
--- what was cut off, as touches of a log
+-- what the transactions that were cut off have touched
 abbrev pub cut_off : {B : Type 0} → Start B → List (Touch (Entry B))
-cut_off start = map touch_of start.losers.items
+cut_off start = start.losers.items
 
--- Sessions that undo what was cut off, where that is what a log tells; the others are free.
+-- Sessions that undo the transactions that were cut off, if a log may have their touches; the others are free.
 pub record TakenUp {B : Type 0} (k : Keys B) (start : Start B) (sessions : State B (Work B)) : Type 0 where
   pub held : AreCutOff k (cut_off start) → AreHeld (cut_off start) sessions
   pub rests : AllRest sessions.phases
   pub only : OnlyHeld (fresh_state (Work B) start.commits start.commits start.next) sessions
 
--- memory lacks, or what was cut off isn't what a log tells
+-- memory was refused, or no log has such touches
 abbrev pub WhyNot : {B : Type 0} → Keys B → Start B → Refusal → Type 0
 WhyNot k start why = (why ≡ Memory) ⊎ ((why ≡ Damaged) × (AreCutOff k (cut_off start) → ⊥))
 
@@ -74,8 +74,9 @@ module _ {B : Type 0} (c : Class B) (r : Reading (Entry B) (Page B)) (f : Format
   abbrev pub k : Known (Entry B) (Page B)
   k = known_of c
 
-  -- This stands on an honest device: a log that was found there, of which each later gate is closed, over pages that are as it leaves them,
-  -- are good for it, and can be read; and the numbers and what was cut off are what the log tells.
+  -- An honest device has this: a log that was found there, of which each later gate is closed, over pages that are as
+  -- it leaves them, are good for it, and can be read; and the numbers and the transactions that were cut off are those
+  -- of the log.
   pub record StandsOn (d : Device) (start : Start B) (bodies : List (List (Record (Entry B) (Page B)))) : Type 0 where
     pub honest : d.honest ≡ true
     pub found : IsFoundGood k r d.sectors d.seen d.pending bodies
@@ -92,7 +93,7 @@ module _ {B : Type 0} (c : Class B) (r : Reading (Entry B) (Page B)) (f : Format
     pub next : (analysis k (records_of bodies)).next ≤ start.next
     pub losers : cut_off start ≡ (analysis k (records_of bodies)).touched
 
-  -- where that is so, an engine holds the index that is opened over it
+  -- then an engine holds the index that is opened over it
   abbrev pub HoldsFrom : {D : Type 0} → Device → Start B → Parts B D → Type 0
   HoldsFrom d start e = (bodies : List (List (Record (Entry B) (Page B)))) → StandsOn d start bodies
       → Holds c r f passes d e bodies (found_state c start.next (area_of r c.pages d.seen) (records_of bodies))

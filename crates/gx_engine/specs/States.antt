@@ -12,8 +12,8 @@ use Rattle.gx_engine.specs.declared.checkpoint.Checkpoint.{Checkpoint}
 use Rattle.gx_engine.specs.declared.checkpoint.Checkpoint.TheVariants.{Off, Running, Turning}
 use Rattle.gx_engine.specs.declared.work.Work.{Work}
 
--- The pages with their log; the sessions, with what their calls are at; the number of the last commit in the batch in flight; and
--- how far a checkpoint is.
+-- The pages with their log; the sessions, with the states of their calls; the number of the last commit in the batch in
+-- flight; and the stage of a checkpoint.
 pub record Parts (B D : Type 0) : Type 0 where
   pub volume : Volume D
   pub sessions : State B (Work B)
@@ -36,8 +36,9 @@ StandsIn Off v = v.log.turn ≡ Closed
 StandsIn Running v = v.log.turn ≡ Closed
 StandsIn Turning v = ReadyToTurn v
 
--- What an engine keeps on any device: its log stands as the checkpoint has it; the last commit in flight is sealed, and none before one
--- that is durable; a node may have four entries; there is room for the keys of one that is split; and there are 16 frames.
+-- An engine's invariant on any device: its log turns only while its checkpoint does; the last commit in flight is
+-- sealed, and not before a durable one; a node may have four entries; the buffer has room for the keys of a node that
+-- is split; and there are 16 frames or more.
 pub record IsInOrder {B D : Type 0} (e : Parts B D) (keys : List B) : Type 0 where
   pub stands : StandsIn e.checkpoint e.volume
   pub durable : e.sessions.durable ≤ e.in_flight
@@ -53,7 +54,7 @@ pub record AreFrames (s : Frames) : Type 0 where
   pub held : length s.held ≤ 4
   pub sound : IsSound s
 
--- So an engine stands, on any device. A session that waits for its commit, waits for one that is sealed.
+-- What callers know of an engine on any device. A session that waits for its commit waits for a sealed one.
 pub record IsOrderly {B D : Type 0} (e : Parts B D) : Type 0 where
   pub stands : StandsIn e.checkpoint e.volume
   pub frames : AreFrames e.volume.shelf.frames

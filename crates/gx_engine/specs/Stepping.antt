@@ -1,10 +1,10 @@
--- One event, whichever it is.
+-- One event of any kind.
 use Rattle.std.specs.Prelude.{ℕ, Bool, true, false, List}
 use Rattle.gx_machine.specs.declared.entry.Entry.{Entry}
 use Rattle.gx_disk.specs.Device.{Device}
 use Rattle.gx_page.specs.Contents.{Contents}
 use Rattle.gx_node.specs.Reading.{Format}
-use Rattle.gx_events.specs.Events as laws
+use Rattle.gx_events.specs.Happenings as laws
 use Rattle.gx_recovery.specs.Records.{Record}
 use Rattle.gx_index_laws.specs.Classes.{Class, Page}
 use Rattle.gx_index_laws.specs.States as index
@@ -31,8 +31,8 @@ has_call (phase.Undoing restored work) = true
 has_call (phase.Waiting number) = true
 
 module _ {B : Type 0} (c : Class B) (r : Reading (Entry B) (Page B)) (f : Format B) (passes : ℕ → Contents → Bool) where
-  -- What a move lowers; a step of the log or of a checkpoint and a page's write leave each session's call as much to do. Of an ask and of a
-  -- sweep nothing is said.
+  -- What an event leaves to do: a move lowers it; a step of the log or of a checkpoint and a page's write leave each
+  -- session's call as much. Of an ask and of a sweep nothing is said.
   abbrev pub LowersBy : {D : Type 0} → Event B → Outcome B → Parts B D → Parts B D → index.State B → index.State B → Type 0
   LowersBy (Ask s call) outcome old new i j = Unit {0}
   LowersBy (Move s) outcome old new i j = Lowers c r f passes s outcome old new i j
@@ -44,7 +44,7 @@ module _ {B : Type 0} (c : Class B) (r : Reading (Entry B) (Page B)) (f : Format
   -- An event with its outcome is these events of the index, the engine holds what they led to, a move that goes on leaves less, and the
   -- flusher's events leave as much.
   pub record Stepped {D : Type 0} (d e : Device) (event : Event B) (old new : Parts B D) (outcome : Outcome B) (i : index.State B) : Type 0 where
-    pub events : List (laws.Event B)
+    pub events : List (laws.Happening B)
     pub are : AreOf (engine_of c i) event outcome events
     pub led : Led c r f passes d e new i events
     pub lowers : LowersBy event outcome old new i led.index

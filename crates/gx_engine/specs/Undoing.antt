@@ -1,4 +1,4 @@
--- What an undo's moves come to.
+-- The outcomes of an undo's moves.
 use Rattle.std.specs.Prelude.{ℕ, ◌≡◌, ◌≢◌, ◌-◌, ◌<◌, ◌⊎◌, ◌&&◌, ◌==◌, Bool, true, false, Option, None, Some, Result, Ok, Err, List, [], ◌∷◌, slice_get}
 use Rattle.std.specs.Ordering.{is_eq}
 use Rattle.gx_geom.specs.declared.refusal.Refusal.TheVariants.{Damaged as DamagedRefusal, Device as DeviceRefusal}
@@ -18,7 +18,7 @@ use Rattle.gx_node.specs.Owner.{IsWhy}
 use Rattle.gx_node.specs.Store.{tree_of}
 use Rattle.gx_tree.specs.Writing.{SetsMark}
 use Rattle.gx_recovery.specs.Known.{Known, Limits}
-use Rattle.gx_events.specs.Events.{Event, EndsUndo, RefusesCall, Undoes, Works}
+use Rattle.gx_events.specs.Happenings.{Happening, EndsUndo, RefusesCall, Undoes, Works}
 use Rattle.gx_index_laws.specs.Classes.{Page}
 use Rattle.gx_durable.specs.Spelled.{Reading}
 use Rattle.gx_events.specs.declared.outcome.Need.TheVariants as need
@@ -103,7 +103,7 @@ module _ {B : Type 0} (known : Limits → Known (Entry B) (Page B)) (r : Reading
     pub sets : IsSteady d v.shelf.frames → SetsMark wants (store_of f d.seen v.shelf) (store_of f e.seen w.shelf) leaf n.before sought
     pub own : OwnWhereSet e.seen w.shelf leaf sought
 
-  -- a page is no leaf that is taken, as it stands
+  -- a page is not a leaf in use now
   abbrev pub IsNoLeaf : {D : Type 0} → Device → Volume D → ℕ → Type 0
   IsNoLeaf d v leaf = Used (tree_of (store_of f d.seen v.shelf)) leaf → ((tree_of (store_of f d.seen v.shelf)).node leaf).level ≢ 0
 
@@ -117,8 +117,9 @@ module _ {B : Type 0} (known : Limits → Known (Entry B) (Page B)) (r : Reading
   Seeking d e v w transaction n leaf (Ok sought) = PairIsSought d e v w transaction n leaf sought
   Seeking d e v w transaction n leaf (Err fault) = IsNotSought d e v w leaf fault
 
-  -- The next note's pair has its mark from before, or is sought further to the right; or another event has to come first; or the
-  -- device failed, or lies, or the page is no leaf that is taken, and the engine has failed. All else is as it was.
+  -- The next note's pair has its mark from before, or is sought further to the right; or another event has to come
+  -- first; or the device failed, or isn't honest, or the page is no leaf in use, and the engine has failed. All else is
+  -- unchanged.
   abbrev pub RestoreComes : {D : Type 0} → Device → Device → ℕ → ℕ → Note B → ℕ → Parts B D → Parts B D → Outcome B → Type 0
   RestoreComes d e s restored n leaf old new More =
       (sought : Sought) × PairIsSought d e old.volume new.volume (transaction_of s old.sessions) n leaf sought
@@ -147,7 +148,7 @@ module _ {B : Type 0} (known : Limits → Known (Entry B) (Page B)) (r : Reading
   UndoComes d e s old new outcome = UndoBy (is_due old) (next_of s old.sessions) d e s old new outcome
 
 -- the index's event that it is: the next note's entry is restored, or its pair is sought further to the right; the undo ends
-abbrev pub AreUndoing : {B : Type 0} → ℕ → State B (Work B) → Outcome B → List (Event B) → Type 0
+abbrev pub AreUndoing : {B : Type 0} → ℕ → State B (Work B) → Outcome B → List (Happening B) → Type 0
 AreUndoing {B} s sessions More events = (events ≡ Works ∷ []) ⊎ ((n : Note B) × IsNext s sessions n × (events ≡ Undoes s n.entry ∷ []))
 AreUndoing s sessions (Replied Aborted) events = events ≡ EndsUndo s ∷ []
 AreUndoing s sessions (Replied (RefusedCall DeviceRefusal)) events = events ≡ RefusesCall s DeviceRefusal ∷ []

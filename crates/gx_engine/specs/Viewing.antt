@@ -18,13 +18,13 @@ use Rattle.gx_engine.specs.Setting.{BringPageComesAs, IsLentAs, LeadsAs}
 use Rattle.gx_engine.specs.States.{IsOrderly, Parts}
 use Rattle.gx_engine.specs.Sweeping.{bring_events}
 
--- what bringing the page came to
+-- the outcome of bringing the page
 abbrev pub brought_as : {B : Type 0} → Result (Bor Contents) NotLent → Result (Unit {0}) (Outcome B)
 brought_as (Ok page) = Ok tt
 brought_as (Err (not_lent.Help named)) = Err (Help named)
 brought_as (Err (not_lent.Refused why)) = Err (Refused why)
 
--- a page was brought, with this result, and is lent as it stands
+-- a page was brought, with this result, and is lent with its present contents
 pub record Views {B D : Type 0} (shape : Members B) (traits : Traits B) (state : D → Device) (page : ℕ) (old new : Parts B D)
     (result : Result (Bor Contents) NotLent) : Type 0 where
   pub comes : BringPageComesAs (own traits) state old new old.sessions.failed (brought_as result)

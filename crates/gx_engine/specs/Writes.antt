@@ -1,4 +1,4 @@
--- What a move of an insert or a delete comes to.
+-- The outcome of a move of an insert or a delete.
 use Rattle.std.specs.Prelude.{ℕ, ◌≡◌, ◌≢◌, ◌≤◌, ◌<◌, ◌+◌, ◌-◌, ◌==◌, ◌⊎◌, Bool, true, false, if◌then◌else◌, List, [], ◌∷◌, length}
 use Rattle.gx_class.specs.declared.class.KeyClass.{Ghosts}
 use Rattle.gx_geom.specs.declared.refusal.Refusal.TheVariants.{Absent, Damaged as DamagedRefusal, Device as DeviceRefusal, Memory, PagesFull, Present}
@@ -13,7 +13,7 @@ use Rattle.gx_node.specs.Reading.{Format, format_of, is_node}
 use Rattle.gx_node.specs.Store.{tree_of}
 use Rattle.gx_node.specs.Reach.{TraversalItem}
 use Rattle.gx_node.specs.Trees.{size}
-use Rattle.gx_events.specs.Events.{Event, Closes, Deletes, FindsAbsent, FindsPresent, Inserts, RefusesCall, Works}
+use Rattle.gx_events.specs.Happenings.{Happening, Closes, Deletes, FindsAbsent, FindsPresent, Inserts, RefusesCall, Works}
 use Rattle.gx_events.specs.declared.outcome.Need.{Need}
 use Rattle.gx_events.specs.declared.outcome.Need.TheVariants as need
 use Rattle.gx_events.specs.declared.outcome.Outcome.{Outcome}
@@ -38,19 +38,19 @@ use Rattle.gx_engine.specs.Refusals.{IsEarly, IsHelp, StampsStay}
 use Rattle.gx_engine.specs.Slots.{IsSweepRoom, is_held, node_shown}
 use Rattle.gx_engine.specs.States.{Parts, is_due, runs}
 
--- pages may have been brought: the log and all else is as it was
+-- pages may have been brought: the log and all else is unchanged
 abbrev pub brought : {B D : Type 0} → Parts B D → Parts B D → Parts B D
 brought old new = record old { volume = record old.volume { shelf = new.volume.shelf } }
 
--- only pages were brought, and only how far sessions are may have changed, and whether the engine has failed
+-- only pages were brought, and only the sessions' phases may have changed, and whether the engine has failed
 abbrev pub only_read : {B D : Type 0} → Parts B D → Parts B D → Parts B D
 only_read old new = record (brought old new) { sessions = record old.sessions { phases = new.sessions.phases; failed = new.sessions.failed } }
 
 abbrev pub OnlyReads : {B D : Type 0} → Parts B D → Parts B D → Type 0
 OnlyReads old new = new ≡ only_read old new
 
--- Another event has to come first, for a record of one of these sizes: a checkpoint, since one is due; or what makes room for it in the
--- log, where none is due, or among the frames. No page got a change.
+-- Another event has to come first, for a record of one of these sizes: a checkpoint, since one is due; or, if none is
+-- due, an event that makes room for it in the log, or frees a frame. No page changed.
 abbrev pub IsDelayed : {B D : Type 0} → (ℕ → Type 0) → (ℕ → Contents → Bool) → Device → Device → Parts B D → Parts B D → Need → Type 0
 IsDelayed Asks passes d e old new n =
     (size : ℕ) × Asks size × (size ≤ SPLIT_RECORD)
@@ -129,7 +129,7 @@ pub record LacksPages {B D : Type 0} (k : Keys B) (f : Format B) (d : Device) (s
   pub splits : IsToSplit k f d s call e
   pub few : LeftFew d e splits.item.page
 
--- What can be swept of the leaf on a page is gone, and the call is at what it was.
+-- The leaf on a page was swept, and the call's state is unchanged.
 pub record IsOnlySwept {B D : Type 0} (k : Keys B) (f : Format B) (d e : Device) (page : ℕ) (old new : Parts B D) : Type 0 where
   pub only : new ≡ record old { volume = new.volume }
   pub swept : IsSteady d old.volume.shelf.frames → Swept (is_held k old) (store_of f d.seen old.volume.shelf) (store_of f e.seen new.volume.shelf) page true
@@ -148,10 +148,11 @@ pub record MakesRoom {B D : Type 0} (k : Keys B) (f : Format B) (d : Device) (s 
   pub sweeps : (parent : ℕ) (item : TraversalItem) → phase_at (s - 1) old.sessions.phases ≡ phase.Open call (Descends parent item)
       → IsToSweep k f d old item → IsOnlySwept k f d e item.page old new
 
--- What a write's move comes to, by the sizes of records for which it may ask room, by what is so where it is refused for want of pages, and
--- by what it did where it goes on. The call goes on with other work; or its pair is written and noted; or an insert's stands live, or a delete's nowhere live, and the
--- call is closed; or it is closed for want of memory in its look, or of pages for a split; or the engine has failed; or another event
--- has to come first, and the call is at what it was.
+-- The outcome of a write's move, by the sizes of records for which it may ask room, by what holds if it is refused
+-- because too few pages are left, and by what it did if it goes on. The call goes on with other work; or its pair is
+-- written and noted; or an insert's pair is live already, or a delete's pair isn't, and the call is closed; or it is
+-- closed because memory for its look is refused, or too few pages are left for a split; or the engine has failed; or
+-- another event has to come first, and the call's state is unchanged.
 abbrev pub WriteBy : {B D : Type 0} → (ℕ → Type 0) → Type 0 → (Device → Parts B D → Type 0) → Keys B → (ℕ → Contents → Bool) → Device → Device → ℕ → Call B → Parts B D → Parts B D → Outcome B → Type 0
 WriteBy {B} Asks Lacks Goes k passes d e s call old new More =
     (work : Work B) × (new ≡ calling s call work (record old { volume = new.volume })) × (new.volume.most ≡ old.volume.most) × Goes e new
@@ -207,7 +208,7 @@ module _ {C B D : Type 0} (shape : Members B) (class : Ghosts C B) (state : D �
       ⊎ HasNoneToSweep (keys_of shape) (format_of class) (state old.volume.shelf.disk) old page) old new outcome
 
 -- the index's event that it is
-abbrev pub write_events : {B : Type 0} → ℕ → Call B → Outcome B → List (Event B)
+abbrev pub write_events : {B : Type 0} → ℕ → Call B → Outcome B → List (Happening B)
 write_events s call More = Works ∷ []
 write_events s (Insert entry) (Replied Inserted) = Inserts s entry ∷ []
 write_events s (Delete entry) (Replied Deleted) = Deletes s entry ∷ []
@@ -218,7 +219,8 @@ write_events s call (Replied (RefusedCall PagesFull)) = Closes s call PagesFull 
 write_events s call (Replied (RefusedCall DeviceRefusal)) = RefusesCall s DeviceRefusal ∷ []
 write_events s call other = []
 
--- The index's events that a move is. Where the move that reads a delete's last page finds its pair nowhere, its look ends first.
-abbrev pub AreWriting : {B : Type 0} → ℕ → Call B → Outcome B → List (Event B) → Type 0
+-- The index's events that a move is. If the move that reads a delete's last page finds its pair in no leaf, its look
+-- ends first.
+abbrev pub AreWriting : {B : Type 0} → ℕ → Call B → Outcome B → List (Happening B) → Type 0
 AreWriting s (Delete entry) (Replied (RefusedCall Absent)) events = IsJust (FindsAbsent s entry) events
 AreWriting s call other events = events ≡ write_events s call other

@@ -12,7 +12,7 @@ use gx_disk::SectorDisk;
 use gx_events::Outcome;
 use gx_machine::{Asked, Call};
 
-/// What an ask is given, as an event's outcome.
+/// An ask's reply as an event's outcome.
 fn outcome_of<B>(given: Asked<B>) -> Outcome<B>
     ensures { result ≡ outcome_of given }
 {
@@ -23,11 +23,11 @@ fn outcome_of<B>(given: Asked<B>) -> Outcome<B>
 }
 
 impl<D: SectorDisk, K: ReadKeys> Engine<D, K> {
-    /// A session, from 1 to 8, asks a call. It makes no call of the device, reads no page and takes no memory.
+    /// Asks a call for a session from 1 to 8. It makes no call of the device, reads no page and takes no memory.
     ///
-    /// `Replied` where the call is refused, and for a Begin; else the call is open, which is `More`. Refusals, the
-    /// first that holds: `Failed`, `BadSession`, `CallOpen`, `InTransaction` or `NoTransaction`, `HistoryFull`,
-    /// `Busy`, `ClaimsFull` or `PredicatesFull`, as `Sessions::ask` says. A refused call changes nothing.
+    /// Returns `Replied` if the call is refused, and for a Begin; else `More`, and the call is open. Refused for the
+    /// first that holds: `Failed`, `BadSession`, `CallOpen`, `InTransaction` or `NoTransaction`, `HistoryFull`, `Busy`,
+    /// `ClaimsFull` or `PredicatesFull`, as `Sessions::ask` says. A refused call changes nothing.
     pub(crate) fn ask(&mut self, session: u8, call: Call<K::Key>) -> Outcome<K::Key>
         ensures comes { AskComes (keys_of K.Key.Shape) session call self.old result self.new }
         ensures leads { LeadsAs K.Key.Shape K.ReadKeys D.state self.old self.new

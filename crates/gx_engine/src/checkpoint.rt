@@ -1,4 +1,4 @@
-//! How far a checkpoint is, and what waits for it.
+//! The stages of a checkpoint, and what waits for it.
 ghost use Rattle.std.specs.Prelude.{◌≡◌, true};
 ghost use Rattle.gx_engine.specs.States.{is_due, runs};
 
@@ -7,14 +7,14 @@ use gx_class::ReadKeys;
 use gx_disk::SectorDisk;
 use gx_index_laws::CHECKPOINT_AT;
 
-/// How far a checkpoint is.
+/// The stages of a checkpoint.
 #[derive(Clone, Copy, Debug, PartialEq, Eq, Drop)]
 pub enum Checkpoint {
-    /// None runs.
+    /// No checkpoint runs.
     Off,
-    /// One runs: what is logged is gated, and the dirty pages are written.
+    /// A checkpoint runs: it gates what is logged, and writes the dirty pages.
     Running,
-    /// All is written and settled, and the log turns to the other extent.
+    /// All pages are written and synced, and the log turns to the other extent.
     Turning,
 }
 

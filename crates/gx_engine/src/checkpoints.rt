@@ -1,5 +1,5 @@
-//! A checkpoint's events: what is logged is gated, the dirty pages are written and settled, and the log turns to the
-//! other extent.
+//! A checkpoint's events: it gates what is logged, writes and syncs the dirty pages, and turns the log to the other
+//! extent.
 ghost use Rattle.std.specs.Prelude.{◌≡◌, nat_le, false};
 ghost use Rattle.gx_events.specs.Steps.{IsSync};
 ghost use Rattle.gx_pool.specs.State.{NoneDirty};
@@ -20,7 +20,7 @@ use gx_geom::Refusal;
 use gx_glog::Turn;
 use gx_index_laws::CHECKPOINT_AT;
 
-/// How far a checkpoint is after this call of its turn: over after the last one.
+/// The stage of a checkpoint after this call of its turn: it is over after the last one.
 fn after_call(call: Turn) -> Checkpoint
     ensures { result ≡ after_call call }
 {
@@ -32,7 +32,7 @@ fn after_call(call: Turn) -> Checkpoint
 }
 
 impl<D: SectorDisk, K: ReadKeys> Engine<D, K> {
-    // Makes the log's next call, while a batch is in flight or fills.
+    // Makes the log's next call, if a batch is in flight or fills.
     fn gate_next(&mut self) -> Outcome<K::Key>
         requires works { self.old.sessions.failed ≡ false }
         requires running { self.old.checkpoint ≡ Running }
@@ -48,7 +48,7 @@ impl<D: SectorDisk, K: ReadKeys> Engine<D, K> {
         }
     }
 
-    // Writes the least page that may be written, while one is dirty.
+    // Writes the least page that may be written, if one is dirty.
     fn write_next(&mut self) -> Outcome<K::Key>
         requires works { self.old.sessions.failed ≡ false }
         requires quiet { IsQuiet self.old.volume }
@@ -79,7 +79,7 @@ impl<D: SectorDisk, K: ReadKeys> Engine<D, K> {
         }
     }
 
-    // Settles what was written, and puts the head of the renewed log: the log turns from then on.
+    // Syncs the pages, and puts the head of the renewed log in memory: the log turns from then on.
     fn begin_turn(&mut self) -> Outcome<K::Key>
         requires works { self.old.sessions.failed ≡ false }
         requires running { self.old.checkpoint ≡ Running }
@@ -133,15 +133,16 @@ impl<D: SectorDisk, K: ReadKeys> Engine<D, K> {
         self.run_on()
     }
 
-    /// The next step of a checkpoint, with at most one write or sync of the device. Off, with fewer than 24 places of
-    /// the extent taken: `Nothing`; with 24 or more it is begun, and goes on at once. While it runs: the log's next
-    /// call, until nothing is in flight or fills; then the write of the least page that may be written, until none is
-    /// dirty; then a sync of the pages, after which the head of the renewed log is in memory. Then each of the turn's
-    /// calls, and with the last one the checkpoint is over: `More`.
+    /// Makes the next step of a checkpoint, with at most one write or sync of the device. If none runs: returns
+    /// `Nothing` while fewer than 24 places of the extent are taken; with 24 or more it begins one, and makes its first
+    /// step at once. While one runs, its steps are: the log's next call, until nothing is in flight or fills; then the
+    /// write of the least page that may be written, until none is dirty; then a sync of the pages, after which the head
+    /// of the renewed log is in memory; then each of the turn's calls, with the last of which the checkpoint is over.
+    /// Each returns `More`.
     ///
-    /// Refused with `Failed` by an engine that has failed, with `Device` exactly where the device failed, and with
-    /// `Damaged` where no dirty page may be written or the head has no room, both only over a device that lied; the
-    /// engine has failed then. It takes no memory.
+    /// Refused with `Failed` by an engine that has failed, with `Device` exactly if the device failed, and with
+    /// `Damaged` if no dirty page may be written or the head has no room, both only over a device that isn't honest;
+    /// the engine has failed then. It takes no memory.
     pub fn checkpoint_step(&mut self) -> Outcome<K::Key>
         ensures steps { Between D.state CheckpointSteps self.old self.new self.old.sessions.failed result }
         ensures leads { SparesSoAs K.Key.Shape K.ReadKeys D.state self.old self.new

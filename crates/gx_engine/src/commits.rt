@@ -1,4 +1,4 @@
-//! A commit goes its way: it is sealed, and acknowledged once it is durable.
+//! A commit's moves: it is sealed, and acknowledged once it is durable.
 ghost use Rattle.std.specs.Prelude.{◌≡◌, ◌-◌, ◌+◌, ℕ, true, false};
 ghost use Rattle.gx_machine.specs.Machine.{is_session};
 ghost use Rattle.gx_phases.specs.declared.phase.Phase.TheVariants.{Waiting};
@@ -14,7 +14,7 @@ use gx_disk::SectorDisk;
 use gx_events::{Need, Outcome};
 use gx_machine::Reply;
 
-/// The answer of a commit whose number is durable; another one waits for the log, by whether a checkpoint runs.
+/// The reply to a commit whose number is durable; any other commit waits for the log, or for a checkpoint if one runs.
 fn commit_outcome<B>(running: bool, number: Option<u64>) -> Outcome<B>
     ensures { result ≡ commit_outcome running number }
 {
@@ -25,11 +25,11 @@ fn commit_outcome<B>(running: bool, number: Option<u64>) -> Outcome<B>
 }
 
 impl<D: SectorDisk, K: ReadKeys> Engine<D, K> {
-    /// Seals the commit that a session has asked: its record is appended to the batch that fills, and it gets the
-    /// next number. The session then waits for that to be durable, and what it claimed and watched is free: `More`.
+    /// Seals the commit that a session has asked: appends its record to the batch that fills, and gives it the next
+    /// number. The session then waits until that number is durable; its claims and predicates are free. Returns `More`.
     /// It makes no call of the device and takes no memory.
     ///
-    /// `Help(Checkpoint)` exactly where a checkpoint runs or 24 places of the extent are taken, `Help(Log)` where the
+    /// Returns `Help(Checkpoint)` exactly if a checkpoint runs or 24 places of the extent are taken, `Help(Log)` if the
     /// record doesn't fit the batch that fills; nothing has changed then.
     pub(crate) fn seal(&mut self, session: u8) -> Outcome<K::Key>
         requires session { is_session session ≡ true }
@@ -55,9 +55,9 @@ impl<D: SectorDisk, K: ReadKeys> Engine<D, K> {
         }
     }
 
-    /// Acknowledges a session's commit where its number is durable, and the session is free: `Replied` with
-    /// `Committed` and that number. Else `Help(Log)`, or `Help(Checkpoint)` while a checkpoint runs, and nothing has
-    /// changed. It makes no call of the device and takes no memory.
+    /// Acknowledges a session's commit if its number is durable: returns `Replied` with `Committed` and that number,
+    /// and the session is free. Else returns `Help(Log)`, or `Help(Checkpoint)` while a checkpoint runs, and nothing
+    /// has changed. It makes no call of the device and takes no memory.
     pub(crate) fn acknowledge(&mut self, session: u8) -> Outcome<K::Key>
         requires session { is_session session ≡ true }
         requires works { self.old.sessions.failed ≡ false }

@@ -1,4 +1,4 @@
-//! A session's call, event by event to its end.
+//! Runs a session's call, event by event, to its end.
 ghost use Rattle.std.specs.Prelude.{IsSome, MatchOption};
 ghost use Rattle.gx_recovery.specs.Known.{Limits};
 ghost use Rattle.gx_engine.specs.Driven.{IsDriven, IsGivenUp};
@@ -20,9 +20,9 @@ pub const EVENTS: u64 = 1 << 56;
 /// Makes a session's first event, an ask or a move, and then the events that its driver names, to the end of its
 /// call: its moves, and the steps of the log and of a checkpoint and the writes of pages that help them.
 ///
-/// The reply is the one with which the call ended, also where an event was refused. None where the call hasn't ended
-/// within `EVENTS` events: it stands open then. That never comes over a device that doesn't lie. It takes no memory
-/// but what the events take.
+/// Returns the reply with which the call ended, also if an event was refused. Returns `None` if the call hasn't ended
+/// within `EVENTS` events: it stays open then. That never happens over an honest device. It takes no memory but what
+/// the events take.
 pub fn drive<D: SectorDisk, K: ReadKeys + Probing>(
     engine: &mut Engine<D, K>,
     session: u8,

@@ -25,9 +25,9 @@ pub struct Engine<D: SectorDisk, K: ReadKeys> {
     // the number of the last commit in the batch in flight, or in the one that was gated last
     pub(crate) in_flight: u64,
     pub(crate) checkpoint: Checkpoint,
-    // the keys of a node that is split
+    // a buffer for the keys of a node that is split
     pub(crate) keys: Vec<K::Key>,
-    // what looks and answers take memory of
+    // the allocator for looks and results
     pub(crate) alloc: Global,
 }
 
@@ -49,15 +49,13 @@ impl<D: SectorDisk, K: ReadKeys> Model for Engine<D, K> {
 }
 
 impl<D: SectorDisk, K: ReadKeys> Engine<D, K> {
-    ghost use Rattle.gx_machine.specs.Keys.{keys_of};
     ghost use Rattle.gx_phases.specs.Moves.{failed_state};
-    ghost use Rattle.gx_phases.specs.States.{IsKept};
     ghost use Rattle.gx_storage.specs.Flushing.{IsLeastWritable};
     ghost use Rattle.gx_engine.specs.States.{IsOrderly};
 
-    /// An engine over pages in 16 frames or more with their log, of which no batch is in flight and no turn is under
-    /// way, and over sessions. No checkpoint runs. A node that is split has its keys written over `keys`; looks and
-    /// answers take memory of `alloc`.
+    /// Makes an engine over pages in 16 frames or more with their log, which has no batch in flight and no turn under
+    /// way, and over sessions. No checkpoint runs. A split overwrites `keys` with its node's keys; looks and results
+    /// are allocated in `alloc`.
     pub fn new(
         storage: Storage<D, K>,
         sessions: Sessions<K::Key, Work<K::Key>>,
@@ -87,9 +85,9 @@ impl<D: SectorDisk, K: ReadKeys> Engine<D, K> {
         }
     }
 
-    /// How an engine stands on any device: its log turns only as its checkpoint has it; its frames are 16 or more, of
-    /// which an event holds four at most; it has 65,536 pages at most, and a node 100 entries; a session that waits
-    /// for its commit, waits for one that is sealed.
+    /// The engine's invariant on any device: its log turns only while its checkpoint does; it has 16 frames or more, of
+    /// which an event holds four at most; it has 65,536 pages at most, and a node 100 entries at most; a session that
+    /// waits for its commit waits for a sealed one.
     pub(crate) fn in_order(&self)
         ensures { IsOrderly self.now }
     {
@@ -106,7 +104,7 @@ impl<D: SectorDisk, K: ReadKeys> Engine<D, K> {
         self.sessions.latest()
     }
 
-    /// The greatest page that is taken.
+    /// The greatest page in use.
     pub fn used(&self) -> u32
         ensures { result ≡ self.now.volume.shelf.used }
     {
@@ -120,14 +118,14 @@ impl<D: SectorDisk, K: ReadKeys> Engine<D, K> {
         self.storage.counter()
     }
 
-    /// The least page that has changes, all of them in gated batches: one that `write_page` writes.
+    /// The least page that has changes, all of them in gated batches: `write_page` writes it.
     pub fn dirty(&self) -> Option<u32>
         ensures { IsLeastWritable self.now.volume.shelf.frames result }
     {
         self.storage.dirty()
     }
 
-    /// Gives the engine up for its device, as the calls left it. What isn't written is lost.
+    /// Returns the engine's device, as the calls left it. What isn't written is lost.
     pub fn into_disk(self) -> D
         ensures { result ≡ self.volume.shelf.disk }
     {

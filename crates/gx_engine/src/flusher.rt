@@ -13,8 +13,8 @@ use gx_geom::Refusal;
 use gx_glog::Stage;
 
 impl<D: SectorDisk, K: ReadKeys> Engine<D, K> {
-    // What is noted of a log's call: with a batch's first one, the last commit that is in it; with its gate's sync,
-    // that commits are durable up to that one.
+    // Notes the log's last call: at a batch's first call, the last commit in the batch; at its gate's sync, that
+    // commits are durable up to that one.
     pub(crate) fn note(&mut self, stage: Stage) -> Outcome<K::Key>
         requires { self.old.sessions.durable ≤ self.old.sessions.latest }
         ensures outcome { result ≡ log_outcome stage }
@@ -34,12 +34,12 @@ impl<D: SectorDisk, K: ReadKeys> Engine<D, K> {
         }
     }
 
-    /// Makes the log's next write or sync: `More`. `Nothing` exactly where nothing is logged or a checkpoint runs; no
-    /// call was made then. Refused with `Failed` by an engine that has failed, and with `Device` exactly where the
-    /// device failed; the engine has failed then.
+    /// Makes the log's next write or sync, and returns `More`. Returns `Nothing` exactly if nothing is logged or a
+    /// checkpoint runs; no call was made then. Refused with `Failed` by an engine that has failed, and with `Device`
+    /// exactly if the device failed; the engine has failed then.
     ///
-    /// It takes no memory. What filled is in flight from its first call on, and its commits are durable from its
-    /// gate's sync on.
+    /// It takes no memory. The batch that filled is in flight from its first call on, and its commits are durable from
+    /// its gate's sync on.
     pub fn log_step(&mut self) -> Outcome<K::Key>
         ensures steps { Between D.state LogSteps self.old self.new self.old.sessions.failed (runs self.old.checkpoint)
             result }
@@ -59,9 +59,9 @@ impl<D: SectorDisk, K: ReadKeys> Engine<D, K> {
         }
     }
 
-    /// Writes a page to its place, where it has changes and all of them are in gated batches: `More`; else `Nothing`,
-    /// and no call was made. Refused with `Failed` by an engine that has failed, and with `Device` exactly where the
-    /// device failed; the engine has failed then. It takes no memory.
+    /// Writes a page to its place if it has changes and all of them are in gated batches, and returns `More`; else
+    /// returns `Nothing`, and no call was made. Refused with `Failed` by an engine that has failed, and with `Device`
+    /// exactly if the device failed; the engine has failed then. It takes no memory.
     pub fn write_page(&mut self, page: u32) -> Outcome<K::Key>
         ensures writes { Between D.state (PageIsWritten page) self.old self.new self.old.sessions.failed result }
         ensures leads { SparesAs K.Key.Shape K.ReadKeys D.state self.old self.new (page_events result) }

@@ -20,7 +20,7 @@ use gx_storage::Storage;
 use gx_store::StoreFault;
 use gx_txn::Note;
 
-/// Puts the notes of a transaction behind the records of the head, in their order.
+/// Appends the notes of a transaction to the records of the head, in their order.
 fn put_notes<D: SectorDisk, K: ReadKeys>(
     storage: &mut Storage<D, K>,
     transaction: u64,
@@ -64,7 +64,7 @@ fn is_after(after: Option<u64>, transaction: u64) -> bool
     }
 }
 
-/// Whether a transaction has a lower number than that of another session, where there is one.
+/// Whether a transaction has a lower number than that of another session, if there is one.
 fn is_less<B: Shape, W: Drop>(
     sessions: &Sessions<B, W>,
     transaction: u64,
@@ -109,7 +109,7 @@ fn next_noted<B: Shape, W: Drop>(sessions: &Sessions<B, W>, after: Option<u64>) 
     next
 }
 
-/// Puts the notes of all sessions behind the records of the head, by their transactions in turn.
+/// Appends the notes of all sessions to the records of the head, in the order of their transactions.
 fn put_touches<D: SectorDisk, K: ReadKeys>(
     storage: &mut Storage<D, K>,
     sessions: &Sessions<K::Key, Work<K::Key>>,
@@ -128,7 +128,7 @@ fn put_touches<D: SectorDisk, K: ReadKeys>(
     Ok(())
 }
 
-/// Puts the head of the renewed log: the numbers, and then the notes.
+/// Puts the head of the renewed log in memory: the numbers, and then the notes.
 pub(crate) fn put_head<D: SectorDisk, K: ReadKeys>(
     storage: &mut Storage<D, K>,
     sessions: &Sessions<K::Key, Work<K::Key>>,

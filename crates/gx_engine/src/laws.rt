@@ -3,7 +3,7 @@ ghost use Rattle.std.specs.Prelude.{◌≤◌, ℕ, Bool, List};
 ghost use Rattle.gx_machine.specs.declared.entry.Entry.{Entry};
 ghost use Rattle.gx_page.specs.Contents.{Contents};
 ghost use Rattle.gx_node.specs.Reading.{Format};
-ghost use Rattle.gx_events.specs.Events as laws;
+ghost use Rattle.gx_events.specs.Happenings as laws;
 ghost use Rattle.gx_events.specs.declared.event.Event.{Event};
 ghost use Rattle.gx_events.specs.declared.outcome.Outcome.{Outcome};
 ghost use Rattle.gx_events.specs.Steps.{AreOf, Leads};
@@ -26,23 +26,23 @@ pub mod progress;
 use gx_class::ReadKeys;
 use gx_disk::SectorDisk;
 
-/// Where a node may have four entries, a class of keys is as the laws of the whole index want it.
+/// If a node may have four entries, a class of keys satisfies the premises of the whole index's laws.
 pub fn a_class_is_lawful<K: ReadKeys>()
     ensures { (l : Limits) → 4 ≤ l.most → IsLawful (class_of K.Key.Shape K.is_proper l) }
 {}
 
-/// What happens to a whole index in an event does to the set machine that it is seen as what that event with its
-/// outcome may do.
+/// An event of a whole index changes the set machine that the index is seen as as that event with its outcome may
+/// change it.
 pub fn an_event_is_the_machines<B>()
     ensures { (c : Class B) → IsLawful c → (i j : State B) → IsWhole c i
-        → (event : Event B) (outcome : Outcome B) (events : List (laws.Event B))
+        → (event : Event B) (outcome : Outcome B) (events : List (laws.Happening B))
         → AreOf (engine_of c i) event outcome events → AreHappening c i events j
         → Leads c.keys (engine_of c i) event outcome (engine_of c j) }
 {}
 
 /// Any events, each as the contract of a step has it, lead from an engine that holds an index to one that holds what
-/// happened to it, in the order of the events; and at each moment of them, whatever a crash may leave stands for a
-/// kept set of an index that was passed.
+/// the events made of it, in their order; and at each moment of them, whatever a crash may leave stands for a set that
+/// one of the indexes on the way keeps.
 pub fn any_events_lead_on<D: SectorDisk, B>()
     ensures { (c : Class B) (said : List ℕ → B) (f : Format B) (passes : ℕ → Contents → Bool)
         (steps : List (Event B × Outcome B)) (old new : Parts B D)
@@ -52,8 +52,8 @@ pub fn any_events_lead_on<D: SectorDisk, B>()
         → Ran c (reading_of said f) f passes (D.state old.volume.shelf.disk) (D.state new.volume.shelf.disk) new i }
 {}
 
-/// What the analysis of an undamaged log tells of touches, an opening can give sessions: they come by transaction and
-/// then entry, no entry twice, and are no more than eight transactions' and no more than 512.
+/// An opening can give sessions all touches that the analysis of an undamaged log returns: they are ordered by
+/// transaction and then entry, with no entry twice, and are of no more than eight transactions and 512 entries.
 pub fn a_log_tells_who_was_cut_off<B>()
     ensures { (c : Class B) → IsLawful c → (log : List (Record (Entry B) (Page B))) → IsLog (known_of c) log
         → AreCutOff c.keys (analysis (known_of c) log).touched }

@@ -1,5 +1,5 @@
-//! An index at work: the calls of up to eight sessions over pages with their log, an event at a time; and events one
-//! after another, a session's call to its end, or an event until nothing is left to do.
+//! An index at work: the calls of up to eight sessions over pages with their log, one event at a time; and loops of
+//! events: a session's call to its end, or one event until nothing is left to do.
 #![tactic(auto)]
 
 mod asks;
@@ -28,7 +28,6 @@ pub use checkpoint::Checkpoint;
 pub use driven::{EVENTS, drive};
 pub use engine::Engine;
 pub use gx_events::{Event, Need, Outcome};
-pub use losers::Loser;
 pub use pages::NotLent;
 pub use repeated::repeat;
 pub use start::{NotOpened, Start};

@@ -1,4 +1,4 @@
-//! What a call does that looks: it begins at the root, and reads a page a move.
+//! A call that looks begins at the root, and reads one page a move.
 ghost use Rattle.std.specs.Prelude.{◌≡◌, ◌-◌, ◌<◌, [], true, false, length, OnOk, IfOk, IfErr};
 ghost use Rattle.gx_machine.specs.declared.call.Call.{Call};
 ghost use Rattle.gx_machine.specs.Machine.{is_session};
@@ -27,7 +27,7 @@ use gx_storage::laws::a_volume_shows_the_logs_tree;
 use gx_tree::{Look, LookFault, StepFault, TraversalItem, Wanted};
 use std::alloc::AllocError;
 
-/// What a call is at where its look was refused a page: the look, or nothing where that hadn't begun.
+/// The state of a call whose look was refused a page: the look, or nothing if that hadn't begun.
 fn held_work<B: Shape>(begun: bool, look: Look<B>) -> Work<B>
     ensures { result ≡ work_before begun look }
 {
@@ -39,15 +39,15 @@ fn held_work<B: Shape>(begun: bool, look: Look<B>) -> Work<B>
 }
 
 impl<D: SectorDisk, K: ReadKeys + Probing> Engine<D, K> {
-    // The look that a call begins with, at the root.
+    // The look with which a call begins, at the root.
     pub(crate) fn first_look(&self) -> Result<Look<K::Key>, AllocError>
         ensures { IfOk result (IsFirst self.now) }
     {
         Look::new(self.alloc, TraversalItem::new(1, self.storage.counter()))
     }
 
-    // A look reads its next page; one that hasn't begun reads the root. `Err` is what came of it where that was
-    // refused: then the call is at what it was, or is closed, or the engine has failed.
+    // A look reads its next page; one that hasn't begun reads the root. `Err` has the outcome if that was refused: then
+    // the call's state is unchanged, or the call is closed, or the engine has failed.
     pub(crate) fn read_look(
         &mut self,
         session: u8,

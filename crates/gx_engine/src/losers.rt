@@ -1,26 +1,31 @@
-//! Transactions that a crash cut off: a session holds each, to undo it.
-ghost use Rattle.std.specs.Prelude.{◌≡◌, ◌≤◌, map};
+//! Transactions that a crash cut off: each gets a session, which undoes it.
+ghost use Rattle.std.specs.Prelude.{◌≡◌, ◌≤◌};
 ghost use Rattle.gx_machine.specs.Keys.{keys_of};
 ghost use Rattle.gx_machine.specs.declared.limits.TheConstants.{SESSIONS};
 ghost use Rattle.gx_phases.specs.States.{fresh_state};
 ghost use Rattle.gx_engine.specs.declared.work.Work.{Work};
-ghost use Rattle.gx_engine.specs.Losing.{AllRest, HoldsAll, OnlyHeld, session_after, touch_of};
+ghost use Rattle.gx_engine.specs.Losing.{AllRest, HoldsAll, OnlyHeld, note_in, session_after};
 
 use crate::work::Work;
 use gx_geom::{Refusal, Shape};
+use gx_machine::Entry;
 use gx_phases::Sessions;
+use gx_recovery::Touch;
 use gx_txn::Note;
 
-/// A note of a transaction that a crash cut off.
-#[derive(Clone, Copy)]
-pub struct Loser<B> {
-    /// The transaction's number.
-    pub transaction: u64,
-    /// What undoing one of its entries needs.
-    pub note: Note<B>,
+/// The note that undoes an entry which a transaction wrote.
+fn note_in<B: Copy>(touch: &Touch<Entry<B>>) -> Note<B>
+    ensures { result ≡ note_in touch.now }
+{
+    Note {
+        entry: touch.entry(),
+        before: touch.before(),
+        leaf: touch.leaf(),
+    }
 }
 
-/// The session of a note's transaction, where the note before it, if any, has this session and is of that transaction.
+/// The session of a touch's transaction, by the touch before it, if any: that has this session and is of that
+/// transaction.
 fn session_after(session: u8, last: Option<u64>, transaction: u64) -> u8
     requires { session ≤ SESSIONS }
     ensures { result ≡ session_after session last transaction }
@@ -36,28 +41,29 @@ fn session_after(session: u8, last: Option<u64>, transaction: u64) -> u8
 }
 
 /// Gives each transaction that a crash cut off a session, from 1 on in the order of their numbers, which claims the
-/// entries of its notes and undoes it from its first note on. The notes come by transaction, then by entry.
+/// entries that it touched and undoes it from its first note on. The touches come by transaction, then by entry.
 ///
-/// `Damaged` where they are of more than eight transactions, where two transactions have touched one entry, or where
-/// they are of more than 512 entries: an undamaged log tells none such. The first sessions are given then.
+/// `Damaged` if they are of more than eight transactions, if two transactions have touched one entry, or if they are of
+/// more than 512 entries: an undamaged log has none such. The first transactions have sessions then.
 pub(crate) fn hold_losers<B: Shape>(
     sessions: &mut Sessions<B, Work<B>>,
-    losers: &[Loser<B>],
+    losers: &[Touch<Entry<B>>],
 ) -> Result<(), Refusal>
     requires fresh { sessions.old ≡ fresh_state (Work B) sessions.old.latest sessions.old.durable sessions.old.next }
-    ensures holds { HoldsAll (keys_of B.Shape) (map touch_of losers.now) sessions.new result }
+    ensures holds { HoldsAll (keys_of B.Shape) losers.now sessions.new result }
     ensures rests { AllRest sessions.new.phases }
     ensures only { OnlyHeld sessions.old sessions.new }
 {
     let mut session = 0;
     let mut last = None;
     for loser in losers {
-        session = session_after(session, last, loser.transaction);
+        let transaction = loser.transaction();
+        session = session_after(session, last, transaction);
         if session > 8 {
             return Err(Refusal::Damaged);
         }
-        last = Some(loser.transaction);
-        if let Err(_) = sessions.hold_loser(session, loser.transaction, loser.note, Work::Rests) {
+        last = Some(transaction);
+        if let Err(_) = sessions.hold_loser(session, transaction, note_in(loser), Work::Rests) {
             return Err(Refusal::Damaged);
         }
     }

@@ -1,4 +1,4 @@
-//! A page that is brought in an event of no session, and lent as it stands.
+//! Pages that are brought in an event of no session, and lent for reading.
 ghost use Rattle.std.specs.Borrow.{sem};
 ghost use Rattle.std.specs.Prelude.{◌≡◌, ◌≤◌, false, OnOk};
 ghost use Rattle.gx_store.specs.State.{IsHeld};
@@ -18,18 +18,18 @@ use gx_events::{Need, Outcome};
 use gx_geom::Refusal;
 use gx_page::Page;
 
-/// Why a page isn't lent, as an event says it.
+/// Why a page isn't lent, in terms of an event's outcome.
 #[derive(Clone, Copy, Debug, PartialEq, Eq)]
 pub enum NotLent {
-    /// No frame is clean: this has to happen first.
+    /// No frame is clean; this event has to come first.
     Help(Need),
     /// Refused.
     Refused(Refusal),
 }
 
 impl<D: SectorDisk, K: ReadKeys> Engine<D, K> {
-    // Brings a page that is taken into a frame, where it is held until pages are brought again; or what comes of it
-    // that it was refused. No node has changed, and nothing is logged.
+    // Brings a page in use into a frame, which holds it until pages are brought again. If that is refused, returns the
+    // outcome. No node has changed, and nothing is logged.
     pub(crate) fn bring(&mut self, page: u32) -> Result<(), Outcome<K::Key>>
         requires from { 1 ≤ page }
         requires to { page ≤ self.old.volume.shelf.used }
@@ -50,12 +50,12 @@ impl<D: SectorDisk, K: ReadKeys> Engine<D, K> {
         }
     }
 
-    /// Brings a page that is taken into a frame, where it is held until pages are brought again, so that `held_page`
-    /// lends it. No node has changed, and nothing is logged.
+    /// Brings a page in use into a frame, which holds it until pages are brought again, so that `held_page` lends it.
+    /// No node has changed, and nothing is logged.
     ///
-    /// `Help` where no frame is clean, with what gives one. Refused with `Failed` by an engine that has failed, with
-    /// `Device` where the device failed, and with `Damaged` where what it has there is no right page; the engine has
-    /// failed then. It makes no write and no sync of the device, and takes no memory.
+    /// Returns `Help` with the event that frees a frame, if no frame is clean. Refused with `Failed` by an engine that
+    /// has failed, with `Device` if the device failed, and with `Damaged` if the page that was read doesn't pass its
+    /// test; the engine has failed then. It makes no write and no sync of the device, and takes no memory.
     pub fn bring_page(&mut self, page: u32) -> Result<(), Outcome<K::Key>>
         requires from { 1 ≤ page }
         requires to { page ≤ self.old.volume.shelf.used }
@@ -76,7 +76,7 @@ impl<D: SectorDisk, K: ReadKeys> Engine<D, K> {
         brought
     }
 
-    /// A page that is held, as it stands.
+    /// Lends a held page.
     pub fn held_page(&self, page: u32) -> &Page
         requires held { IsHeld self.now.volume.shelf page }
         ensures { IsLentAs K.KeyClass D.state page self.now result.now }
@@ -84,8 +84,8 @@ impl<D: SectorDisk, K: ReadKeys> Engine<D, K> {
         self.storage.held_page(page)
     }
 
-    /// Lends a page that is taken, as it stands. Brings it first, as `bring_page` does, and answers in its place what
-    /// that says of a page that isn't brought.
+    /// Lends a page in use. Brings it first, as `bring_page` does, and returns what that returns if the page isn't
+    /// brought.
     pub fn page(&mut self, page: u32) -> Result<&Page, NotLent>
         requires from { 1 ≤ page }
         requires to { page ≤ self.old.volume.shelf.used }

@@ -1,4 +1,4 @@
-//! What all moves do where they are refused: the call is closed, the engine fails, or another event has to come first.
+//! What follows if a move is refused: the call is closed, the engine fails, or another event has to come first.
 ghost use Rattle.std.specs.Prelude.{◌≡◌, ◌-◌, true};
 ghost use Rattle.gx_machine.specs.Machine.{is_session};
 ghost use Rattle.gx_phases.specs.Moves.{answered_state, failed_state, is_open};
@@ -13,7 +13,6 @@ use gx_disk::SectorDisk;
 use gx_events::{Need, Outcome};
 use gx_geom::Refusal;
 use gx_machine::Reply;
-use gx_storage::Help;
 use gx_store::StoreFault;
 
 /// The event that makes the log's next call: its own step, or that of a checkpoint that runs.
@@ -24,17 +23,17 @@ pub(crate) fn log_need(running: bool) -> Need
 }
 
 /// The event that helps, by whether a checkpoint runs; the log's next call where storage names none.
-fn need_of(running: bool, help: Option<Help>) -> Need
+fn need_of(running: bool, help: Option<Need>) -> Need
     ensures { result ≡ need_of running help }
 {
     match help {
-        Some(Help::Write(page)) => Need::Write(page),
-        Some(Help::Log) | None => log_need(running),
+        Some(Need::Write(page)) => Need::Write(page),
+        Some(Need::Log | Need::Checkpoint) | None => log_need(running),
     }
 }
 
 impl<D: SectorDisk, K: ReadKeys> Engine<D, K> {
-    // A session's call is closed for want of memory or of pages.
+    // Closes a session's call because memory is refused or no page is free.
     pub(crate) fn close(&mut self, session: u8, why: Refusal) -> Outcome<K::Key>
         requires session { is_session session ≡ true }
         requires open { is_open (phase_in session self.old) ≡ true }
@@ -46,7 +45,7 @@ impl<D: SectorDisk, K: ReadKeys> Engine<D, K> {
         Outcome::Replied(Reply::Refused(why))
     }
 
-    // A session's call is refused, and the engine has failed.
+    // Refuses a session's call, and marks the engine as failed.
     pub(crate) fn break_off(&mut self, why: Refusal) -> Outcome<K::Key>
         ensures outcome { result ≡ Outcome.Replied (Reply.Refused why) }
         ensures failed { self.new ≡ record self.old { sessions = failed_state self.old.sessions } }
@@ -56,7 +55,7 @@ impl<D: SectorDisk, K: ReadKeys> Engine<D, K> {
         Outcome::Replied(Reply::Refused(why))
     }
 
-    // Pages were refused: what helps, or the engine has failed.
+    // Pages were refused to a session's call: returns the event that helps, or marks the engine as failed.
     pub(crate) fn refuse(&mut self, fault: StoreFault) -> Outcome<K::Key>
         ensures refused { IsRefused fault self.old self.new result }
         ensures volume { self.new.volume ≡ self.old.volume }
@@ -73,7 +72,7 @@ impl<D: SectorDisk, K: ReadKeys> Engine<D, K> {
         }
     }
 
-    // The engine has failed, which is told to no session.
+    // Refuses an event of no session, and marks the engine as failed.
     pub(crate) fn fail_event(&mut self, why: Refusal) -> Outcome<K::Key>
         ensures outcome { result ≡ Outcome.Refused why }
         ensures failed { self.new ≡ record self.old { sessions = failed_state self.old.sessions } }
@@ -83,7 +82,7 @@ impl<D: SectorDisk, K: ReadKeys> Engine<D, K> {
         Outcome::Refused(why)
     }
 
-    // Pages were refused in an event of no session: what helps, or the engine has failed.
+    // Pages were refused in an event of no session: returns the event that helps, or marks the engine as failed.
     pub(crate) fn turn_away(&mut self, fault: StoreFault) -> Outcome<K::Key>
         ensures refused { IsTurnedAway fault self.old self.new result }
         ensures volume { self.new.volume ≡ self.old.volume }

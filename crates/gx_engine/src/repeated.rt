@@ -1,4 +1,4 @@
-//! An event over and over, until nothing is left to do.
+//! Repeats an event until nothing is left to do.
 ghost use Rattle.std.specs.Prelude.{◌≢◌, Err, IfSome, IsSome, MatchOption};
 ghost use Rattle.gx_engine.specs.declared.driven.TheConstants.{EVENTS};
 ghost use Rattle.gx_engine.specs.Made.{Makes};
@@ -11,9 +11,9 @@ use gx_disk::SectorDisk;
 use gx_events::{Event, Outcome};
 use gx_geom::Refusal;
 
-/// Makes an event over and over, until there is nothing to do (`Ok`) or it is refused (`Err`, with why). None where
-/// there was still more to do after `EVENTS` events, which of steps of the log or of a checkpoint never comes. It
-/// takes no memory but what the events take, which of steps of the log or of a checkpoint is none.
+/// Repeats an event until there is nothing to do (`Ok`) or it is refused (`Err`, with why). Returns `None` if there was
+/// still more to do after `EVENTS` events, which never happens for steps of the log or of a checkpoint. It takes no
+/// memory but what the events take: none for steps of the log or of a checkpoint.
 #[tactic(auto, using(crate::proofs::Lacking::flushing_never))]
 pub fn repeat<D: SectorDisk, K: ReadKeys + Probing>(
     engine: &mut Engine<D, K>,

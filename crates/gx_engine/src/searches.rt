@@ -28,14 +28,14 @@ use gx_storage::laws::{a_volume_shows_keys, a_volume_shows_the_logs_tree};
 use gx_tree::{Found, Look, Wanted};
 use std::alloc::{AllocError, Global};
 
-/// The entries of what was found, as they come.
+/// The entries that were found, in the order in which they were found.
 fn entries_found<B: Shape>(alloc: Global, found: &[Found<B>]) -> Result<Vec<Entry<B>>, AllocError>
     ensures { IfOk result (λ entries. entries.items ≡ map (λ one. one.entry) found.now) }
 {
     found.iter().map(|one| one.entry).collect(alloc)
 }
 
-/// What was found, as entries in order, each once.
+/// The entries that were found, in their order, each once.
 fn gathered<B: Shape>(alloc: Global, found: &[Found<B>]) -> Result<Vec<Entry<B>>, AllocError>
     ensures { IfOk result (λ set. set.items ≡ laws.gathered (keys_of B.Shape) (map entry_of (pairs_found found.now))) }
 {
@@ -45,7 +45,7 @@ fn gathered<B: Shape>(alloc: Global, found: &[Found<B>]) -> Result<Vec<Entry<B>>
 }
 
 impl<D: SectorDisk, K: ReadKeys + Probing> Engine<D, K> {
-    // A look that has ended is the search's answer.
+    // Replies to a search with the result of its look, which has ended.
     fn find(&mut self, session: u8, query: Query<K::Key>, look: Look<K::Key>) -> Outcome<K::Key>
         requires session { is_session session ≡ true }
         requires phase { phase_in session self.old ≡ Open (Search query) Rests }
@@ -69,8 +69,8 @@ impl<D: SectorDisk, K: ReadKeys + Probing> Engine<D, K> {
         }
     }
 
-    // A search's look reads its next page; one that hasn't begun reads the root. `Ok` gives the look where nothing is
-    // left to read, and `Err` is what else came of it.
+    // A search's look reads its next page; one that hasn't begun reads the root. Returns `Ok` with the look if nothing
+    // is left to read, else `Err` with the outcome.
     fn read_on(
         &mut self,
         session: u8,
@@ -112,8 +112,8 @@ impl<D: SectorDisk, K: ReadKeys + Probing> Engine<D, K> {
         Err(Outcome::More)
     }
 
-    // A search's look begins at the root, or goes on, and reads a page. `Ok` gives the look where nothing is left to
-    // read, and `Err` is what else came of it.
+    // A search's look begins at the root, or goes on, and reads a page. Returns `Ok` with the look if nothing is left
+    // to read, else `Err` with the outcome.
     fn search_look(
         &mut self,
         session: u8,
@@ -145,7 +145,7 @@ impl<D: SectorDisk, K: ReadKeys + Probing> Engine<D, K> {
                 Ok(look) => self.read_on(session, query, look, false),
                 Err(_) => Err(self.close(session, Refusal::Memory)),
             },
-            // a search descends and seeks in no index
+            // no search descends or seeks
             other => {
                 self.sessions.replace_work(session, other);
                 Err(self.break_off(Refusal::Damaged))
@@ -153,14 +153,14 @@ impl<D: SectorDisk, K: ReadKeys + Probing> Engine<D, K> {
         }
     }
 
-    /// A move of a session's search, which is open. Each reads one page, the first one the root. The move that reads
-    /// the last page answers: `Replied(Found)` with the live pairs that match and stood while it looked, in order.
-    /// Until then `More`, and each such move leaves less to do. It makes no write and no sync of the device, and
-    /// takes memory for what it stacks and finds.
+    /// Makes a move of a session's open search. Each move reads one page, the first one the root. The move that reads
+    /// the last page returns `Replied(Found)` with the matching pairs that were live while it looked, in order. Each
+    /// move before it returns `More` and leaves less to do. It makes no write and no sync of the device, and takes
+    /// memory for what it stacks and finds.
     ///
-    /// `Help` where a page couldn't be brought, with what has to happen first; the search is then at what it was.
-    /// Refused memory closes the call: `Replied(Refused(Memory))`. Where the device failed, or a page didn't read,
-    /// the engine has failed, and the reply is `Device` or `Damaged`.
+    /// Returns `Help` with the event that has to come first, if a page couldn't be brought; the search's state is
+    /// unchanged then. If memory is refused the call is closed: `Replied(Refused(Memory))`. If the device failed, or a
+    /// page can't be read, the engine has failed, and the reply is `Device` or `Damaged`.
     pub(crate) fn search(&mut self, session: u8, query: Query<K::Key>) -> Outcome<K::Key>
         requires session { is_session session ≡ true }
         requires searches { (work : declared.Work K.Key) × (phase_in session self.old ≡ Open (Search query) work) }

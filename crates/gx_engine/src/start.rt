@@ -1,4 +1,4 @@
-//! An engine's start over a device, from what was found there.
+//! Starts an engine over a device, from what was found there.
 ghost use Rattle.std.specs.Prelude.{◌≡◌, ◌≤◌, ◌<◌, ◌+◌, ◌*◌, ◌-◌, length, replicate, false, IfOk, IfErr};
 ghost use Rattle.gx_node.specs.declared.items.TheConstants.{MAX_ENTRIES};
 ghost use Rattle.gx_pool.specs.declared.frames.TheConstants.{FRAMES};
@@ -11,15 +11,17 @@ ghost use Rattle.gx_engine.specs.Setting.{HoldsFromAs};
 use crate::Engine;
 use crate::checkpoint::Checkpoint;
 use crate::laws::a_class_is_lawful;
-use crate::losers::{Loser, hold_losers};
+use crate::losers::hold_losers;
 use crate::work::Work;
 use gx_class::{KeyClass, ReadKeys};
 use gx_disk::SectorDisk;
 use gx_geom::{Refusal, Shape};
 use gx_glog::{Extent, Glog};
+use gx_machine::Entry;
 use gx_node::MAX_ENTRIES;
 use gx_phases::Sessions;
 use gx_pool::Pool;
+use gx_recovery::Touch;
 use gx_storage::Storage;
 use gx_store::{NodeTest, PageStore};
 use std::alloc::{AllocError, Global};
@@ -29,7 +31,7 @@ use std::alloc::{AllocError, Global};
 pub struct Start<B> {
     /// The extent that is selected.
     pub extent: Extent,
-    /// How many of its gates are open in a row from the first on, 1 to 32. All later ones are closed.
+    /// How many of its gates are open in a row from the first on, 1 to 32. All later gates are closed.
     pub bodies: u8,
     /// How many pages the device has, up to 65,536.
     pub pages: u32,
@@ -41,24 +43,24 @@ pub struct Start<B> {
     pub commits: u64,
     /// The greatest node sequence number.
     pub counter: u64,
-    /// The greatest page that is taken.
+    /// The greatest page in use.
     pub used: u32,
     /// The next transaction's number.
     pub next: u64,
-    /// What transactions wrote that have neither a commit nor an end, by transaction, then by entry.
-    pub losers: Vec<Loser<B>>,
+    /// What transactions without a commit or an end wrote, by transaction, then by entry.
+    pub losers: Vec<Touch<Entry<B>>>,
 }
 
 /// Why a device wasn't opened, and the device.
 #[derive(Debug, Drop)]
 pub struct NotOpened<D> {
-    /// Why.
+    /// The refusal.
     pub why: Refusal,
     /// The device, as the calls left it.
     pub disk: D,
 }
 
-// The memory that an engine takes beside its log and its sessions.
+// The memory of an engine, but for its log and its sessions.
 #[derive(Drop)]
 struct Room<K: KeyClass> {
     pool: Pool<NodeTest<K>>,
@@ -67,28 +69,28 @@ struct Room<K: KeyClass> {
     keys: Vec<K::Key>,
 }
 
-/// So many bytes for a key.
+/// Allocates so many bytes for a key.
 fn key_room(alloc: Global, size: usize) -> Result<Vec<u8>, AllocError>
     ensures { IfOk result (λ bytes. length bytes.items ≡ size) }
 {
     vec![in alloc; 0; size]
 }
 
-/// A bit for each of so many pages, none of them set.
+/// Allocates a bit for each of so many pages, none of them set.
 fn imaged_room(alloc: Global, pages: u32) -> Result<Vec<bool>, AllocError>
     ensures { IfOk result (λ imaged. imaged.items ≡ replicate pages false) }
 {
     vec![in alloc; false; pages as usize]
 }
 
-/// Room for the keys of a node that is split.
+/// Allocates memory for the keys of a node that is split.
 fn keys_room<K: KeyClass>(alloc: Global) -> Result<Vec<K::Key>, AllocError>
     ensures { IfOk result (λ keys. MAX_ENTRIES ≤ length keys.items) }
 {
     vec![in alloc; K::start(); MAX_ENTRIES]
 }
 
-/// Frames for pages, all empty, that know of batches up to this one.
+/// Allocates frames for pages, all empty, for which batches up to this one are gated.
 fn frames<K: KeyClass>(
     alloc: Global,
     count: usize,
@@ -103,7 +105,7 @@ fn frames<K: KeyClass>(
     Ok(pool)
 }
 
-/// Takes the memory for pages, their bits, and keys.
+/// Allocates the memory for pages, their bits, and keys.
 fn take_room<K: KeyClass>(
     alloc: Global,
     count: usize,
@@ -124,7 +126,7 @@ fn take_room<K: KeyClass>(
     })
 }
 
-/// Sessions that undo what was cut off, and have no other transaction.
+/// Makes sessions that undo the transactions that were cut off, and have no others.
 fn sessions<B: Shape>(alloc: Global, start: &Start<B>) -> Result<Sessions<B, Work<B>>, Refusal>
     ensures taken { IfOk result (λ sessions. TakenUp (keys_of B.Shape) start.now sessions) }
     ensures why { IfErr result (WhyNot (keys_of B.Shape) start.now) }
@@ -139,7 +141,7 @@ fn sessions<B: Shape>(alloc: Global, start: &Start<B>) -> Result<Sessions<B, Wor
 }
 
 impl<D: SectorDisk, K: ReadKeys> Engine<D, K> {
-    // The engine over its device, with all that it took memory for.
+    // Makes the engine over its device, from memory that was allocated before.
     fn over(
         disk: D,
         start: &Start<K::Key>,
@@ -178,15 +180,15 @@ impl<D: SectorDisk, K: ReadKeys> Engine<D, K> {
         engine
     }
 
-    /// An engine over a device on which this stands, with a checkpoint running. Each transaction that has neither a
-    /// commit nor an end is held by a session, from 1 on, which undoes it; all other sessions are free. It makes no
-    /// call of the device, and takes all the memory that the engine ever takes but for searches' stacks and answers.
+    /// Starts an engine over a device on which this was found, with a checkpoint running. Each transaction without a
+    /// commit or an end gets a session, from 1 on, which undoes it; all other sessions are free. It makes no call of
+    /// the device, and allocates all the memory that the engine ever takes, but for the stacks and results of searches.
     ///
-    /// Refused with `Memory`, and with `Damaged` where what was cut off isn't what a log tells: more than eight
-    /// transactions, more than 512 entries, or an entry twice. The device is handed back.
+    /// Refused with `Memory`, and with `Damaged` if no log has such touches: of more than eight transactions, of more
+    /// than 512 entries, or of an entry twice. A refusal returns the device.
     ///
-    /// Where a log that is undamaged, with its pages laid and good for it, stands on an honest device that is
-    /// settled, the engine holds the index that is opened over them.
+    /// If an honest device without unsynced writes has an undamaged log, with its pages laid and good for it, the
+    /// engine holds the index that is opened over them.
     pub fn start(alloc: Global, disk: D, start: Start<K::Key>) -> Result<Self, NotOpened<D>>
         requires bodies { (1 ≤ start.bodies) × (start.bodies ≤ 32) }
         requires inside { (start.pages ≤ MAX_PAGES) × (PAGES_AT + PAGE_SECTORS * start.pages ≤ (D.state disk).sectors)

@@ -1,4 +1,4 @@
-//! One event, whichever it is.
+//! One event of any kind.
 ghost use Rattle.std.specs.Prelude.{◌≡◌, ◌-◌, true, false};
 ghost use Rattle.gx_machine.specs.Machine.{is_session};
 ghost use Rattle.gx_phases.specs.declared.phase.Phase.TheVariants as phase;
@@ -56,7 +56,7 @@ impl<D: SectorDisk, K: ReadKeys + Probing> Engine<D, K> {
             Call::Delete(entry) => self.delete(session, entry),
             Call::Search(query) => self.search(session, query),
             Call::Commit => self.seal(session),
-            // an ask answers the one at once, and the other undoes from then on
+            // Begin is replied to by its ask, and Abort undoes from its ask on
             Call::Begin | Call::Abort => Outcome::Refused(Refusal::NoCall),
         }
     }
@@ -109,20 +109,20 @@ impl<D: SectorDisk, K: ReadKeys + Probing> Engine<D, K> {
         }
     }
 
-    /// Makes one event, and says what came of it. An ask, a move and a sweep make no write and no sync of the device,
+    /// Makes one event, and returns its outcome. An ask, a move and a sweep make no write and no sync of the device,
     /// and the others one at most. Only moves of a search, and of a write that looks for its pair, take memory.
     ///
-    /// `Ask` opens a session's call, or answers it at once. `Move` takes an open call further by a page or a record,
-    /// or answers it; it is refused with `BadSession` where there is no such session, and with `NoCall` where that
-    /// has no call open. `LogStep` makes the log's next call, `WritePage` writes a page whose changes are gated,
-    /// `CheckpointStep` begins a checkpoint or makes its next call, and `Sweep` takes out of a leaf what is marked
-    /// and no session claims. After a fault every ask and move is answered with `Failed`, and every other event
-    /// refused with it.
+    /// `Ask` opens a session's call, or replies to it at once. `Move` takes an open call further by a page or a record,
+    /// or replies to it; it is refused with `BadSession` if there is no such session, and with `NoCall` if that has no
+    /// open call. `LogStep` makes the log's next call, `WritePage` writes a page whose changes are gated,
+    /// `CheckpointStep` begins a checkpoint or makes its next call, and `Sweep` removes from a leaf the marked pairs
+    /// that no session claims. After a fault the reply to every ask and move is `Failed`, and every other event is
+    /// refused with `Failed`.
     ///
-    /// It says `Device` exactly where a call of the device failed in it.
+    /// It returns `Device` exactly if a call of the device failed in it.
     ///
-    /// `More` did its work; `Help` changed nothing that anyone sees and names the event to run first; `Nothing` had
-    /// nothing to do.
+    /// `More`: it did its work. `Help`: it changed nothing that a caller sees, and names the event to make first.
+    /// `Nothing`: it had nothing to do.
     #[tactic(auto, using(crate::proofs::Lacking::step_lacks))]
     pub fn step(&mut self, event: Event<K::Key>) -> Outcome<K::Key>
         ensures comes { StepComesAs K.Key.Shape K.ReadKeys D.state event self.old self.new result }

@@ -34,7 +34,7 @@ impl<D: SectorDisk, K: ReadKeys> Engine<D, K> {
         0 < page && page <= self.storage.used()
     }
 
-    // Takes out of a leaf what is marked and no session claims, where no checkpoint is due.
+    // Removes from a leaf the marked pairs that no session claims, if no checkpoint is due.
     fn take_out(&mut self, page: u32) -> Outcome<K::Key>
         requires from { 1 ≤ page }
         requires to { page ≤ self.old.volume.shelf.used }
@@ -63,7 +63,7 @@ impl<D: SectorDisk, K: ReadKeys> Engine<D, K> {
         }
     }
 
-    // The same of a page that is held, where there is anything to take.
+    // Sweeps a held page, if it has anything to remove.
     fn sweep_held(&mut self, page: u32) -> Outcome<K::Key>
         requires held { IsHeld self.old.volume.shelf page }
         requires works { self.old.sessions.failed ≡ false }
@@ -81,14 +81,14 @@ impl<D: SectorDisk, K: ReadKeys> Engine<D, K> {
         self.take_out(page)
     }
 
-    /// Takes the marked pairs that no session claims out of the leaf on a page, and logs that: `More`. `Nothing`
-    /// where no such page is in use, before any is brought; or it isn't a leaf, or has no such pair.
+    /// Removes the marked pairs that no session claims from the leaf on a page, logs that, and returns `More`. Returns
+    /// `Nothing` if no such page is in use, before any is brought; or if it isn't a leaf, or has no such pair.
     ///
-    /// `Help` where the page couldn't be brought, or something is to be taken and a checkpoint is due, or the log has
-    /// no room for the record, with what has to happen first. Refused with `Failed` by an engine that has failed,
-    /// with `Device` where the device failed, and with `Damaged` where what it has there is no right page; the engine
-    /// has failed then. Whatever else comes of it, pages may have been brought and nothing else has changed. It takes
-    /// no memory.
+    /// Returns `Help` with the event that has to come first, if the page couldn't be brought, if a pair is to be
+    /// removed and a checkpoint is due, or if the log has no room for the record. Refused with `Failed` by an engine
+    /// that has failed, with `Device` if the device failed, and with `Damaged` if the page that was read doesn't pass
+    /// its test; the engine has failed then. With every other outcome but `More`, pages may have been brought and
+    /// nothing else has changed. It takes no memory.
     pub(crate) fn sweep(&mut self, page: u32) -> Outcome<K::Key>
         ensures sweeps { SweepComesAs K.Key.Shape K.ReadKeys D.state page self.old self.new
             self.old.sessions.failed result }

@@ -26,7 +26,7 @@ use gx_store::StoreFault;
 use gx_tree::{Sought, StepFault};
 use gx_txn::Note;
 
-/// The leaf that an undo seeks its next note's pair in: where that hasn't begun, the one where the transaction last
+/// The leaf in which an undo seeks its next note's pair: if the seek hasn't begun, the one where the transaction last
 /// wrote it.
 fn leaf_of<B: Shape>(note: &Note<B>, phase: &Phase<B, Work<B>>) -> u32
     ensures { result ≡ leaf_of note.now (undo_work phase.now) }
@@ -38,7 +38,7 @@ fn leaf_of<B: Shape>(note: &Note<B>, phase: &Phase<B, Work<B>>) -> u32
 }
 
 impl<D: SectorDisk, K: ReadKeys> Engine<D, K> {
-    // No note is left: the end of the transaction is logged, and the session is free.
+    // Ends an undo with no note left: logs the end of the transaction, and frees the session.
     fn end_undo(&mut self, session: u8) -> Outcome<K::Key>
         requires session { is_session session ≡ true }
         requires undoes { is_undoing (phase_in session self.old) ≡ true }
@@ -63,8 +63,8 @@ impl<D: SectorDisk, K: ReadKeys> Engine<D, K> {
 }
 
 impl<D: SectorDisk, K: ReadKeys + Probing> Engine<D, K> {
-    // Gives a note's pair, where it is in this leaf, the mark that it had before the session's transaction first
-    // wrote it.
+    // If a note's pair is in this leaf, gives it back the mark that it had before the session's transaction first wrote
+    // it.
     fn set_noted(
         &mut self,
         session: u8,
@@ -83,8 +83,8 @@ impl<D: SectorDisk, K: ReadKeys + Probing> Engine<D, K> {
             .set_mark(transaction, leaf, &note.entry, note.before)
     }
 
-    // What is noted of a seek of the next note's pair: it was in this leaf, and the note is restored; or it is sought
-    // further to the right.
+    // Notes the result of a seek of the next note's pair: it was in this leaf, and the note is restored; or it is
+    // sought further to the right.
     fn note_sought(&mut self, session: u8, leaf: u32, sought: Sought) -> Outcome<K::Key>
         requires session { is_session session ≡ true }
         ensures outcome { result ≡ Outcome.More }
@@ -132,15 +132,15 @@ impl<D: SectorDisk, K: ReadKeys + Probing> Engine<D, K> {
         }
     }
 
-    /// A move of a session's undo: the next note's entry is given the mark that it had before the transaction first
-    /// wrote it, and that is logged; or its pair is not in its leaf, and is sought further to the right: `More`.
-    /// Where no note is left the end of the transaction is logged and the session is free: `Replied(Aborted)`. It
-    /// makes no write and no sync of the device and takes no memory.
+    /// Makes a move of a session's undo: gives the next note's pair the mark that it had before the transaction first
+    /// wrote it, and logs that; or, if the pair is not in its leaf, seeks it further to the right. Returns `More`. If
+    /// no note is left, it logs the end of the transaction, frees the session, and returns `Replied(Aborted)`. It makes
+    /// no write and no sync of the device and takes no memory.
     ///
-    /// `Help(Checkpoint)` exactly where a checkpoint runs or 24 places of the extent are taken, and nothing has
-    /// changed. `Help` where the record doesn't fit the batch that fills or a page couldn't be brought, with what has
-    /// to happen first; the undo is then at what it was. Where the device failed, or a page didn't read, the engine
-    /// has failed, and the reply is `Device` or `Damaged`.
+    /// Returns `Help(Checkpoint)` exactly if a checkpoint runs or 24 places of the extent are taken, and nothing has
+    /// changed. Returns `Help` with the event that has to come first, if the record doesn't fit the batch that fills or
+    /// a page couldn't be brought; the undo's state is unchanged then. If the device failed, or a page can't be read,
+    /// the engine has failed, and the reply is `Device` or `Damaged`.
     pub(crate) fn undo(&mut self, session: u8) -> Outcome<K::Key>
         requires session { is_session session ≡ true }
         requires undoes { is_undoing (phase_in session self.old) ≡ true }

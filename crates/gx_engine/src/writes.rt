@@ -1,4 +1,4 @@
-//! An insert's and a delete's moves.
+//! The moves of inserts and deletes.
 ghost use Rattle.std.specs.Prelude.{◌≡◌, ◌-◌, true, false, Some};
 ghost use Rattle.gx_machine.specs.declared.call.Call.{Call};
 ghost use Rattle.gx_machine.specs.declared.call.Call.TheVariants.{Delete, Insert};
@@ -13,9 +13,9 @@ ghost use Rattle.gx_engine.specs.Moves.{calling};
 ghost use Rattle.gx_engine.specs.Writes.{AreWriting, WritesAs};
 ghost use Rattle.gx_engine.specs.Setting.{MovesSoAs, phase_in};
 
-mod descents;
-mod looks;
-mod seeks;
+pub(crate) mod descents;
+pub(crate) mod looks;
+pub(crate) mod seeks;
 
 use crate::Engine;
 use crate::work::Work;
@@ -28,7 +28,7 @@ use gx_phases::Phase;
 use gx_tree::{Descended, TraversalItem};
 
 impl<D: SectorDisk, K: ReadKeys> Engine<D, K> {
-    // A call descends at this item, to which it came from this page.
+    // Sets a call to descend at this item, to which it came from this page.
     fn go_to(&mut self, session: u8, from: u32, item: TraversalItem) -> Outcome<K::Key>
         requires session { is_session session ≡ true }
         ensures outcome { result ≡ Outcome.More }
@@ -42,7 +42,7 @@ impl<D: SectorDisk, K: ReadKeys> Engine<D, K> {
         Outcome::More
     }
 
-    // A call's descent begins again at the root.
+    // Starts a call's descent again at the root.
     fn begin_again(&mut self, session: u8) -> Outcome<K::Key>
         requires session { is_session session ≡ true }
         ensures outcome { result ≡ Outcome.More }
@@ -79,17 +79,18 @@ impl<D: SectorDisk, K: ReadKeys> Engine<D, K> {
 }
 
 impl<D: SectorDisk, K: ReadKeys + Probing> Engine<D, K> {
-    /// A move of a session's insert, which is open. It looks for its pair, a page a move; where that stands, it seeks
-    /// it and clears its mark; and where it stands nowhere, it descends and adds it to a leaf, with as many moves as
-    /// bounds are widened, full leaves swept and full nodes split on the way. Until it is answered `More`, and each
-    /// such move leaves less to do. `Replied(Inserted)` once the pair is there, noted, and its record is logged;
-    /// `Replied(Refused(Present))` where it is live already. It makes no write and no sync of the device.
+    /// Makes a move of a session's open insert. The insert looks for its pair, one page a move. If a leaf has it, the
+    /// insert seeks it and clears its mark. If none has it, the insert descends and adds it to a leaf, with one more
+    /// move for each bound that is widened, each full leaf that is swept and each full node that is split on the way.
+    /// Each move before the last returns `More` and leaves less to do. The last returns `Replied(Inserted)` once the
+    /// pair is in a leaf, noted, and its record is logged, or `Replied(Refused(Present))` if it is live already. It
+    /// makes no write and no sync of the device.
     ///
-    /// `Help(Checkpoint)` where a move would log while a checkpoint runs or 24 places of the extent are taken; `Help`
-    /// where its record finds no room in the batch that fills, or a page no frame, with what has to happen first. The
-    /// insert is then at what it was. Refused memory, in its look alone, closes the call with `Memory`, and want of
-    /// pages with `PagesFull`. Where the device failed, or a page didn't read, the engine has failed, and the reply
-    /// is `Device` or `Damaged`.
+    /// Returns `Help(Checkpoint)` if a move would log while a checkpoint runs or 24 places of the extent are taken;
+    /// `Help` with the event that has to come first, if its record doesn't fit the batch that fills, or no frame is
+    /// free for a page. The insert's state is unchanged then. The call is closed with `Memory` if memory is refused,
+    /// which only its look takes, and with `PagesFull` if too few pages are left. If the device failed, or a page can't
+    /// be read, the engine has failed, and the reply is `Device` or `Damaged`.
     pub(crate) fn insert(&mut self, session: u8, entry: Entry<K::Key>) -> Outcome<K::Key>
         requires session { is_session session ≡ true }
         requires inserts { (work : declared.Work K.Key) × (phase_in session self.old ≡ Open (Insert entry) work) }
@@ -119,9 +120,9 @@ impl<D: SectorDisk, K: ReadKeys + Probing> Engine<D, K> {
         }
     }
 
-    /// A move of a session's delete, which is open: it looks for its pair, seeks it where it stands, and marks it:
-    /// `Replied(Deleted)`. Where it stands nowhere, or is marked, the reply is `Refused(Absent)`. All else is as for
-    /// an insert; a delete takes no pages.
+    /// Makes a move of a session's open delete. The delete looks for its pair, seeks it in its leaf, and marks it:
+    /// `Replied(Deleted)`. If no leaf has the pair, or it is marked already, the reply is `Refused(Absent)`. All else
+    /// is as for an insert; a delete takes no pages.
     pub(crate) fn delete(&mut self, session: u8, entry: Entry<K::Key>) -> Outcome<K::Key>
         requires session { is_session session ≡ true }
         requires deletes { (work : declared.Work K.Key) × (phase_in session self.old ≡ Open (Delete entry) work) }
@@ -138,7 +139,7 @@ impl<D: SectorDisk, K: ReadKeys + Probing> Engine<D, K> {
                 let leaf = *leaf;
                 self.delete_at(session, entry, leaf)
             }
-            // a delete descends in no index
+            // no delete descends
             Phase::Open(_, Work::Descends(..)) => self.break_off(Refusal::Damaged),
             Phase::Open(_, Work::Rests | Work::Looks(_))
             | Phase::Free

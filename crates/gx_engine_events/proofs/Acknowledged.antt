@@ -21,7 +21,7 @@ use Rattle.gx_events.specs.Replay.{Point, At, Asking, Fits, FitsAt, FitsEither, 
 use Rattle.gx_engine_events.specs.Books.{acknowledges, is_commit}
 use Rattle.gx_engine_events.proofs.AtOnce.{given_commits_none}
 
--- the number of the oldest kept set where a replay stands
+-- the number of the oldest kept set at a place of a replay
 abbrev oldest_at : {B : Type 0} → Point B → ℕ
 oldest_at (At m) = m.oldest
 oldest_at (Asking s call m) = m.oldest

@@ -1,5 +1,5 @@
 -- What a crash leaves within a hold.
-use Rattle.std.proofs.Common.{◌≡◌, ap, sym, subst, ℕ, ◌≤◌, Bool, List}
+use Rattle.std.proofs.Common.{sym, subst, ℕ, ◌≤◌, Bool, List}
 use Rattle.gx_class.specs.Traits.{traits_of}
 use Rattle.gx_class.specs.declared.class.KeyClass.{Ghosts}
 use Rattle.gx_machine.specs.declared.item.Item.{Item}

@@ -1,5 +1,5 @@
 -- An event that is no session's never replies, over any device.
-use Rattle.std.proofs.Common.{◌≡◌, ◌∙◌, ap, refl, inl, inr, ◌⊎◌, ℕ, Bool, true, false, List}
+use Rattle.std.proofs.Common.{◌≡◌, ◌∙◌, ap, refl, inl, inr, ℕ, Bool, true, false, List}
 use Rattle.std.specs.Prelude.{nat_le, Result, Ok, Err}
 use Rattle.gx_geom.specs.declared.refusal.Refusal.{Refusal}
 use Rattle.gx_machine.specs.declared.entry.Entry.{Entry}
@@ -19,9 +19,9 @@ use Rattle.gx_events.specs.declared.event.Event.TheVariants.{Ask, Move, LogStep,
 use Rattle.gx_events.specs.declared.outcome.Outcome.{Outcome}
 use Rattle.gx_events.specs.declared.outcome.Outcome.TheVariants.{Replied, More, Help, Nothing, Refused}
 use Rattle.gx_events.specs.Work.{is_work, replied}
-use Rattle.gx_engine.specs.Checkpoints.{BeginsTurn, CheckpointSteps, FindsNoPage, GatesNext, HeadComes, RunsOn, StepsFrom, StepsOff, SyncComes, TurnComes, TurnsNext, WritesDirty, WritesNext}
+use Rattle.gx_engine.specs.Checkpoints.{CheckpointSteps, HeadComes, RunsOn, StepsFrom, StepsOff, SyncComes, TurnComes}
 use Rattle.gx_engine.specs.Comes.{StepComes}
-use Rattle.gx_engine.specs.Flushing.{IsEnded, LogComes, LogSteps, PageComes, PageIsWritten, log_outcome, page_outcome}
+use Rattle.gx_engine.specs.Flushing.{LogComes, LogSteps, PageComes, PageIsWritten, log_outcome, page_outcome}
 use Rattle.gx_engine.specs.States.{Parts, runs}
 use Rattle.gx_engine.specs.Sweeping.{SweepComes, SweepsBy, SweepsPage, is_page}
 use Rattle.gx_engine.specs.declared.checkpoint.Checkpoint.{Checkpoint}

@@ -21,14 +21,15 @@ abbrev pub is_commit : {B : Type 0} → ℕ → Reply B → Bool
 is_commit number (Committed n) = n == number
 is_commit number other = false
 
--- so does an item
+-- an item acknowledges the commit of this number
 abbrev pub acknowledges : {B : Type 0} → ℕ → Item B → Bool
 acknowledges number (Asked s call) = false
 acknowledges number (Sealed s n) = false
 acknowledges number (Replied s r) = is_commit number r
 
--- A record replays from the machine that the run starts at as one that the engine is seen as; and whatever a crash may leave now stands for a set that this machine
--- keeps, under a number that is none below a commit's which the record acknowledges.
+-- Replaying a record from the machine that the run starts at gives one that the engine is seen as. Whatever a crash may
+-- leave now stands for a set that this machine keeps, and its number is at least that of each commit that the record
+-- acknowledges.
 pub record Outlives {B D : Type 0} (shape : Members B) (proper : B → Bool) (said : List ℕ → B) (f : Format B) (state : D → Device) (starts : Machine B → Type 0) (e : Parts B D)
     (calls : List (Item B)) : Type 0 where
   pub start : Machine B

@@ -1,4 +1,4 @@
--- A new index on a device, with an engine that begins on it.
+-- A new index on a device, with an engine that starts on it.
 use Rattle.std.specs.Prelude.{ℕ, ◌≡◌, ◌⊎◌, ◌≤◌, false, Err, replicate}
 use Rattle.gx_geom.specs.declared.refusal.Refusal.{Refusal}
 use Rattle.gx_geom.specs.declared.refusal.Refusal.TheVariants.{BadParameter, Memory}
@@ -29,7 +29,7 @@ new_parts {B} pages most frames disk = record {
   checkpoint = Off;
 }
 
--- so it is, with so many empty frames
+-- the same, with so many empty frames
 pub record IsNew {B D : Type 0} (pages most count : ℕ) (e : Parts B D) : Type 0 where
   pub parts : e ≡ new_parts pages most e.volume.shelf.frames e.volume.shelf.disk
   pub empty : IsEmpty count e.volume.shelf.frames
@@ -39,8 +39,8 @@ pub record IsFrames (count : ℕ) : Type 0 where
   pub least : 16 ≤ count
   pub most : count ≤ FRAMES
 
--- Why there is none: too few frames or too many, which is tested first; or why a format was refused; or memory is
--- refused.
+-- Why no engine was started: too few frames or too many, which is tested first; or the format was refused; or memory
+-- was refused.
 abbrev pub WhyNone : {D : Type 0} → (D → Device) → Parameters → Contents → ℕ → D → D → Refusal → Type 0
 WhyNone state parameters root count old new why =
     ((why ≡ BadParameter) × (IsFrames count → ⊥) × (new ≡ old)) ⊎ ((why ≡ Memory) ⊎ Formats state parameters root old new (Err why))

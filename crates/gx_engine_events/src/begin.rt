@@ -1,12 +1,10 @@
-//! A device is formatted, and an engine begins on it.
-ghost use Rattle.std.specs.Prelude.{◌≡◌, ◌⊎◌, ◌≤◌, ◌↔◌, length, replicate, true, false, IfOk, IfErr, IsTrue};
+//! Formats a device, and starts an engine on it.
+ghost use Rattle.std.specs.Prelude.{◌≡◌, ◌≤◌, ◌↔◌, length, replicate, true, false, IfOk, IfErr, IsTrue};
 ghost use Rattle.gx_machine.specs.Machine.{fresh_machine};
-ghost use Rattle.gx_disk.specs.Device.{IsSettled};
-ghost use Rattle.gx_page.specs.Format.{IsWellFormed};
 ghost use Rattle.gx_node.specs.declared.items.TheConstants.{MAX_ENTRIES};
 ghost use Rattle.gx_pool.specs.State.{IsEmpty};
 ghost use Rattle.gx_format.specs.Formatting.{AreInRange, sectors_of};
-ghost use Rattle.gx_format.specs.Fresh.{IsFresh, fresh_root};
+ghost use Rattle.gx_format.specs.Fresh.{fresh_root};
 ghost use Rattle.gx_durable.specs.Beginning.{first_glog};
 ghost use Rattle.gx_phases.specs.States.{fresh_state};
 ghost use Rattle.gx_engine.specs.declared.work.Work as work;
@@ -37,28 +35,28 @@ fn is_frames(frames: usize) -> bool
     (16..=FRAMES).contains(&frames)
 }
 
-// So many bytes for a key.
+// Allocates so many bytes for a key.
 fn key_room(alloc: Global, size: usize) -> Result<Vec<u8>, AllocError>
     ensures { IfOk result (λ bytes. length bytes.items ≡ size) }
 {
     vec![in alloc; 0; size]
 }
 
-// A bit for each of so many pages, none of them set.
+// Allocates a bit for each of so many pages, none of them set.
 fn imaged_room(alloc: Global, pages: u32) -> Result<Vec<bool>, AllocError>
     ensures { IfOk result (λ imaged. imaged.items ≡ replicate pages false) }
 {
     vec![in alloc; false; pages as usize]
 }
 
-// Room for the keys of a node that is split.
+// Allocates memory for the keys of a node that is split.
 fn keys_room<K: KeyClass>(alloc: Global) -> Result<Vec<K::Key>, AllocError>
     ensures { IfOk result (λ keys. MAX_ENTRIES ≤ length keys.items) }
 {
     vec![in alloc; K::start(); MAX_ENTRIES]
 }
 
-// The memory that an engine takes beside its log and its sessions.
+// The memory of an engine, but for its log and its sessions.
 #[derive(Drop)]
 struct Room<K: KeyClass> {
     pool: Pool<NodeTest<K>>,
@@ -67,7 +65,7 @@ struct Room<K: KeyClass> {
     keys: Vec<K::Key>,
 }
 
-// Takes the memory for pages, their bits, and keys.
+// Allocates the memory for pages, their bits, and keys.
 fn take_room<K: KeyClass>(alloc: Global, frames: usize, pages: u32) -> Result<Room<K>, AllocError>
     requires { IsFrames frames }
     ensures pool { IfOk result (λ room. IsEmpty frames room.pool.frames × (room.pool.test.pages ≡ pages)) }
@@ -83,7 +81,7 @@ fn take_room<K: KeyClass>(alloc: Global, frames: usize, pages: u32) -> Result<Ro
     })
 }
 
-// The engine over its device, with all that it took memory for.
+// Makes the engine over its device, from memory that was allocated before.
 fn over<D: SectorDisk, K: ReadKeys>(
     disk: D,
     log: Glog,
@@ -115,7 +113,7 @@ fn over<D: SectorDisk, K: ReadKeys>(
     Engine::new(storage, sessions, keys, alloc)
 }
 
-// An engine over a device of this size. Without memory the device comes back.
+// Starts an engine over a device of this size. If memory is refused, it returns the device.
 fn begin_engine<D: SectorDisk, K: ReadKeys>(
     alloc: Global,
     disk: D,
@@ -140,12 +138,12 @@ fn begin_engine<D: SectorDisk, K: ReadKeys>(
     }
 }
 
-/// Formats a device for so many pages, with so many entries in a node at most, and begins an engine on it with so
-/// many frames: nothing is committed, no session has a transaction, and no checkpoint runs. What the device held is
-/// gone. On an honest device the engine is seen as the machine with nothing committed.
+/// Formats a device for so many pages, with so many entries in a node at most, and starts an engine on it with so many
+/// frames: nothing is committed, no session has a transaction, and no checkpoint runs. What the device held before is
+/// lost. On an honest device the engine is seen as the machine with nothing committed.
 ///
-/// Refused with `BadParameter` where the frames aren't 16 to 4,096, and then no call is made; as `gx_format::format`
-/// is refused; and with `Memory`. The device comes back.
+/// Refused with `BadParameter` if the frames aren't 16 to 4,096, and then no call of the device is made; as
+/// `gx_format::format` is refused; and with `Memory`. A refusal returns the device.
 pub fn new_index<D: SectorDisk, K: ReadKeys>(
     alloc: Global,
     disk: D,

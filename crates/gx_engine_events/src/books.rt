@@ -1,4 +1,4 @@
-//! A book over the engine, and crashes.
+//! What a crash leaves of the device of an engine in a book.
 ghost use Rattle.std.specs.Prelude.{◌≡◌, true};
 ghost use Rattle.gx_engine_events.specs.Setting.{OutlivesAs};
 
@@ -8,10 +8,10 @@ use gx_class::{Probing, ReadKeys};
 use gx_disk::SectorDisk;
 use gx_shared::{Book, Run};
 
-/// What a book over the engine keeps, whenever it is looked at, where devices of its kind keep what they acknowledge:
-/// its record replays, from the machine that the run names, as a machine that its engine is seen as; and whatever a
-/// crash may leave of the engine's device then stands for a set that this machine keeps, from the last durable commit's
-/// to the last one's; and each commit that the record acknowledges is durable.
+/// Law: at every moment, if devices of this kind keep what they acknowledge, replaying a book's record from the machine
+/// that the run names gives a machine that its engine is seen as. Whatever a crash may leave of the engine's device
+/// then stands for a set that this machine keeps, from the last durable commit's to the last one's; and each commit
+/// that the record acknowledges is durable.
 pub fn outlives_a_crash<D: SectorDisk, K: ReadKeys + Probing, R: Run<K::Key>>(
     book: &Book<K::Key, EngineEvents<D, K>, R>,
 )

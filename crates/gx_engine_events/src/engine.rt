@@ -8,7 +8,7 @@ use gx_engine::laws::a_class_is_lawful;
 use gx_events::{Event, Events, Outcome};
 use std::marker::Model;
 
-/// An engine over pages and a log that is run by events. Contracts see it as the engine's parts.
+/// An engine over pages and a log that runs by events. Contracts see it as the engine's parts.
 #[derive(Drop)]
 pub struct EngineEvents<D: SectorDisk, K: ReadKeys> {
     engine: Engine<D, K>,
@@ -37,7 +37,8 @@ impl<D: SectorDisk, K: ReadKeys> EngineEvents<D, K> {
     ghost use Rattle.gx_engine.specs.Helping.{HoldsIndex};
     ghost use Rattle.gx_engine_events.specs.Setting.{SeesAs};
 
-    /// An engine, to be run by events. Where it holds an index that is seen as a machine, it is seen as that machine.
+    /// Wraps an engine. If the engine holds an index that is seen as a machine, the wrapped engine is seen as that
+    /// machine.
     pub fn new(engine: Engine<D, K>) -> Self
         ensures same { result ≡ engine }
         ensures seen { (l : Limits) (bodies : List (List (Record (Entry K.Key) (Page K.Key)))) (i : index.State K.Key)
@@ -49,7 +50,7 @@ impl<D: SectorDisk, K: ReadKeys> EngineEvents<D, K> {
         EngineEvents { engine }
     }
 
-    /// The engine, as the events left it.
+    /// Returns the engine, as the events left it.
     pub fn into_inner(self) -> Engine<D, K>
         ensures { result ≡ self }
     {
@@ -80,8 +81,8 @@ impl<D: SectorDisk, K: ReadKeys + Probing> Events<K::Key> for EngineEvents<D, K>
 
     ghost dirties = { λ e page. IsLeastWritable e.volume.shelf.frames page };
 
-    /// As the trait says. And at each moment within the event, whatever a crash may leave stands for a set that the
-    /// machine of before it keeps: one from the last durable commit's to the last one's.
+    /// Does what the trait says. Also, at each moment within the event, whatever a crash may leave stands for a set
+    /// that the machine before the event keeps: one from the last durable commit's to the last one's.
     fn step(&mut self, event: Event<K::Key>) -> Outcome<K::Key>
         ensures happens { (m : Machine K.Key)
             → SeesAs K.Key.Shape K.ReadKeys D.state self.old m

@@ -23,8 +23,8 @@ use gx_events::Events;
 use gx_shared::{Book, Run};
 
 /// Whatever a crash may leave of the device of an engine that is seen as a machine stands for a set that this machine
-/// keeps: an undamaged log and its pages, for one set from the last durable commit's to the last one's. So it is
-/// whenever the engine is looked at.
+/// keeps: an undamaged log and its pages, for one set from the last durable commit's to the last one's. This holds
+/// between any two events.
 pub fn a_crash_leaves_a_set_of_the_machine<D: SectorDisk, K: ReadKeys>()
     ensures { (e : Parts K.Key D) (m : Machine K.Key)
         → SeesAs K.Key.Shape K.ReadKeys D.state e m → (image : List ℕ)
@@ -50,13 +50,13 @@ pub fn a_hold_leaves_sets_of_the_machine<D: SectorDisk, K: ReadKeys>()
     a_class_is_lawful::<K>();
 }
 
-/// Over a device in memory nothing has to be assumed: that such devices keep what they acknowledge is proved.
+/// Over a device in memory nothing is assumed: that such devices keep what they acknowledge is proved.
 pub fn in_memory_all_is_granted<K: ReadKeys + Probing>()
     ensures recorded { ⟦<EngineEvents<MemDisk, K> as Events<K::Key>>⟧.granted }
     ensures plain { ⟦<EngineEvents<RamDisk, K> as Events<K::Key>>⟧.granted }
 {}
 
-/// So a book over one keeps what it promises, with no premise.
+/// So a book's invariant over such a device has no premise.
 pub fn in_memory_a_book_stands<K: ReadKeys + Probing, R: Run<K::Key>>(
     book: &Book<K::Key, EngineEvents<MemDisk, K>, R>,
 )

@@ -1,9 +1,9 @@
-//! The engine over pages and a log, as an engine of events that sessions in threads can share; and a new one, over a
-//! device that is formatted.
+//! The engine over pages and a log, as an engine of events that sessions in threads can share; and how to format a
+//! device and start a new engine on it.
 //!
-//! It is seen as a set machine where it holds an index over its device that is seen as that machine. Which index that
-//! is, and what of its log and its pages the device has, isn't stored: the indexes that one engine may hold are all
-//! seen as one machine.
+//! It is seen as a set machine if it holds an index over its device that is seen as that machine. The engine doesn't
+//! store which index that is, nor which part of its log and its pages the device has: all indexes that one engine may
+//! hold are seen as the same machine.
 #![tactic(auto)]
 
 mod begin;

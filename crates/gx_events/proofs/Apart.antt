@@ -20,8 +20,8 @@ use Rattle.gx_machine.proofs.SessionsApart.{predicate_matches}
 use Rattle.gx_events.specs.Slots.{Note, Slot, Free, Working, Undoing, Waiting, locks_held, slot_at, with_slot, entries_of}
 use Rattle.gx_events.specs.Engines.{Engine, IsSound, HoldsItsLocks, IsSame}
 use Rattle.gx_events.specs.Asking.{ask_in, ask}
-use Rattle.gx_events.specs.Events as events
-use Rattle.gx_events.specs.Events.{Event, IsEvent, marked, failed_engine, slotted, IsWritten, IsClosed, MeetsFault, AskRefused}
+use Rattle.gx_events.specs.Happenings as events
+use Rattle.gx_events.specs.Happenings.{Happening, IsHappening, marked, failed_engine, slotted, IsWritten, IsClosed, MeetsFault, AskRefused}
 use Rattle.gx_events.specs.Wants.{Pair, wants, slot_wants, is_claimed, Change, Moves, Adds, Marks, Sweeps, ToldByLocks, LeavesAlone, is_sweep, LeavesSession}
 use Rattle.gx_events.specs.Kinds.{is_of_another}
 use Rattle.gx_events.proofs.Options.{true_or_false, uncovered}
@@ -187,7 +187,7 @@ module _ {B : Type 0} (k : Keys B) (l : IsLawful k) where
     refused_leaves t call refusal.Failed new h = leaves_all new (failed_engine old) h refl refl
     refused_leaves t call other new h = absurd h
 
-    pub event_leaves : (event : Event B) (new : Engine B) → IsEvent k old event new → is_of_another s event ≡ true → LeavesSession k s old new
+    pub event_leaves : (event : Happening B) (new : Engine B) → IsHappening k old event new → is_of_another s event ≡ true → LeavesSession k s old new
     event_leaves (events.Asks t call given) new h another = ask_leaves t call new (is_session t) refl (another_number t s another) h.2
     event_leaves (events.RefusesAsk t call why) new h another = refused_leaves t call why new h
     event_leaves (events.Inserts t e) new h another =

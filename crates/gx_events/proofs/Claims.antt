@@ -25,10 +25,10 @@ use Rattle.gx_machine.specs.Machine.{Machine, is_session}
 use Rattle.gx_events.specs.Slots.{Note, Slot, Free, Working, Undoing, Waiting, locks_held, slot_at, with_slot}
 use Rattle.gx_events.specs.Engines.{Engine, SeenAs, IsSound}
 use Rattle.gx_events.specs.Asking.{least_barring, claims_held, asked_with, ask_working, ask_free, ask_slot, ask_in, ask}
-use Rattle.gx_events.specs.Events as events
-use Rattle.gx_events.specs.Events.{Event, IsEvent, MeetsFault, AskRefused, IsClosed, IsWritten, step_of}
+use Rattle.gx_events.specs.Happenings as events
+use Rattle.gx_events.specs.Happenings.{Happening, IsHappening, MeetsFault, AskRefused, IsClosed, IsWritten, step_of}
 use Rattle.gx_events.specs.Losers.{loser_slot}
-use Rattle.gx_events.specs.Runs.{AreEvents}
+use Rattle.gx_events.specs.Runs.{AreHappenings}
 use Rattle.gx_events.proofs.Places.{place_below}
 use Rattle.gx_events.proofs.Standing.{working_there, waiting_there, undoing_there}
 use Rattle.gx_events.proofs.Follow.{Follows}
@@ -260,7 +260,7 @@ module _ {B : Type 0} (k : Keys B) where
     refused_few s call refusal.Failed new h few = by_slots new old.slots h.slots few
     refused_few s call other new h few = absurd h
 
-    pub claims_stay_few : (new : Engine B) (event : Event B) → IsEvent k old event new → claims_held old.slots ≤ MAX_CLAIMS → claims_held new.slots ≤ MAX_CLAIMS
+    pub claims_stay_few : (new : Engine B) (event : Happening B) → IsHappening k old event new → claims_held old.slots ≤ MAX_CLAIMS → claims_held new.slots ≤ MAX_CLAIMS
     claims_stay_few new (events.Asks s call given) h few =
         by_slots new (ask k s call old).1.slots h.2.slots (asked_engine_few s call (is_session s) refl few)
     claims_stay_few new (events.RefusesAsk s call why) h few = refused_few s call why new h few
@@ -282,7 +282,7 @@ module _ {B : Type 0} (k : Keys B) where
     claims_stay_few new events.Works h few = by_slots new old.slots h.slots few
 
 module _ {B : Type 0} (k : Keys B) (l : IsLawful k) where
-  pub claims_stay_few_over : (list : List (Event B)) (old new : Engine B) (m : Machine B) → IsSound k old → SeenAs k old m → AreEvents k old list new
+  pub claims_stay_few_over : (list : List (Happening B)) (old new : Engine B) (m : Machine B) → IsSound k old → SeenAs k old m → AreHappenings k old list new
       → claims_held old.slots ≤ MAX_CLAIMS → claims_held new.slots ≤ MAX_CLAIMS
   claims_stay_few_over [] old new m i seen same few = subst (λ (e : Engine B). claims_held e.slots ≤ MAX_CLAIMS) (sym same) few
   claims_stay_few_over (event ∷ list) old new m i seen run few =

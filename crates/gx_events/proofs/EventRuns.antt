@@ -9,8 +9,8 @@ use Rattle.gx_machine.specs.Invariants.{Apart, LocksApart}
 use Rattle.gx_machine.proofs.StepsKeep.{step_apart}
 use Rattle.gx_events.specs.Slots.{locks_held, slot_at}
 use Rattle.gx_events.specs.Engines.{Engine, SeenAs, IsSound, session_of}
-use Rattle.gx_events.specs.Events.{Event, step_of}
-use Rattle.gx_events.specs.Runs.{AreEvents, steps_of, RunsAs}
+use Rattle.gx_events.specs.Happenings.{Happening, step_of}
+use Rattle.gx_events.specs.Runs.{AreHappenings, steps_of, RunsAs}
 use Rattle.gx_events.proofs.Places.{session_of_slot}
 use Rattle.gx_events.proofs.Sees.{same_locks}
 use Rattle.gx_events.proofs.Follow.{Follows}
@@ -50,7 +50,7 @@ module _ {B : Type 0} (k : Keys B) (l : IsLawful k) where
         in_order = f.in_order;
       }
 
-  pub run_follows : (events : List (Event B)) (old new : Engine B) (m : Machine B) → IsSound k old → SeenAs k old m → AreEvents k old events new
+  pub run_follows : (events : List (Happening B)) (old new : Engine B) (m : Machine B) → IsSound k old → SeenAs k old m → AreHappenings k old events new
       → RunsAs k m (steps_of events) new
   run_follows [] old new m i seen same =
       record { end = m; runs = refl; seen = subst (λ (e : Engine B). SeenAs k e m) (sym same) seen; sound = subst (IsSound k) (sym same) i }

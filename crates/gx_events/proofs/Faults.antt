@@ -25,8 +25,8 @@ use Rattle.gx_machine.proofs.SetsByTests.{set_of_a_test_that_agrees, set_of_its_
 use Rattle.gx_events.specs.Slots.{Slot, Free, Working, Undoing, Waiting, slot_at, with_slot, noted_in, is_unanswered}
 use Rattle.gx_events.specs.Engines.{Engine, SeenAs, IsSound, HoldsItsLocks, IsSame, stood, kept, last_number, session_of}
 use Rattle.gx_events.specs.Asking.{least_barring, claims_held, ask_in, ask}
-use Rattle.gx_events.specs.Events as events
-use Rattle.gx_events.specs.Events.{Event, IsEvent, step_of, failed_engine, IsOpened, MeetsFault, AskRefused}
+use Rattle.gx_events.specs.Happenings as events
+use Rattle.gx_events.specs.Happenings.{Happening, IsHappening, step_of, failed_engine, IsOpened, MeetsFault, AskRefused}
 use Rattle.gx_events.proofs.Places.{slot_free}
 use Rattle.gx_events.proofs.Asks.{same_least, same_held, asks_alike, asks_keep_notes, ask_holds}
 use Rattle.gx_events.proofs.Follow.{Follows, as_one, session_here, quiet, inserts_follow, deletes_follow, present_follows, absent_follows, finds_follow, closes_follow, seals_follow, durable_follows, acknowledges_follow, undoes_follow, restored_follows}
@@ -44,7 +44,7 @@ older_place oldest older number low high = omega arith
 
 module _ {B : Type 0} (k : Keys B) (l : IsLawful k) where
   module _ (old : Engine B) (m : Machine B) (i : IsSound k old) (seen : SeenAs k old m) where
-    -- the engine as it is
+    -- the unchanged engine
     stays : (step : runs.Step B) (new : Engine B) → IsSame new old → runs.IsStep k m step m → Follows k m step new
     stays step new same is_step = as_one k l m step new old same (record { next = m; is_step = is_step; seen = seen; holds = i.holds; in_order = i.in_order })
 
@@ -185,7 +185,7 @@ module _ {B : Type 0} (k : Keys B) (l : IsLawful k) where
         }
 
     -- each event is its step
-    pub event_follows : (event : Event B) (new : Engine B) → IsEvent k old event new → Follows k m (step_of event) new
+    pub event_follows : (event : Happening B) (new : Engine B) → IsHappening k old event new → Follows k m (step_of event) new
     event_follows (events.Asks s call given) new h =
         as_one k l m (runs.Asks s call given) new (ask k s call old).1 h.2 (ask_by s call given (is_session s) refl h.0 h.1)
     event_follows (events.RefusesAsk s call why) new h = ask_refused s call why new h

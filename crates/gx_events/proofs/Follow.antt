@@ -25,7 +25,7 @@ use Rattle.gx_machine.proofs.SetsByTests.{set_of_its_members, set_of_a_test_that
 use Rattle.gx_machine.proofs.SessionMoves.{insert_answered, delete_answered, commit_answered}
 use Rattle.gx_events.specs.Slots.{Note, Slot, Free, Working, Undoing, Waiting, locks_held, notes_kept, slot_at, with_slot, noted, noted_in}
 use Rattle.gx_events.specs.Engines.{Engine, SeenAs, IsSound, HoldsItsLocks, IsSame, stood, last_number, changes_of, session_of}
-use Rattle.gx_events.specs.Events.{marked, slotted, IsWritten, IsClosed, IsSealed, IsDurable, IsAcknowledged, IsUndone, IsRestored}
+use Rattle.gx_events.specs.Happenings.{marked, slotted, IsWritten, IsClosed, IsSealed, IsDurable, IsAcknowledged, IsUndone, IsRestored}
 use Rattle.gx_events.proofs.Options.{true_or_false, or_left, or_right, viewed, and_agree}
 use Rattle.gx_events.proofs.Places.{slot_set, session_of_slot, sessions_with, sessions_alike}
 use Rattle.gx_events.proofs.Noted.{has_noted}
@@ -58,7 +58,7 @@ module _ {B : Type 0} (k : Keys B) (l : IsLawful k) where
           | inr p ↦ subst (HoldsItsLocks k) (sym p.1) (i.holds a)
         ]
 
-    -- one slot changed and perhaps what is live, with what stood as before
+    -- one slot changed and perhaps what is live, with the same committed set
     moved : (step : runs.Step B) (s : ℕ) (x : Slot B) (live : Entry B → Bool) (y : Session B) → is_session s ≡ true → HoldsItsLocks k x → session_of k live x ≡ y
         → ((a : ℕ) → a ≢ s → session_of k live (slot_at a old.slots) ≡ session_of k old.live (slot_at a old.slots))
         → ((e : Entry B) → unwrap_or (noted_in k e (with_slot s x old.slots)) (live e) ≡ stood k old e)

@@ -13,7 +13,7 @@ use Rattle.gx_machine.proofs.SetLaws.{same_is}
 use Rattle.gx_machine.proofs.Places.{session_bounds}
 use Rattle.gx_events.specs.Slots.{Note, Slot, Free, Working, Undoing, Waiting, locks_held, notes_kept, slot_at, with_slot, entries_of, noted, noted_in}
 use Rattle.gx_events.specs.Engines.{Engine, IsSound, HoldsItsLocks, stood, session_of}
-use Rattle.gx_events.specs.Events.{marked}
+use Rattle.gx_events.specs.Happenings.{marked}
 use Rattle.gx_events.proofs.Options.{some_or_none, true_or_false, not_both, uncovered, or_left}
 use Rattle.gx_events.proofs.Places.{by_place, set_itself, place_below}
 use Rattle.gx_events.proofs.Noted.{none_noted, noted_set, of_another}
@@ -109,7 +109,7 @@ module _ {B : Type 0} (k : Keys B) (l : IsLawful k) where
           sym (ap (noted_in k e) (set_itself s engine.slots is))
           ∙ noted_with (slot_at s engine.slots) (noted_is_claimed (slot_at s engine.slots) (i.holds s)) e
 
-      -- what no other has noted stood as this session's note says, or as it is
+      -- what no other session has noted was as this session's note says, or else is unchanged
       pub stood_own : (e : Entry B) → of_others k engine s e ≡ None → stood k engine e ≡ unwrap_or (of_own k engine s e) (engine.live e)
       stood_own e none = ap (λ o. unwrap_or o (engine.live e)) (noted_now e ∙ ap (λ o. option_or o (of_own k engine s e)) none)
 

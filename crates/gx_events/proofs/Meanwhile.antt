@@ -9,9 +9,9 @@ use Rattle.gx_machine.specs.Sessions.{Locks, write_conflicts}
 use Rattle.gx_machine.specs.Machine.{Machine}
 use Rattle.gx_events.specs.Slots.{Note, Slot, Working, locks_held, slot_at}
 use Rattle.gx_events.specs.Engines.{Engine, SeenAs, IsSound, HoldsItsLocks}
-use Rattle.gx_events.specs.Events.{Event, step_of}
+use Rattle.gx_events.specs.Happenings.{Happening, step_of}
 use Rattle.gx_events.specs.Kinds.{is_of_another}
-use Rattle.gx_events.specs.Runs.{AreEvents}
+use Rattle.gx_events.specs.Runs.{AreHappenings}
 use Rattle.gx_events.specs.Wants.{LeavesSession}
 use Rattle.gx_events.proofs.Apart.{event_leaves}
 use Rattle.gx_events.proofs.Follow.{Follows, match_bars}
@@ -19,7 +19,7 @@ use Rattle.gx_events.proofs.Faults.{event_follows}
 use Rattle.gx_events.proofs.EventRuns.{still_sound}
 
 module _ {B : Type 0} (k : Keys B) (l : IsLawful k) (s : ℕ) where
-  abbrev Others : Event B → Type 0
+  abbrev Others : Happening B → Type 0
   Others event = is_of_another s event ≡ true
 
   left_twice : (old middle new : Engine B) → LeavesSession k s old middle → LeavesSession k s middle new → LeavesSession k s old new
@@ -28,7 +28,7 @@ module _ {B : Type 0} (k : Keys B) (l : IsLawful k) (s : ℕ) where
     live = λ e barred. later.live e (ap (λ (x : Slot B). write_conflicts k e (locks_held x)) first.slot ∙ barred) ∙ first.live e barred;
   }
 
-  pub events_leave : (events : List (Event B)) (old new : Engine B) (m : Machine B) → IsSound k old → SeenAs k old m → AreEvents k old events new
+  pub events_leave : (events : List (Happening B)) (old new : Engine B) (m : Machine B) → IsSound k old → SeenAs k old m → AreHappenings k old events new
       → All Others events → LeavesSession k s old new
   events_leave [] old new m i seen same others =
       subst (LeavesSession k s old) (sym same) (record { slot = refl; live = λ e barred. refl })
@@ -38,7 +38,7 @@ module _ {B : Type 0} (k : Keys B) (l : IsLawful k) (s : ℕ) where
       (events_leave events run.0 new f.next (still_sound k l old run.0 m (step_of event) i seen f) f.seen run.2 (All-tail Others event events others))
 
   -- what an open search matches stays as live as it was
-  pub match_stays : (events : List (Event B)) (old new : Engine B) (m : Machine B) → (i : IsSound k old) → (seen : SeenAs k old m) → AreEvents k old events new
+  pub match_stays : (events : List (Happening B)) (old new : Engine B) (m : Machine B) → (i : IsSound k old) → (seen : SeenAs k old m) → AreHappenings k old events new
       → All Others events → (locks : Locks B) (notes : List (Note B)) (query : Query B) → slot_at s old.slots ≡ Working locks notes (Some (Search query))
       → (e : Entry B) → matches k query e ≡ true → new.live e ≡ old.live e
   match_stays events old new m i seen run others locks notes query at e is =

@@ -27,7 +27,7 @@ pub or_right : (a b : Bool) → b ≡ true → (a || b) ≡ true
 or_right true b h = refl
 or_right false b h = h
 
--- of two marks of which one isn't there, the order tells nothing
+-- of two marks of which one doesn't exist, the order says nothing
 pub swapped : (a b : Option Bool) → (a ≡ None) ⊎ (b ≡ None) → option_or b a ≡ option_or a b
 swapped None None h = refl
 swapped None (Some y) h = refl
@@ -62,7 +62,7 @@ sealed_view (Some w) None true h = refl
 sealed_view (Some w) None false h = refl
 sealed_view (Some w) (Some v) live h = elim h [ inl p ↦ cc | inr p ↦ cc ]
 
--- a write with its note changes nothing that stood
+-- a write with its note doesn't change the committed set
 pub write_stands : (rest own : Option Bool) (same now live : Bool) → (same ≡ true → live ≡ not now)
     → unwrap_or (option_or rest (option_or own (if same then Some (not now) else None))) (if same then now else live)
     ≡ unwrap_or (option_or rest own) live

@@ -16,9 +16,9 @@ use Rattle.gx_machine.specs.Invariants.{Apart}
 use Rattle.gx_machine.specs.Runs as runs
 use Rattle.gx_events.specs.Slots.{Note, Free, locks_held, slot_at, noted_in}
 use Rattle.gx_events.specs.Engines.{Engine, SeenAs, IsSound, HoldsItsLocks, last_number, stood, kept, session_of, sessions_of}
-use Rattle.gx_events.specs.Events as events
-use Rattle.gx_events.specs.Events.{Event, IsEvent, IsOpened, step_of}
-use Rattle.gx_events.specs.Runs.{AreEvents, RunsAs}
+use Rattle.gx_events.specs.Happenings as events
+use Rattle.gx_events.specs.Happenings.{Happening, IsHappening, IsOpened, step_of}
+use Rattle.gx_events.specs.Runs.{AreHappenings, RunsAs}
 use Rattle.gx_events.specs.Losers.{loser_locks, loser_slot, loser_session, loser_at, AreLosers, IsReopened, losing_machine, is_of_opening}
 use Rattle.gx_events.proofs.Follow.{Follows}
 use Rattle.gx_events.proofs.Faults.{event_follows, kept_set}
@@ -95,10 +95,10 @@ record Keeps {B : Type 0} (k : Keys B) (old new : Engine B) : Type 0 where
   failed : new.failed ≡ old.failed
 
 module _ {B : Type 0} (k : Keys B) (l : IsLawful k) where
-  abbrev OfOpening : Event B → Type 0
+  abbrev OfOpening : Happening B → Type 0
   OfOpening event = is_of_opening event ≡ true
 
-  event_keeps : (event : Event B) (old new : Engine B) → IsSound k old → IsEvent k old event new → is_of_opening event ≡ true → Keeps k old new
+  event_keeps : (event : Happening B) (old new : Engine B) → IsSound k old → IsHappening k old event new → is_of_opening event ≡ true → Keeps k old new
   event_keeps (events.Undoes s x) old new i h is =
       record { stands = event_stood k l old i (events.Undoes s x) new h refl; older = h.is.older; oldest = h.is.oldest; failed = h.is.failed }
   event_keeps (events.EndsUndo s) old new i h is =
@@ -128,7 +128,7 @@ module _ {B : Type 0} (k : Keys B) (l : IsLawful k) where
     failed = later.failed ∙ first.failed;
   }
 
-  undo_keeps : (list : List (Event B)) (old new : Engine B) (m : Machine B) → IsSound k old → SeenAs k old m → AreEvents k old list new
+  undo_keeps : (list : List (Happening B)) (old new : Engine B) (m : Machine B) → IsSound k old → SeenAs k old m → AreHappenings k old list new
       → All OfOpening list → Keeps k old new
   undo_keeps [] old new m i seen same all =
       subst (Keeps k old) (sym same) (record { stands = λ e. refl; older = refl; oldest = refl; failed = refl })
@@ -145,7 +145,7 @@ module _ {B : Type 0} (k : Keys B) (l : IsLawful k) where
     pub reopened_as : SeenAs k middle (losing_machine number (machine.set_of number m) losers)
     reopened_as = reopened_seen k number losers (machine.set_of number m) old middle left r
 
-    module _ (new : Engine B) (are : AreLosers k losers) (list : List (Event B)) (run : AreEvents k middle list new) (all : All OfOpening list) (free : new.slots ≡ replicate SESSIONS Free) where
+    module _ (new : Engine B) (are : AreLosers k losers) (list : List (Happening B)) (run : AreHappenings k middle list new) (all : All OfOpening list) (free : new.slots ≡ replicate SESSIONS Free) where
       -- undone and ended, it is opened
       pub reopened_opens : IsOpened k number old new
       reopened_opens =
@@ -165,7 +165,7 @@ module _ {B : Type 0} (k : Keys B) (l : IsLawful k) where
       reopened_run = run_follows k l (events.Opens number ∷ []) old new m i seen (new, reopened_opens, refl)
 
     -- a crash in the midst of it, and another opening, are one opening of what was lost first
-    module _ (list : List (Event B)) (cut : Engine B) (are : AreLosers k losers) (run : AreEvents k middle list cut) (all : All OfOpening list)
+    module _ (list : List (Happening B)) (cut : Engine B) (are : AreLosers k losers) (run : AreHappenings k middle list cut) (all : All OfOpening list)
         (again : ℕ) (left_over : List (List (Note B))) (new : Engine B) (r2 : IsReopened k again left_over cut new) where
       kept_on : Keeps k middle cut
       kept_on = undo_keeps list middle cut (losing_machine number (machine.set_of number m) losers) (reopened_sound k losers middle are r.slots r.older) reopened_as run all

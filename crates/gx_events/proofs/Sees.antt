@@ -14,7 +14,7 @@ use Rattle.gx_machine.proofs.SessionMoves.{same_itself}
 use Rattle.gx_machine.proofs.SetsByTests.{same_members_are_one_list, set_that_is_gathered, set_that_is_viewed}
 use Rattle.gx_events.specs.Slots.{Note, Slot, Free, Working, Undoing, Waiting, locks_held, notes_kept, entries_of, noted, WithNote}
 use Rattle.gx_events.specs.Engines.{gathered, changes_of, session_of}
-use Rattle.gx_events.specs.Events.{marked}
+use Rattle.gx_events.specs.Happenings.{marked}
 use Rattle.gx_events.proofs.Options.{or_left, or_right, inserted_added, inserted_taken, deleted_added, deleted_taken}
 use Rattle.gx_events.proofs.Noted.{noted_has, has_with_note}
 

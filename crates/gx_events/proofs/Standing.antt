@@ -1,4 +1,4 @@
--- What stood, event by event.
+-- The committed set, event by event.
 use Rattle.std.proofs.Common.{◌≡◌, ℕ, Bool, true, not, ◌&&◌, ◌||◌, ◌⊎◌, inl, inr, List, [], ◌∷◌, ◌++◌, Option, Some, None, ap, sym, ◌∙◌, subst}
 use Rattle.std.specs.Prelude.{is_some, unwrap_or}
 use Rattle.std.specs.Option.{option_or}
@@ -14,7 +14,7 @@ use Rattle.gx_machine.proofs.SetLaws.{same_is}
 use Rattle.gx_machine.proofs.SessionMoves.{or_either}
 use Rattle.gx_events.specs.Slots.{Note, Slot, Free, Working, Undoing, Waiting, locks_held, notes_kept, slot_at, with_slot, entries_of, noted, noted_in}
 use Rattle.gx_events.specs.Engines.{Engine, IsSound, HoldsItsLocks, IsSame, stood}
-use Rattle.gx_events.specs.Events.{marked, IsWritten, IsSealed, IsUndone, IsRestored}
+use Rattle.gx_events.specs.Happenings.{marked, IsWritten, IsSealed, IsUndone, IsRestored}
 use Rattle.gx_events.proofs.Options.{sealed_view, write_stands, undo_stands, end_stands, or_nothing, some_either}
 use Rattle.gx_events.proofs.Places.{is_there}
 use Rattle.gx_events.proofs.Noted.{has_with_note}
@@ -43,7 +43,7 @@ module _ {B : Type 0} (k : Keys B) (l : IsLawful k) (old : Engine B) (i : IsSoun
   pub waiting_there : (s number : ℕ) → slot_at s old.slots ≡ Waiting number → is_session s ≡ true
   waiting_there s number at = busy_slot s (Waiting number) at (λ p. cc)
 
-  -- what stood, by the notes of one slot
+  -- the committed set, by the notes of one slot
   pub stood_by : (s : ℕ) (x : Slot B) → is_session s ≡ true → slot_at s old.slots ≡ x → (e : Entry B)
       → stood k old e ≡ unwrap_or (option_or (of_others k old s e) (noted k e (notes_kept x))) (old.live e)
   stood_by s x is at e =
@@ -101,7 +101,7 @@ module _ {B : Type 0} (k : Keys B) (l : IsLawful k) (old : Engine B) (i : IsSoun
     pub one_noted : (e : Entry B) → (of_others k old s e ≡ None) ⊎ (noted k e c.notes ≡ None)
     one_noted e = subst (λ (x : Slot B). (of_others k old s e ≡ None) ⊎ (noted k e (notes_kept x) ≡ None)) c.asked (rest_or_own k l old i s sealed_there e)
 
-    -- what stands later is what others noted, or else what is live
+    -- the committed set later is what others noted, or else what is live
     pub sealed_noted : (e : Entry B) → stood k sealed_engine e ≡ unwrap_or (of_others k old s e) (old.live e)
     sealed_noted e =
         let covered : Covered k [] c.locks.claims = λ x h. cc in

@@ -17,9 +17,9 @@ use Rattle.gx_machine.proofs.Transactions.{sealed_is}
 use Rattle.gx_events.specs.Slots as slots
 use Rattle.gx_events.specs.Slots.{Slot, slot_at}
 use Rattle.gx_events.specs.Engines.{Engine, IsSound, SeenAs, session_of}
-use Rattle.gx_events.specs.Events as laws
-use Rattle.gx_events.specs.Events.{IsEvent, step_of}
-use Rattle.gx_events.specs.Runs.{AreEvents}
+use Rattle.gx_events.specs.Happenings as laws
+use Rattle.gx_events.specs.Happenings.{IsHappening, step_of}
+use Rattle.gx_events.specs.Runs.{AreHappenings}
 use Rattle.gx_events.proofs.Places.{session_of_slot}
 use Rattle.gx_events.proofs.Follow.{Follows}
 use Rattle.gx_events.proofs.Faults.{event_follows}
@@ -61,17 +61,17 @@ module _ {B : Type 0} (k : Keys B) where
 
   module _ (l : IsLawful k) (old : Engine B) (sound : IsSound k old) (m : Machine B) (seen : SeenAs k old m) where
     -- one event, and none
-    one : (event : laws.Event B) (new : Engine B) → AreEvents k old (event ∷ []) new → Follows k m (step_of event) new
+    one : (event : laws.Happening B) (new : Engine B) → AreHappenings k old (event ∷ []) new → Follows k m (step_of event) new
     one event new are = subst (λ (x : Engine B). Follows k m (step_of event) x) (sym are.2) (event_follows k l old m sound seen event are.0 are.1)
 
     -- what came before it decides nothing
-    just : (event : laws.Event B) (events : List (laws.Event B)) (new : Engine B) → IsJust event events → AreEvents k old events new → AreEvents k old (event ∷ []) new
-    just event events new (inl is) are = subst (λ (es : List (laws.Event B)). AreEvents k old es new) is are
+    just : (event : laws.Happening B) (events : List (laws.Happening B)) (new : Engine B) → IsJust event events → AreHappenings k old events new → AreHappenings k old (event ∷ []) new
+    just event events new (inl is) are = subst (λ (es : List (laws.Happening B)). AreHappenings k old es new) is are
     just event events new (inr is) are =
-        let both : AreEvents k old (laws.Works ∷ event ∷ []) new = subst (λ (es : List (laws.Event B)). AreEvents k old es new) is are in
-        subst (λ (x : Engine B). AreEvents k x (event ∷ []) new) (is_one both.0 old both.1) both.2
+        let both : AreHappenings k old (laws.Works ∷ event ∷ []) new = subst (λ (es : List (laws.Happening B)). AreHappenings k old es new) is are in
+        subst (λ (x : Engine B). AreHappenings k x (event ∷ []) new) (is_one both.0 old both.1) both.2
 
-    none : (new : Engine B) → AreEvents k old [] new → SeenAs k new m
+    none : (new : Engine B) → AreHappenings k old [] new → SeenAs k new m
     none new are = subst (λ (x : Engine B). SeenAs k x m) (sym are) seen
 
     working : old.failed ≡ false → m.failed ≡ false
@@ -81,20 +81,20 @@ module _ {B : Type 0} (k : Keys B) where
       abbrev Told : (Machine B → Type 0) → Type 0
       Told P = (n : Machine B) × P n × SeenAs k new n
 
-      asks : (s : ℕ) (call : Call B) (outcome : Outcome B) (events : List (laws.Event B)) → IsAsk s call old.failed outcome events → AreEvents k old events new
+      asks : (s : ℕ) (call : Call B) (outcome : Outcome B) (events : List (laws.Happening B)) → IsAsk s call old.failed outcome events → AreHappenings k old events new
           → Told (AskHappens k s call m outcome)
       asks s call (Replied r) events (inl is) are =
-          let f = one (laws.Asks s call (asked.Now r)) new (subst (λ es. AreEvents k old es new) is are) in
+          let f = one (laws.Asks s call (asked.Now r)) new (subst (λ es. AreHappenings k old es new) is are) in
           (f.next, inl f.is_step, f.seen)
       asks s call (Replied r) events (inr (inl is)) are =
-          let f = one (laws.RefusesAsk s call refusal.Failed) new (subst (λ es. AreEvents k old es new) is.2 are) in
+          let f = one (laws.RefusesAsk s call refusal.Failed) new (subst (λ es. AreHappenings k old es new) is.2 are) in
           let had : m.failed ≡ true = seen.failed ∙ is.0 in
           (f.next, subst (λ (x : Reply B). AskHappens k s call m (Replied x) f.next) (sym is.1) (inr (had, fails_again m f.next had f.is_step)), f.seen)
       asks s call (Replied r) events (inr (inr is)) are =
-          let f = one (laws.RefusesAsk s call refusal.HistoryFull) new (subst (λ es. AreEvents k old es new) is.1 are) in
+          let f = one (laws.RefusesAsk s call refusal.HistoryFull) new (subst (λ es. AreHappenings k old es new) is.1 are) in
           (f.next, subst (λ (x : Reply B). AskHappens k s call m (Replied x) f.next) (sym is.0) (inr (begins_alone k s call m f.is_step.1, f.is_step)), f.seen)
       asks s call More events is are =
-          let f = one (laws.Asks s call asked.Open) new (subst (λ es. AreEvents k old es new) is are) in
+          let f = one (laws.Asks s call asked.Open) new (subst (λ es. AreHappenings k old es new) is are) in
           (f.next, f.is_step, f.seen)
       asks s call (Help need) events is are = absurd is
       asks s call Nothing events is are = absurd is
@@ -107,7 +107,7 @@ module _ {B : Type 0} (k : Keys B) where
           (f.next, subst (λ (x : Reply B). Ends k s x m f.next) (sym is) (ends f.next (subst (λ (x : ℕ). IsStep k m (runs.Answers x given) f.next) same f.is_step)), f.seen)
 
       -- the call that is closed is open in the machine too
-      lacks_there : (s t : ℕ) (call : Call B) (why : Refusal) → t ≡ s → may_lack why call ≡ true → AreEvents k old (laws.Closes t call why ∷ []) new
+      lacks_there : (s t : ℕ) (call : Call B) (why : Refusal) → t ≡ s → may_lack why call ≡ true → AreHappenings k old (laws.Closes t call why ∷ []) new
           → Lacks why (session_at s m.sessions)
       lacks_there s t call why same lacks are =
           let closes = are.1.1 in
@@ -134,7 +134,7 @@ module _ {B : Type 0} (k : Keys B) where
           by refusal.Failed had step = (step.0, (had refl, fails_again m f.next (had refl) step.1))
           by other had step = absurd step.1
 
-      ends : (s : ℕ) (r : Reply B) (event : laws.Event B) → IsEnd s old.failed r event → AreEvents k old (event ∷ []) new → Told (Ends k s r m)
+      ends : (s : ℕ) (r : Reply B) (event : laws.Happening B) → IsEnd s old.failed r event → AreHappenings k old (event ∷ []) new → Told (Ends k s r m)
       ends s r (laws.Inserts t e) is are = answered s t r reply.Inserted is.0 is.1 (one (laws.Inserts t e) new are) (λ n step. step)
       ends s r (laws.Deletes t e) is are = answered s t r reply.Deleted is.0 is.1 (one (laws.Deletes t e) new are) (λ n step. step)
       ends s r (laws.FindsPresent t e) is are = answered s t r (reply.Refused refusal.Present) is.0 is.1 (one (laws.FindsPresent t e) new are) (λ n step. step)
@@ -158,7 +158,7 @@ module _ {B : Type 0} (k : Keys B) where
           let sealed = sealed_is k t number m n (machine_apart k l old m sound seen).eight step.1 step.2 in
           subst (λ (x : ℕ). IsStep k m (runs.Seals s x) n) (sym sealed.newest_is) (subst (λ (x : ℕ). IsStep k m (runs.Seals x number) n) same step)
 
-      goes_on : (s : ℕ) (event : laws.Event B) → old.failed ≡ false → GoesOn s event → AreEvents k old (event ∷ []) new → Told (MoveHappens k s m More)
+      goes_on : (s : ℕ) (event : laws.Happening B) → old.failed ≡ false → GoesOn s event → AreHappenings k old (event ∷ []) new → Told (MoveHappens k s m More)
       goes_on s (laws.Seals t set number) works is are =
           let f = one (laws.Seals t set number) new are in (f.next, inr (seals s t number f.next is f.is_step), f.seen)
       goes_on s (laws.Undoes t e) works is are = let f = one (laws.Undoes t e) new are in (f.next, inl (working works, f.is_step), f.seen)
@@ -178,43 +178,43 @@ module _ {B : Type 0} (k : Keys B) where
       goes_on s laws.Fails works is are = absurd is
       goes_on s (laws.Opens number) works is are = absurd is
 
-      stays : (events : List (laws.Event B)) → old.failed ≡ false → events ≡ [] → AreEvents k old events new → Told (λ n. (m.failed ≡ false) × (n ≡ m))
-      stays events works is are = (m, (working works, refl), none new (subst (λ es. AreEvents k old es new) is are))
+      stays : (events : List (laws.Happening B)) → old.failed ≡ false → events ≡ [] → AreHappenings k old events new → Told (λ n. (m.failed ≡ false) × (n ≡ m))
+      stays events works is are = (m, (working works, refl), none new (subst (λ es. AreHappenings k old es new) is are))
 
-      moves : (s : ℕ) (outcome : Outcome B) (events : List (laws.Event B)) → IsMove s old outcome events → AreEvents k old events new → Told (MoveHappens k s m outcome)
+      moves : (s : ℕ) (outcome : Outcome B) (events : List (laws.Happening B)) → IsMove s old outcome events → AreHappenings k old events new → Told (MoveHappens k s m outcome)
       moves s (Replied r) events is are = ends s r is.0 is.2 (just is.0 events new is.1 are)
-      moves s More events is are = goes_on s is.1.0 is.0 is.1.2 (subst (λ es. AreEvents k old es new) is.1.1 are)
+      moves s More events is are = goes_on s is.1.0 is.0 is.1.2 (subst (λ es. AreHappenings k old es new) is.1.1 are)
       moves s (Help need) events is are = stays events is.0 is.1 are
       moves s Nothing events is are = absurd is
-      moves s (Refused refusal.BadSession) events is are = (m, (is.0, refl), none new (subst (λ es. AreEvents k old es new) is.1 are))
+      moves s (Refused refusal.BadSession) events is are = (m, (is.0, refl), none new (subst (λ es. AreHappenings k old es new) is.1 are))
       moves s (Refused refusal.NoCall) events is are =
-          (m, ((is.0, open_alike old m seen s ∙ is.1), refl), none new (subst (λ es. AreEvents k old es new) is.2 are))
+          (m, ((is.0, open_alike old m seen s ∙ is.1), refl), none new (subst (λ es. AreHappenings k old es new) is.2 are))
       moves s (Refused other) events is are = absurd is
 
-      works_on : (outcome : Outcome B) (events : List (laws.Event B)) → IsWork old.failed outcome events → AreEvents k old events new → Told (WorkHappens m outcome)
+      works_on : (outcome : Outcome B) (events : List (laws.Happening B)) → IsWork old.failed outcome events → AreHappenings k old events new → Told (WorkHappens m outcome)
       works_on (Replied r) events is are = absurd is
       works_on More events is are =
-          let f = one laws.Works new (subst (λ es. AreEvents k old es new) is.1 are) in (f.next, (working is.0, f.is_step), f.seen)
+          let f = one laws.Works new (subst (λ es. AreHappenings k old es new) is.1 are) in (f.next, (working is.0, f.is_step), f.seen)
       works_on (Help need) events is are = stays events is.0 is.1 are
       works_on Nothing events is are = stays events is.0 is.1 are
       works_on (Refused refusal.Device) events is are = let f = one laws.Fails new (just laws.Fails events new is.1 are) in (f.next, (working is.0, f.is_step), f.seen)
-      works_on (Refused refusal.Failed) events is are = (m, (seen.failed ∙ is.0, refl), none new (subst (λ es. AreEvents k old es new) is.1 are))
+      works_on (Refused refusal.Failed) events is are = (m, (seen.failed ∙ is.0, refl), none new (subst (λ es. AreHappenings k old es new) is.1 are))
       works_on (Refused other) events is are = absurd is
 
-      syncs : (outcome : Outcome B) (events : List (laws.Event B)) → IsSync old.failed outcome events → AreEvents k old events new → Told (SyncHappens k m outcome)
-      syncs More events (works, inl is) are = (m, durable_again m (working works), none new (subst (λ es. AreEvents k old es new) is are))
+      syncs : (outcome : Outcome B) (events : List (laws.Happening B)) → IsSync old.failed outcome events → AreHappenings k old events new → Told (SyncHappens k m outcome)
+      syncs More events (works, inl is) are = (m, durable_again m (working works), none new (subst (λ es. AreHappenings k old es new) is are))
       syncs More events (works, inr (inl is)) are =
-          let f = one laws.Works new (subst (λ es. AreEvents k old es new) is are) in
+          let f = one laws.Works new (subst (λ es. AreHappenings k old es new) is are) in
           (f.next, subst (λ (x : Machine B). IsStep k m (runs.Durable x.oldest) x) (sym f.is_step) (durable_again m (working works)), f.seen)
       syncs More events (works, inr (inr (number, is))) are =
-          let f = one (laws.Durable number) new (subst (λ es. AreEvents k old es new) is are) in
+          let f = one (laws.Durable number) new (subst (λ es. AreHappenings k old es new) is are) in
           (f.next, subst (λ (x : ℕ). IsStep k m (runs.Durable x) f.next) (sym (ap (λ (y : Machine B). y.oldest) f.is_step.3)) f.is_step, f.seen)
       syncs (Replied r) events is are = absurd is
       syncs (Help need) events is are = works_on (Help need) events is are
       syncs Nothing events is are = works_on Nothing events is are
       syncs (Refused why) events is are = works_on (Refused why) events is are
 
-      pub happens : (event : Event B) (outcome : Outcome B) (events : List (laws.Event B)) → AreOf old event outcome events → AreEvents k old events new → Told (Happens k m event outcome)
+      pub happens : (event : Event B) (outcome : Outcome B) (events : List (laws.Happening B)) → AreOf old event outcome events → AreHappenings k old events new → Told (Happens k m event outcome)
       happens (Ask s call) outcome events is are = asks s call outcome events is are
       happens (Move s) outcome events is are = moves s outcome events is are
       happens LogStep outcome events is are = syncs outcome events is are

@@ -1,4 +1,4 @@
--- One machine for an engine; a new engine; what looks find; what stood.
+-- One machine for an engine; a new engine; what looks find; the committed set.
 use Rattle.std.proofs.Common.{◌≡◌, ℕ, Bool, true, false, ◌&&◌, List, Some, refl, ap, sym, ◌∙◌, subst}
 use Rattle.std.proofs.lemmas.List.Elements.{All-nil}
 use Rattle.gx_machine.specs.declared.entry.Entry.{Entry}
@@ -12,7 +12,7 @@ use Rattle.gx_machine.specs.Runs.{IsStep}
 use Rattle.gx_machine.proofs.SetsByTests.{one_set_of_a_test, set_that_is_gathered}
 use Rattle.gx_events.specs.Slots.{Note, Slot, Working, locks_held, slot_at}
 use Rattle.gx_events.specs.Engines.{Engine, SeenAs, IsSound, HoldsItsLocks, opened_engine, opened_machine, stood, gathered, changes_of}
-use Rattle.gx_events.specs.Events.{Event, IsEvent, step_of}
+use Rattle.gx_events.specs.Happenings.{Happening, IsHappening, step_of}
 use Rattle.gx_events.specs.Wants.{HasLooked}
 use Rattle.gx_events.proofs.Places.{slot_free}
 use Rattle.gx_events.proofs.Follow.{Follows, finds_live}
@@ -57,7 +57,7 @@ module _ {B : Type 0} (k : Keys B) where
         let failed : m.failed ≡ n.failed = x.failed ∙ sym y.failed in
         λ i. record { older = older i; latest = latest i; oldest = oldest i; sessions = sessions i; failed = failed i }
 
-    pub event_is_step : (old new : Engine B) (m n : Machine B) (event : Event B) → IsSound k old → SeenAs k old m → IsEvent k old event new → SeenAs k new n
+    pub event_is_step : (old new : Engine B) (m n : Machine B) (event : Happening B) → IsSound k old → SeenAs k old m → IsHappening k old event new → SeenAs k new n
         → IsStep k m (step_of event) n
     event_is_step old new m n event i seen is then_seen =
         let f : Follows k m (step_of event) new = event_follows k l old m i seen event new is in

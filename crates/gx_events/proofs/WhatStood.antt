@@ -1,4 +1,4 @@
--- What stood changes by commits and openings alone; and what a failed engine does.
+-- Only commits and openings change the committed set; and what a failed engine does.
 use Rattle.std.proofs.Common.{◌≡◌, ℕ, ◌-◌, Bool, true, false, ◌⊎◌, inl, inr, List, [], ◌∷◌, ◌++◌, Option, Some, None, refl, ap, sym, ◌∙◌, subst, lt_irrefl, ltb-true}
 use Rattle.std.specs.Prelude.{if◌then◌else◌, is_some, unwrap_or, nat_lt, drop}
 use Rattle.std.specs.List.{slice_index_or}
@@ -17,8 +17,8 @@ use Rattle.gx_machine.specs.Machine.{is_session}
 use Rattle.gx_events.specs.Slots.{Slot, Free, Working, Waiting, notes_kept, slot_at, with_slot, noted, noted_in}
 use Rattle.gx_events.specs.Engines.{Engine, IsSound, HoldsItsLocks, IsSame, stood, kept, last_number}
 use Rattle.gx_events.specs.Asking.{least_barring, claims_held, ask_in, ask}
-use Rattle.gx_events.specs.Events as events
-use Rattle.gx_events.specs.Events.{Event, IsEvent, marked, slotted, failed_engine, IsWritten, IsClosed, IsSealed, IsOpened, MeetsFault, AskRefused}
+use Rattle.gx_events.specs.Happenings as events
+use Rattle.gx_events.specs.Happenings.{Happening, IsHappening, marked, slotted, failed_engine, IsWritten, IsClosed, IsSealed, IsOpened, MeetsFault, AskRefused}
 use Rattle.gx_events.specs.Kinds.{changes_what_stood, may_follow_failure, is_opening}
 use Rattle.gx_events.proofs.Locking.{of_others}
 use Rattle.gx_events.proofs.Asks.{asks_keep_notes}
@@ -37,7 +37,7 @@ not_below n true h = absurd (lt_irrefl n (ltb-true n n h))
 not_below n false h = refl
 
 module _ {B : Type 0} (k : Keys B) where
-  -- an engine that decides as another stood as that one
+  -- an engine that decides as another has the same committed set
   stood_same : (new later : Engine B) → IsSame new later → (e : Entry B) → stood k new e ≡ stood k later e
   stood_same new later same e = ap (λ (n : Engine B). stood k n e) (is_one new later same)
 
@@ -86,7 +86,7 @@ module _ {B : Type 0} (k : Keys B) where
     refused_stood t call refusal.Failed new h e = stood_same new (failed_engine old) h e
     refused_stood t call other new h e = absurd h
 
-    pub event_stood : (event : Event B) (new : Engine B) → IsEvent k old event new → changes_what_stood event ≡ false → (e : Entry B) → stood k new e ≡ stood k old e
+    pub event_stood : (event : Happening B) (new : Engine B) → IsHappening k old event new → changes_what_stood event ≡ false → (e : Entry B) → stood k new e ≡ stood k old e
     event_stood (events.Asks t call given) new h keeps e = asked_stood t call new (is_session t) refl h.2 e
     event_stood (events.RefusesAsk t call why) new h keeps e = refused_stood t call why new h e
     event_stood (events.Inserts t x) new h keeps e = written_stood t (Insert x) x true new h (λ held. held.1) e
@@ -133,7 +133,7 @@ module _ {B : Type 0} (k : Keys B) where
     fault_kind s refusal.Failed h = refl
     fault_kind s other h = absurd h
 
-    pub failed_kind : (event : Event B) → IsEvent k old event new → may_follow_failure event ≡ true
+    pub failed_kind : (event : Happening B) → IsHappening k old event new → may_follow_failure event ≡ true
     failed_kind (events.Asks s call given) h = absurd (works_not h.0)
     failed_kind (events.RefusesAsk s call why) h = ask_kind s call why h
     failed_kind (events.Inserts s e) h = absurd (works_not h.works)
@@ -166,7 +166,7 @@ module _ {B : Type 0} (k : Keys B) where
     fault_same refusal.Failed h = still_failed h
     fault_same other h = absurd h
 
-    pub failed_same : (event : Event B) → IsEvent k old event new → is_opening event ≡ false → IsSame new old
+    pub failed_same : (event : Happening B) → IsHappening k old event new → is_opening event ≡ false → IsSame new old
     failed_same (events.Asks s call given) h shut = absurd (works_not h.0)
     failed_same (events.RefusesAsk s call why) h shut = ask_same s call why h
     failed_same (events.Inserts s e) h shut = absurd (works_not h.works)

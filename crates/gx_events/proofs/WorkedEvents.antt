@@ -17,8 +17,8 @@ use Rattle.gx_machine.proofs.SetsByTests.{set_of_its_members, set_that_is_found,
 use Rattle.gx_events.specs.Slots.{Note, Free, Working, Waiting, with_slot}
 use Rattle.gx_events.specs.Engines.{Engine, IsSame, stood}
 use Rattle.gx_events.specs.Asking.{ask}
-use Rattle.gx_events.specs.Events.{marked}
-use Rattle.gx_events.specs.Runs.{AreEvents}
+use Rattle.gx_events.specs.Happenings.{marked}
+use Rattle.gx_events.specs.Runs.{AreHappenings}
 use Rattle.gx_events.specs.Worked.{sought, passed_over, first_engine, last_engine, worked_events}
 
 pub lawful : IsLawful number_keys
@@ -130,14 +130,14 @@ finds_it =
     (λ e. ap (λ b. matches number_keys (Overlap 1) e && b) (two_marked (same_entry number_keys e sought) (same_entry number_keys e passed_over)))
     (set_that_is_found number_keys lawful (λ e. has number_keys e (sought ∷ passed_over ∷ [])) (Overlap 1) (sought ∷ passed_over ∷ []) both)
 
--- the commit's set is put behind what stood
+-- the commit's set is put behind the one before
 stands : IsSetOf number_keys (stood number_keys e10) (sought ∷ [])
 stands = record {
   in_order = (tt, tt);
   members = λ e. stood_before (same_entry number_keys e sought) (same_entry number_keys e passed_over) (not_the_other e);
 }
 
-pub worked : AreEvents number_keys first_engine worked_events last_engine
+pub worked : AreHappenings number_keys first_engine worked_events last_engine
 worked = (
   e1,
   (refl, refl, alike e1),

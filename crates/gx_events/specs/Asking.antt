@@ -23,11 +23,11 @@ least_barring k call s n (slot ∷ slots) =
 abbrev pub claims_held : {B : Type 0} → List (Slot B) → ℕ
 claims_held slots = sum_by (λ slot. length (locks_held slot).claims) slots
 
--- a call refused, with the slot as it was
+-- a call refused, with the slot unchanged
 abbrev pub refused : {B : Type 0} → Refusal → Slot B → Asked B × Slot B
 refused why slot = (asked.Now (reply.Refused why), slot)
 
--- a call that has its lock is open, and one that lacks it is refused
+-- a call that has its lock is open, and one without its lock is refused
 abbrev pub asked_with : {B : Type 0} → Call B → Result (Locks B) Refusal → Locks B → List (Note B) → Asked B × Slot B
 asked_with call (Ok locks) old notes = (asked.Open, Working locks notes (Some call))
 asked_with call (Err why) old notes = refused why (Working old notes None)

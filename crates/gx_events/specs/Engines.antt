@@ -37,8 +37,8 @@ opened_machine number set = record { older = []; latest = set; oldest = number; 
 abbrev pub last_number : {B : Type 0} → Engine B → ℕ
 last_number engine = engine.oldest + length engine.older
 
--- What stood, the last committed set: an entry that some transaction has written is in it where it was live before,
--- any other where it is live.
+-- The last committed set: an entry that some transaction has written is in it if it was live before, any other if it is
+-- live.
 abbrev pub stood : {B : Type 0} → Keys B → Engine B → Entry B → Bool
 stood k engine e = unwrap_or (noted_in k e engine.slots) (engine.live e)
 
@@ -69,7 +69,7 @@ session_of k live (Waiting number) = Committing number
 abbrev pub sessions_of : {B : Type 0} → Keys B → (Entry B → Bool) → List (Slot B) → List (Session B)
 sessions_of k live slots = map (session_of k live) slots
 
--- An engine is seen as a machine: the slots as its sessions, what stood as its last set, and the rest alike.
+-- An engine is seen as a machine: the slots as its sessions, the committed set as its last set, and the rest alike.
 pub record SeenAs {B : Type 0} (k : Keys B) (engine : Engine B) (m : Machine B) : Type 0 where
   pub sessions : m.sessions ≡ sessions_of k engine.live engine.slots
   pub latest : IsSetOf k (stood k engine) m.latest

@@ -1,11 +1,11 @@
--- Kinds of events: whose they are, which change what stood, which a failed engine may have.
+-- Kinds of events: whose they are, which change the committed set, which a failed engine may have.
 use Rattle.std.specs.Prelude.{ℕ, ◌==◌, Bool, true, false, not}
 use Rattle.gx_geom.specs.declared.refusal.Refusal.{Refusal}
 use Rattle.gx_geom.specs.declared.refusal.Refusal.TheVariants as refusal
-use Rattle.gx_events.specs.Events.{Event, Asks, RefusesAsk, Inserts, Deletes, FindsPresent, FindsAbsent, Finds, Closes, Seals, Durable, Acknowledges, Undoes, EndsUndo, RefusesCall, Fails, Opens, Works}
+use Rattle.gx_events.specs.Happenings.{Happening, Asks, RefusesAsk, Inserts, Deletes, FindsPresent, FindsAbsent, Finds, Closes, Seals, Durable, Acknowledges, Undoes, EndsUndo, RefusesCall, Fails, Opens, Works}
 
 -- the event isn't one of this session, and the engine isn't lost by it
-abbrev pub is_of_another : {B : Type 0} → ℕ → Event B → Bool
+abbrev pub is_of_another : {B : Type 0} → ℕ → Happening B → Bool
 is_of_another s (Asks t call given) = not (t == s)
 is_of_another s (RefusesAsk t call why) = not (t == s)
 is_of_another s (Inserts t e) = not (t == s)
@@ -24,8 +24,8 @@ is_of_another s Fails = true
 is_of_another s (Opens number) = false
 is_of_another s Works = true
 
--- the events that change what stood: a commit, and an opening
-abbrev pub changes_what_stood : {B : Type 0} → Event B → Bool
+-- the events that change the committed set: a commit, and an opening
+abbrev pub changes_what_stood : {B : Type 0} → Happening B → Bool
 changes_what_stood (Asks s call given) = false
 changes_what_stood (RefusesAsk s call why) = false
 changes_what_stood (Inserts s e) = false
@@ -50,7 +50,7 @@ is_failed refusal.Failed = true
 is_failed other = false
 
 -- the events that a failed engine may have
-abbrev pub may_follow_failure : {B : Type 0} → Event B → Bool
+abbrev pub may_follow_failure : {B : Type 0} → Happening B → Bool
 may_follow_failure (Asks s call given) = false
 may_follow_failure (RefusesAsk s call why) = is_failed why
 may_follow_failure (Inserts s e) = false
@@ -70,6 +70,6 @@ may_follow_failure (Opens number) = true
 may_follow_failure Works = true
 
 -- an opening
-abbrev pub is_opening : {B : Type 0} → Event B → Bool
+abbrev pub is_opening : {B : Type 0} → Happening B → Bool
 is_opening (Opens number) = true
 is_opening other = false

@@ -1,7 +1,7 @@
 pub mod Slots
 pub mod Engines
 pub mod Asking
-pub mod Events
+pub mod Happenings
 pub mod Runs
 pub mod Wants
 pub mod Kinds

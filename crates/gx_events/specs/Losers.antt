@@ -8,7 +8,7 @@ use Rattle.gx_machine.specs.Sessions.{Session, Idle, Aborting, Locks}
 use Rattle.gx_machine.specs.Machine.{Machine, is_session}
 use Rattle.gx_events.specs.Slots.{Note, Slot, Free, Undoing, entries_of}
 use Rattle.gx_events.specs.Engines.{Engine, last_number, stood, kept}
-use Rattle.gx_events.specs.Events.{Event, Asks, RefusesAsk, Inserts, Deletes, FindsPresent, FindsAbsent, Finds, Closes, Seals, Durable, Acknowledges, Undoes, EndsUndo, RefusesCall, Fails, Opens, Works}
+use Rattle.gx_events.specs.Happenings.{Happening, Asks, RefusesAsk, Inserts, Deletes, FindsPresent, FindsAbsent, Finds, Closes, Seals, Durable, Acknowledges, Undoes, EndsUndo, RefusesCall, Fails, Opens, Works}
 
 -- the session of such a transaction claims the entries that it noted
 abbrev pub loser_locks : {B : Type 0} → List (Note B) → Locks B
@@ -32,7 +32,8 @@ pub record AreLosers {B : Type 0} (k : Keys B) (losers : List (List (Note B))) :
   pub eight : length losers ≡ 8
   pub apart : (a b : ℕ) → a ≢ b → (e : Entry B) → has k e (entries_of (loser_at a losers)) ≡ true → has k e (entries_of (loser_at b losers)) ≡ false
 
--- An engine opened over the kept set of a number, with losers: what stood is that set, and each slot is free or undoes.
+-- An engine opened over the kept set of a number, with losers: the committed set is that set, and each slot is free or
+-- undoes.
 pub record IsReopened {B : Type 0} (k : Keys B) (number : ℕ) (losers : List (List (Note B))) (old new : Engine B) : Type 0 where
   pub rises : old.oldest ≤ number
   pub sealed : number ≤ last_number old
@@ -47,7 +48,7 @@ abbrev pub losing_machine : {B : Type 0} → ℕ → List (Entry B) → List (Li
 losing_machine number set losers = record { older = []; latest = set; oldest = number; sessions = map loser_session losers; failed = false }
 
 -- the events of an opening's undo: no session asks, and no fault comes
-abbrev pub is_of_opening : {B : Type 0} → Event B → Bool
+abbrev pub is_of_opening : {B : Type 0} → Happening B → Bool
 is_of_opening (Asks s call given) = false
 is_of_opening (RefusesAsk s call why) = false
 is_of_opening (Inserts s e) = false

@@ -9,7 +9,7 @@ use Rattle.gx_machine.specs.Keys.{Keys}
 use Rattle.gx_machine.specs.Machine.{Machine, is_session}
 use Rattle.gx_events.specs.Slots.{is_unanswered, slot_at}
 use Rattle.gx_events.specs.Engines.{Engine, SeenAs}
-use Rattle.gx_events.specs.Events as laws
+use Rattle.gx_events.specs.Happenings as laws
 use Rattle.gx_events.specs.declared.event.Event.{Event}
 use Rattle.gx_events.specs.declared.event.Event.TheVariants.{Ask, Move, LogStep, WritePage, CheckpointStep, Sweep}
 use Rattle.gx_events.specs.declared.outcome.Outcome.{Outcome}
@@ -18,7 +18,7 @@ use Rattle.gx_events.specs.Happens.{Happens, may_lack}
 
 -- An ask is given a reply at once, or is open; or it is refused, since a fault had ended the engine, or since a Begin finds the numbers
 -- used up.
-abbrev pub IsAsk : {B : Type 0} → ℕ → Call B → Bool → Outcome B → List (laws.Event B) → Type 0
+abbrev pub IsAsk : {B : Type 0} → ℕ → Call B → Bool → Outcome B → List (laws.Happening B) → Type 0
 IsAsk s call failed (Replied r) events =
     (events ≡ laws.Asks s call (asked.Now r) ∷ [])
     ⊎ (((failed ≡ true) × (r ≡ reply.Refused refusal.Failed) × (events ≡ laws.RefusesAsk s call refusal.Failed ∷ []))
@@ -27,7 +27,7 @@ IsAsk s call failed More events = events ≡ laws.Asks s call asked.Open ∷ []
 IsAsk s call failed other events = ⊥
 
 -- the end of a session's call, with this reply; or it meets a fault
-abbrev pub IsEnd : {B : Type 0} → ℕ → Bool → Reply B → laws.Event B → Type 0
+abbrev pub IsEnd : {B : Type 0} → ℕ → Bool → Reply B → laws.Happening B → Type 0
 IsEnd s failed r (laws.Inserts t e) = (t ≡ s) × (r ≡ reply.Inserted)
 IsEnd s failed r (laws.Deletes t e) = (t ≡ s) × (r ≡ reply.Deleted)
 IsEnd s failed r (laws.FindsPresent t e) = (t ≡ s) × (r ≡ reply.Refused refusal.Present)
@@ -40,21 +40,21 @@ IsEnd s failed r (laws.RefusesCall t why) = (t ≡ s) × (r ≡ reply.Refused wh
 IsEnd s failed r other = ⊥
 
 -- a call goes on: its commit is sealed, an entry is undone, or nothing that decides changes
-abbrev pub GoesOn : {B : Type 0} → ℕ → laws.Event B → Type 0
+abbrev pub GoesOn : {B : Type 0} → ℕ → laws.Happening B → Type 0
 GoesOn s (laws.Seals t set number) = t ≡ s
 GoesOn s (laws.Undoes t e) = t ≡ s
 GoesOn s laws.Works = Unit {0}
 GoesOn s other = ⊥
 
 -- just this event; or this one after work that decides nothing
-abbrev pub IsJust : {B : Type 0} → laws.Event B → List (laws.Event B) → Type 0
+abbrev pub IsJust : {B : Type 0} → laws.Happening B → List (laws.Happening B) → Type 0
 IsJust event events = (events ≡ event ∷ []) ⊎ (events ≡ laws.Works ∷ event ∷ [])
 
 -- A move ends its session's call, or goes on with it, or waits for another event; or it is refused because there is no
 -- such session or call.
-abbrev pub IsMove : {B : Type 0} → ℕ → Engine B → Outcome B → List (laws.Event B) → Type 0
-IsMove {B} s old (Replied r) events = (event : laws.Event B) × IsJust event events × IsEnd s old.failed r event
-IsMove {B} s old More events = (old.failed ≡ false) × ((event : laws.Event B) × (events ≡ event ∷ []) × GoesOn s event)
+abbrev pub IsMove : {B : Type 0} → ℕ → Engine B → Outcome B → List (laws.Happening B) → Type 0
+IsMove {B} s old (Replied r) events = (event : laws.Happening B) × IsJust event events × IsEnd s old.failed r event
+IsMove {B} s old More events = (old.failed ≡ false) × ((event : laws.Happening B) × (events ≡ event ∷ []) × GoesOn s event)
 IsMove s old (Help need) events = (old.failed ≡ false) × (events ≡ [])
 IsMove s old Nothing events = ⊥
 IsMove s old (Refused refusal.BadSession) events = (is_session s ≡ false) × (events ≡ [])
@@ -62,7 +62,7 @@ IsMove s old (Refused refusal.NoCall) events = (is_session s ≡ true) × (is_un
 IsMove s old (Refused why) events = ⊥
 
 -- An event that is no session's works, waits for another, finds nothing to do, or meets a fault, perhaps with its work half done.
-abbrev pub IsWork : {B : Type 0} → Bool → Outcome B → List (laws.Event B) → Type 0
+abbrev pub IsWork : {B : Type 0} → Bool → Outcome B → List (laws.Happening B) → Type 0
 IsWork failed (Replied r) events = ⊥
 IsWork failed More events = (failed ≡ false) × (events ≡ laws.Works ∷ [])
 IsWork failed (Help need) events = (failed ≡ false) × (events ≡ [])
@@ -72,12 +72,12 @@ IsWork failed (Refused refusal.Failed) events = (failed ≡ true) × (events ≡
 IsWork failed (Refused why) events = ⊥
 
 -- one by which commits may become durable
-abbrev pub IsSync : {B : Type 0} → Bool → Outcome B → List (laws.Event B) → Type 0
+abbrev pub IsSync : {B : Type 0} → Bool → Outcome B → List (laws.Happening B) → Type 0
 IsSync failed More events = (failed ≡ false) × ((events ≡ []) ⊎ ((events ≡ laws.Works ∷ []) ⊎ ((number : ℕ) × (events ≡ laws.Durable number ∷ []))))
 IsSync failed other events = IsWork failed other events
 
 -- over this engine, this event with this outcome is these events
-abbrev pub AreOf : {B : Type 0} → Engine B → Event B → Outcome B → List (laws.Event B) → Type 0
+abbrev pub AreOf : {B : Type 0} → Engine B → Event B → Outcome B → List (laws.Happening B) → Type 0
 AreOf old (Ask s call) outcome events = IsAsk s call old.failed outcome events
 AreOf old (Move s) outcome events = IsMove s old outcome events
 AreOf old LogStep outcome events = IsSync old.failed outcome events

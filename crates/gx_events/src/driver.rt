@@ -15,7 +15,7 @@ pub enum Next<B> {
     Done(Reply<B>),
 }
 
-/// Leads one session's call, from its ask to its reply. Contracts see it as the session's number.
+/// Drives one session's call, from its ask to its reply. Contracts see it as the session's number.
 #[derive(Debug, Drop)]
 pub struct Driver {
     session: u8,
@@ -30,16 +30,15 @@ impl Model for Driver {
 }
 
 impl Driver {
-    /// Leads the calls of this session.
+    /// A driver for the calls of this session.
     pub fn new(session: u8) -> Self
         ensures { result ≡ session }
     {
         Driver { session }
     }
 
-    /// What comes next after the last outcome: where the call or the event was given a reply or a refusal, the call
-    /// ends with exactly that; where help is asked for, the event that was named;
-    /// else the session's call goes on. Takes no memory.
+    /// What comes after the last outcome. If that is a reply or a refusal, the call ends with exactly that; if it asks
+    /// for help, the event that it names comes next; else a move of the session's call. Takes no memory.
     pub fn next<B>(&mut self, last: Outcome<B>) -> Next<B>
         ensures next { result ≡ next_of self.old last }
         ensures same { self.new ≡ self.old }

@@ -1,4 +1,4 @@
-//! What holds of every engine whose events keep their definitions.
+//! Laws of every engine whose events keep their definitions.
 ghost use Rattle.std.specs.Prelude.{◌≡◌, ◌≢◌, ◌≤◌, ℕ, Bool, true, false, Option, None, Some, All};
 ghost use Rattle.std.specs.Prelude.{List, [], ◌∷◌, length, sum_by, if◌then◌else◌, is_some, replicate};
 ghost use Rattle.gx_geom.specs.declared.refusal.Refusal.TheVariants.{ClaimsFull};
@@ -18,8 +18,8 @@ ghost use Rattle.gx_events.specs.Slots.{Note, Free, Working, locks_held, notes_k
 ghost use Rattle.gx_events.specs.Asking.{claims_held, ask};
 ghost use Rattle.gx_events.specs.Engines.{Engine, opened_engine, opened_machine, last_number, stood};
 ghost use Rattle.gx_events.specs.Engines.{kept, gathered, changes_of, SeenAs, IsSound, IsSame};
-ghost use Rattle.gx_events.specs.Events.{Event, Seals, Opens, IsEvent, step_of};
-ghost use Rattle.gx_events.specs.Runs.{AreEvents, steps_of, RunsAs};
+ghost use Rattle.gx_events.specs.Happenings.{Happening, Seals, Opens, IsHappening, step_of};
+ghost use Rattle.gx_events.specs.Runs.{AreHappenings, steps_of, RunsAs};
 ghost use Rattle.gx_events.specs.Wants.{Pair, Change, slot_wants, HasLooked, is_claimed};
 ghost use Rattle.gx_events.specs.Wants.{ToldByLocks, LeavesAlone, is_sweep, LeavesSession};
 ghost use Rattle.gx_machine.specs.Worked.{number_keys};
@@ -34,7 +34,7 @@ pub fn an_opened_engine_is_sound<B>()
         → SeenAs k (opened_engine k number set) (opened_machine number set) }
 {}
 
-/// An engine is seen as one machine.
+/// An engine is seen as only one machine.
 pub fn an_engine_is_seen_as_one_machine<B>()
     ensures { (k : Keys B) → IsLawful k → (engine : Engine B) (m n : Machine B)
         → SeenAs k engine m → SeenAs k engine n → m ≡ n }
@@ -43,14 +43,14 @@ pub fn an_engine_is_seen_as_one_machine<B>()
 /// Any list of events of a sound engine is a run of the machine that it is seen as, event by event a step: the engine
 /// is seen as the run's end, and is sound there.
 pub fn events_are_a_run<B>()
-    ensures one { (k : Keys B) → IsLawful k → (old new : Engine B) (m n : Machine B) (event : Event B)
-        → IsSound k old → SeenAs k old m → IsEvent k old event new → SeenAs k new n → IsStep k m (step_of event) n }
-    ensures all { (k : Keys B) → IsLawful k → (old new : Engine B) (m : Machine B) (events : List (Event B))
-        → IsSound k old → SeenAs k old m → AreEvents k old events new → RunsAs k m (steps_of events) new }
+    ensures one { (k : Keys B) → IsLawful k → (old new : Engine B) (m n : Machine B) (event : Happening B)
+        → IsSound k old → SeenAs k old m → IsHappening k old event new → SeenAs k new n → IsStep k m (step_of event) n }
+    ensures all { (k : Keys B) → IsLawful k → (old new : Engine B) (m : Machine B) (events : List (Happening B))
+        → IsSound k old → SeenAs k old m → AreHappenings k old events new → RunsAs k m (steps_of events) new }
 {}
 
-/// A transaction sees an entry that no other one has noted exactly where it is live; and so each entry that its locks
-/// bar: what it claims, and what its predicates match.
+/// A transaction sees an entry that no other one has noted exactly if it is live. So it does each entry that its locks
+/// protect: those that it claims, and those that its predicates match.
 pub fn a_transaction_sees_what_is_live<B>()
     ensures unnoted { (k : Keys B) → IsLawful k
         → (engine : Engine B) (m : Machine B) (s : ℕ) (locks : Locks B) (notes : List (Note B))
@@ -66,7 +66,7 @@ pub fn a_transaction_sees_what_is_live<B>()
         → has k e (view k m.latest (changes_of k engine.live notes)) ≡ engine.live e }
 {}
 
-/// A search's look that has ended, its entries put in order and without repeats, is exactly what the machine finds.
+/// The entries of a search's look that has ended, sorted and without repeats, are exactly what the machine finds.
 pub fn an_ended_look_is_what_is_found<B>()
     ensures { (k : Keys B) → IsLawful k → (engine : Engine B) (m : Machine B) (s : ℕ)
         (locks : Locks B) (notes : List (Note B))
@@ -75,26 +75,27 @@ pub fn an_ended_look_is_what_is_found<B>()
         → gathered k seen ≡ found k query (view k m.latest (changes_of k engine.live notes)) }
 {}
 
-/// Events of others, however many, leave a session's slot as it was, and as live each entry that its locks bar. So what
-/// an open search has found stays live, and what it looked for in vain stays away; and a write that has looked knows
-/// whether its entry is live for as long as its call is open.
+/// Events of other sessions, however many, change neither a session's slot nor whether an entry that its locks protect
+/// is live. So what an open search has found stays live, and what it didn't find stays absent; and a write that has
+/// looked knows whether its entry is live for as long as its call is open.
 pub fn events_of_others_leave_a_session<B>()
-    ensures one { (k : Keys B) → IsLawful k → (old new : Engine B) (event : Event B) (s : ℕ) → IsSound k old
-        → IsEvent k old event new → is_of_another s event ≡ true → LeavesSession k s old new }
-    ensures many { (k : Keys B) → IsLawful k → (old new : Engine B) (m : Machine B) (events : List (Event B)) (s : ℕ)
-        → IsSound k old
-        → SeenAs k old m → AreEvents k old events new → All (λ event. is_of_another s event ≡ true) events
+    ensures one { (k : Keys B) → IsLawful k → (old new : Engine B) (event : Happening B) (s : ℕ) → IsSound k old
+        → IsHappening k old event new → is_of_another s event ≡ true → LeavesSession k s old new }
+    ensures many { (k : Keys B) → IsLawful k → (old new : Engine B) (m : Machine B) (events : List (Happening B))
+        (s : ℕ) → IsSound k old
+        → SeenAs k old m → AreHappenings k old events new → All (λ event. is_of_another s event ≡ true) events
         → LeavesSession k s old new }
-    ensures looks { (k : Keys B) → IsLawful k → (old new : Engine B) (m : Machine B) (events : List (Event B)) (s : ℕ)
-        → IsSound k old
-        → SeenAs k old m → AreEvents k old events new → All (λ event. is_of_another s event ≡ true) events
+    ensures looks { (k : Keys B) → IsLawful k → (old new : Engine B) (m : Machine B) (events : List (Happening B))
+        (s : ℕ) → IsSound k old
+        → SeenAs k old m → AreHappenings k old events new → All (λ event. is_of_another s event ≡ true) events
         → (locks : Locks B) (notes : List (Note B)) (query : Query B)
         → slot_at s old.slots ≡ Working locks notes (Some (Search query))
         → (e : Entry B) → matches k query e ≡ true → new.live e ≡ old.live e }
 {}
 
-/// A pair that another session claims isn't wanted, whatever its mark; and what is wanted and marked is claimed, so
-/// that no sweep takes it. So a tree change that only locks decide spares what every other open call, and undo, wants.
+/// A pair that another session claims isn't wanted, whatever its mark; and a wanted and marked pair is claimed, so that
+/// no sweep removes it. So a change of the tree that only locks decide doesn't touch the pairs that other open calls,
+/// and undos, want.
 pub fn locks_keep_what_is_wanted<B>()
     ensures claimed { (k : Keys B) → IsLawful k → (engine : Engine B) (a b : ℕ) (pair : Pair B) → IsSound k engine
         → a ≢ b
@@ -111,18 +112,18 @@ pub fn locks_keep_what_is_wanted<B>()
         → ToldByLocks k s engine.slots change → LeavesAlone (slot_wants k (slot_at s engine.slots)) change }
 {}
 
-/// What stood changes by commits alone, and by an opening: a write with its note, an undo and its end keep it. A commit
-/// makes of it what its transaction sees; an opening leaves the kept set of its number. The last kept set is what
-/// stood, and the machine's kept sets are the engine's.
+/// The committed set changes only by a commit and by an opening: a write with its note, an undo and its end keep it. A
+/// commit makes it what its transaction sees; an opening leaves the kept set of its number. The last kept set is the
+/// committed one, and the machine's kept sets are the engine's.
 pub fn what_stood_changes_by_commits<B>()
-    ensures stays { (k : Keys B) → IsLawful k → (old new : Engine B) (event : Event B) → IsSound k old
-        → IsEvent k old event new
+    ensures stays { (k : Keys B) → IsLawful k → (old new : Engine B) (event : Happening B) → IsSound k old
+        → IsHappening k old event new
         → changes_what_stood event ≡ false → (e : Entry B) → stood k new e ≡ stood k old e }
     ensures commits { (k : Keys B) → IsLawful k → (old new : Engine B) (s : ℕ) (set : List (Entry B)) (number : ℕ)
         → IsSound k old
-        → IsEvent k old (Seals s set number) new → (e : Entry B) → stood k new e
+        → IsHappening k old (Seals s set number) new → (e : Entry B) → stood k new e
         ≡ (if is_some (noted k e (notes_kept (slot_at s old.slots))) then old.live e else stood k old e) }
-    ensures opens { (k : Keys B) (old new : Engine B) (number : ℕ) → IsEvent k old (Opens number) new
+    ensures opens { (k : Keys B) (old new : Engine B) (number : ℕ) → IsHappening k old (Opens number) new
         → (e : Entry B) → stood k new e ≡ kept k number old e }
     ensures last { (k : Keys B) (engine : Engine B) (e : Entry B)
         → kept k (last_number engine) engine e ≡ stood k engine e }
@@ -132,25 +133,26 @@ pub fn what_stood_changes_by_commits<B>()
         → IsSetOf k (kept k number engine) (set_of number m) }
 {}
 
-/// An engine that has failed answers each call with the refusal for it, and nothing that decides changes, until it is
-/// opened again.
+/// An engine that has failed replies to each call with the refusal for that, and none of its decisive state changes,
+/// until it is opened again.
 pub fn a_failed_engine_only_refuses<B>()
-    ensures kinds { (k : Keys B) (old new : Engine B) (event : Event B) → old.failed ≡ true → IsEvent k old event new
-        → may_follow_failure event ≡ true }
-    ensures same { (k : Keys B) (old new : Engine B) (event : Event B) → old.failed ≡ true → IsEvent k old event new
+    ensures kinds { (k : Keys B) (old new : Engine B) (event : Happening B) → old.failed ≡ true
+        → IsHappening k old event new → may_follow_failure event ≡ true }
+    ensures same { (k : Keys B) (old new : Engine B) (event : Happening B) → old.failed ≡ true
+        → IsHappening k old event new
         → is_opening event ≡ false → IsSame new old }
 {}
 
-/// Events, however many, keep the claims that are held in all at most 512: an ask that would take one more is refused,
-/// and none is refused for that where fewer are held. An opened engine begins so: over a committed set it holds none,
-/// with losers as many as they have noted.
+/// However many events come, at most 512 claims are held in all: an ask that would take one more is refused, and none
+/// is refused for that while fewer are held. An opened engine begins so: over a committed set it holds none, or with
+/// losers as many as they have noted.
 pub fn claims_stay_few<B>()
-    ensures one { (k : Keys B) → IsLawful k → (old new : Engine B) (event : Event B) → IsSound k old
-        → IsEvent k old event new
+    ensures one { (k : Keys B) → IsLawful k → (old new : Engine B) (event : Happening B) → IsSound k old
+        → IsHappening k old event new
         → claims_held old.slots ≤ MAX_CLAIMS → claims_held new.slots ≤ MAX_CLAIMS }
-    ensures many { (k : Keys B) → IsLawful k → (old new : Engine B) (m : Machine B) (events : List (Event B))
+    ensures many { (k : Keys B) → IsLawful k → (old new : Engine B) (m : Machine B) (events : List (Happening B))
         → IsSound k old
-        → SeenAs k old m → AreEvents k old events new → claims_held old.slots ≤ MAX_CLAIMS
+        → SeenAs k old m → AreHappenings k old events new → claims_held old.slots ≤ MAX_CLAIMS
         → claims_held new.slots ≤ MAX_CLAIMS }
     ensures full { (k : Keys B) (s : ℕ) (call : Call B) (engine : Engine B)
         → (ask k s call engine).0 ≡ Now (Refused ClaimsFull)
@@ -165,7 +167,7 @@ pub fn claims_stay_few<B>()
 /// An opened engine may have losers, transactions that a crash cut off, of which each is held and undone by a session.
 /// It is sound, and is seen as the machine with the kept set of its number whose sessions abort: so its undo is a run
 /// of that machine. Once undo has ended and all slots are free, the whole is one opening, the machine's crash to that
-/// set. Where a crash cuts the undo off, the next opening is one of the engine that was lost first, over the same set.
+/// set. If a crash cuts the undo off, the next opening is one of the engine that was lost first, over the same set.
 pub fn an_opened_engine_may_have_losers<B>()
     ensures sound { (k : Keys B) (number : ℕ) (losers : List (List (Note B))) (old new : Engine B) → AreLosers k losers
         → IsReopened k number losers old new → IsSound k new }
@@ -175,23 +177,23 @@ pub fn an_opened_engine_may_have_losers<B>()
         → SeenAs k new (losing_machine number (set_of number m) losers) }
     ensures opens { (k : Keys B) → IsLawful k → (number : ℕ) (losers : List (List (Note B)))
         (old middle new : Engine B) (m : Machine B)
-        (events : List (Event B)) → IsSound k old → SeenAs k old m → AreLosers k losers
+        (events : List (Happening B)) → IsSound k old → SeenAs k old m → AreLosers k losers
         → IsReopened k number losers old middle
-        → AreEvents k middle events new → All (λ event. is_of_opening event ≡ true) events
+        → AreHappenings k middle events new → All (λ event. is_of_opening event ≡ true) events
         → new.slots ≡ replicate SESSIONS Free
-        → IsEvent k old (Opens number) new }
+        → IsHappening k old (Opens number) new }
     ensures crashes { (k : Keys B) → IsLawful k
         → (number : ℕ) (losers : List (List (Note B))) (old middle new : Engine B) (m : Machine B)
-        (events : List (Event B)) → IsSound k old → SeenAs k old m → AreLosers k losers
+        (events : List (Happening B)) → IsSound k old → SeenAs k old m → AreLosers k losers
         → IsReopened k number losers old middle
-        → AreEvents k middle events new → All (λ event. is_of_opening event ≡ true) events
+        → AreHappenings k middle events new → All (λ event. is_of_opening event ≡ true) events
         → new.slots ≡ replicate SESSIONS Free
         → RunsAs k m (Crashes number ∷ []) new }
     ensures again { (k : Keys B) → IsLawful k → (number later : ℕ) (losers left : List (List (Note B)))
         (old middle cut new : Engine B) (m : Machine B)
-        (events : List (Event B)) → IsSound k old → SeenAs k old m → AreLosers k losers
+        (events : List (Happening B)) → IsSound k old → SeenAs k old m → AreLosers k losers
         → IsReopened k number losers old middle
-        → AreEvents k middle events cut → All (λ event. is_of_opening event ≡ true) events
+        → AreHappenings k middle events cut → All (λ event. is_of_opening event ≡ true) events
         → IsReopened k later left cut new
         → IsReopened k number left old new }
 {}
@@ -201,6 +203,6 @@ pub fn an_opened_engine_may_have_losers<B>()
 /// entries. It begins with an engine opened over one entry, so that it is a run of the machine.
 pub fn an_interleaving_worked_out()
     ensures lawful { IsLawful number_keys }
-    ensures events { AreEvents number_keys first_engine worked_events last_engine }
+    ensures events { AreHappenings number_keys first_engine worked_events last_engine }
     ensures runs { RunsAs number_keys (opened_machine 0 (sought ∷ [])) (steps_of worked_events) last_engine }
 {}

@@ -6,7 +6,7 @@ use gx_machine::Call;
 pub enum Event<B> {
     /// This session asks a call.
     Ask(u8, Call<B>),
-    /// This session's open call goes on.
+    /// This session's open call makes a move.
     Move(u8),
     /// The log's next write or sync is made.
     LogStep,

@@ -1,4 +1,4 @@
-//! What holds of records of events.
+//! Laws of records of events.
 ghost use Rattle.std.specs.Prelude.{◌≡◌, ℕ, List, [], ◌++◌};
 ghost use Rattle.gx_geom.specs.declared.refusal.Refusal.TheVariants.{Memory};
 ghost use Rattle.gx_machine.specs.declared.entry.Entry.{Entry};
@@ -11,8 +11,8 @@ ghost use Rattle.gx_events.specs.declared.event.Event.TheVariants.{Move};
 ghost use Rattle.gx_events.specs.declared.outcome.Outcome.{Outcome};
 ghost use Rattle.gx_events.specs.declared.outcome.Outcome.TheVariants.{Replied};
 ghost use Rattle.gx_events.specs.Engines.{Engine, IsSound};
-ghost use Rattle.gx_events.specs.Events as laws;
-ghost use Rattle.gx_events.specs.Runs.{AreEvents};
+ghost use Rattle.gx_events.specs.Happenings as laws;
+ghost use Rattle.gx_events.specs.Runs.{AreHappenings};
 ghost use Rattle.gx_events.specs.Steps.{AreOf, Leads};
 ghost use Rattle.gx_events.specs.Happens.{Happens};
 ghost use Rattle.gx_events.specs.Items.{items_of};
@@ -28,16 +28,16 @@ pub fn records_replay<B>()
     ensures empty { (k : Keys B) (start : Machine B) → ReplaysAs k start [] start }
 {}
 
-/// A search's answer may be replaced by a refusal for memory: the machine is the same after either.
+/// A search's result may be replaced by a refusal for memory: the machine is the same after either.
 pub fn what_is_found_may_be_given_up<B>()
     ensures { (k : Keys B) (old new : Machine B) (s : ℕ) (entries : List (Entry B))
         → Happens k old (Move s) (Replied (Found entries)) new → Happens k old (Move s) (Replied (Refused Memory)) new }
 {}
 
-/// What an event of an engine with its outcome is, by the events that the engine's laws know,
-/// it does to the machine that the engine is seen as.
+/// An event of an engine with its outcome, as the engine's laws know it, does the same to the machine that the engine
+/// is seen as.
 pub fn an_engines_events_happen<B>()
     ensures { (k : Keys B) → IsLawful k → (old new : Engine B) → IsSound k old
-        → (event : Event B) (outcome : Outcome B) (events : List (laws.Event B))
-        → AreOf old event outcome events → AreEvents k old events new → Leads k old event outcome new }
+        → (event : Event B) (outcome : Outcome B) (events : List (laws.Happening B))
+        → AreOf old event outcome events → AreHappenings k old events new → Leads k old event outcome new }
 {}

@@ -1,7 +1,8 @@
-//! An engine as the set machine sees it; its events, as a session or a flusher meets them, and the record of them.
+//! An engine in terms of the set machine; its events, as sessions and flushers make them, and the record of them.
 //!
-//! Why its answers are the machine's while calls stay open for many events, and others split, widen, add, mark, sweep,
-//! commit and abort, the laws say: public functions with empty bodies, whose contracts are the laws (`engine_laws`).
+//! The laws say why its replies are the machine's while calls stay open for many events, and others split, widen, add,
+//! mark, sweep, commit and abort. They are public functions with empty bodies, whose contracts are the laws
+//! (`engine_laws`).
 //!
 //! An engine works in events, each one step: a session asks, its open call goes on, the log or a page is written, a
 //! page is swept. The trait `Events` says of each event what it does to the set machine that the engine is seen as, so

@@ -1,4 +1,4 @@
-//! What comes of an event.
+//! The outcome of an event.
 use gx_geom::Refusal;
 use gx_machine::Reply;
 
@@ -13,7 +13,7 @@ pub enum Need {
     Checkpoint,
 }
 
-/// What comes of an event.
+/// The outcome of an event.
 #[derive(Debug, Drop)]
 pub enum Outcome<B> {
     /// The session's call ends with this reply.

@@ -86,7 +86,7 @@ module _ {D : Type 0} (state : D → Device) (test : Call → Bool) (I : Device 
         rest.1,
       )
 
-  -- and so where it is told by its answer
+  -- and likewise by its result
   pub keeps : (calls : List Call) (a b : D) (result : Result (Unit {0}) Refusal) → all_are test calls ≡ true → (state a).honest ≡ true → I (state a) → Runs state calls a b result
       → (Leaves P (state a) (state b)) × I (state b)
   keeps calls a b (Ok x) passes honest i run = (let all = run_keeps calls a b passes honest i run in (all.0, all.1.0))

@@ -41,7 +41,7 @@ spared_first Sync is = inr (omega arith)
 
 -- ---- the magic is taken away
 
--- beyond sector 0 the device is as it was
+-- beyond sector 0 the device is unchanged
 record IsBeside (old d : Device) : Type 0 where
   pub size : length d.seen ≡ length old.seen
   pub same : (s : ℕ) → 1 ≤ s → old.pending s ≡ false → (sector_of d.seen s ≡ sector_of old.seen s) × (d.pending s ≡ false)

@@ -21,7 +21,7 @@ pub on_ok : (result : Result (Unit {0}) Refusal) (P : Type 0) → (result ≡ Ok
 on_ok (Ok x) P holds = holds refl
 on_ok (Err why) P holds = tt
 
--- the run, told with the class's own number and root
+-- the run, with the class's own number and root
 pub of_class : {D : Type 0} (state : D → disk.Device) (pages most class number : ℕ) (page root : Contents) (old new : D) (result : Result (Unit {0}) Refusal) → class ≡ number → page ≡ root
     → Runs state (formatting (record { pages = pages; most = most; class = class }) page) old new result
     → Runs state (formatting (record { pages = pages; most = most; class = number }) root) old new result

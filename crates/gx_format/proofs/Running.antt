@@ -36,7 +36,7 @@ module _ {D : Type 0} (state : D → Device) where
   failed_split (x ∷ xs) ys a c (inr later) =
       ⊎_elim (λ first. inl (inr (later.0, (later.1.0, first)))) (λ other. inr (other.0, ((later.0, (later.1.0, other.1.0)), other.1.1))) (failed_split xs ys later.0 c later.1.1)
 
-  -- the same run, where the bytes are told otherwise
+  -- the same run, with the bytes in another form
   pub of_bytes : (first n : ℕ) (bytes other : List ℕ) (calls : List Call) (a b : D) (result : Result (Unit {0}) Refusal) → bytes ≡ other
       → Runs state (Write first n bytes ∷ calls) a b result → Runs state (Write first n other ∷ calls) a b result
   of_bytes first n bytes other calls a b result is = subst (λ (xs : List ℕ). Runs state (Write first n xs ∷ calls) a b result) is

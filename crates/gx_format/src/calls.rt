@@ -17,7 +17,7 @@ pub(crate) fn write<D: SectorDisk>(disk: &mut D, first: u64, bytes: &[u8]) -> Re
     Ok(())
 }
 
-/// Settles what was written.
+/// Makes all writes durable.
 pub(crate) fn settle<D: SectorDisk>(disk: &mut D) -> Result<(), Refusal>
     ensures sectors { (D.state disk.new).sectors ≡ (D.state disk.old).sectors }
     ensures runs { Runs D.state (Sync ∷ []) disk.old disk.new result }

@@ -1,5 +1,4 @@
-//! The format of a device, in three phases:
-//! the magic is taken away, all else is laid down, and the magic is written last.
+//! Formats a device in three phases: clears the magic, writes everything else, and writes the magic last.
 ghost use Rattle.std.specs.Prelude.{◌≡◌, ◌≤◌, ◌∷◌, ◌++◌, ◌↔◌, IsTrue, replicate, true, OnOk, []};
 ghost use Rattle.gx_disk.specs.declared.layout.TheConstants.{MIN_SECTORS};
 ghost use Rattle.gx_disk.specs.Device.{IsSettled};
@@ -34,7 +33,7 @@ pub const MAGIC: [u8; 8] = *b"GISTRT01";
 /// The sector at which page 2 begins.
 pub const PAGE_2: u64 = PAGES_AT + PAGE_SECTORS;
 
-/// The least number that may be the most of entries in a node.
+/// The least limit of entries in a node.
 pub const MIN_FANOUT: u16 = 4;
 
 /// How many sectors an index of so many pages takes: 4,168 for parameters and log, and eight for each page.
@@ -61,7 +60,7 @@ fn named() -> [u8; SECTOR_SIZE]
     sector
 }
 
-// Takes the magic away.
+// Clears the magic.
 fn clear<D: SectorDisk>(disk: &mut D) -> Result<(), Refusal>
     requires { MIN_SECTORS ≤ (D.state disk.old).sectors }
     ensures sectors { (D.state disk.new).sectors ≡ (D.state disk.old).sectors }
@@ -106,7 +105,7 @@ fn lay_pages<D: SectorDisk>(disk: &mut D, page: &mut Page) -> Result<(), Refusal
     write(disk, PAGE_2, page.image())
 }
 
-// Writes the first body, and settles all that was laid down by then.
+// Writes the first body, and makes all writes so far durable.
 fn lay_body<D: SectorDisk>(disk: &mut D) -> Result<(), Refusal>
     requires { MIN_SECTORS ≤ (D.state disk.old).sectors }
     ensures sectors { (D.state disk.new).sectors ≡ (D.state disk.old).sectors }
@@ -136,7 +135,7 @@ fn name<D: SectorDisk>(disk: &mut D) -> Result<(), Refusal>
     settle(disk)
 }
 
-// Lays down all but the magic.
+// Writes everything but the magic.
 fn lay<D: SectorDisk>(disk: &mut D, parameters: &Parameters, page: &mut Page) -> Result<(), Refusal>
     requires { MIN_SECTORS ≤ (D.state disk.old).sectors }
     ensures sectors { (D.state disk.new).sectors ≡ (D.state disk.old).sectors }
@@ -163,16 +162,16 @@ fn make<D: SectorDisk>(
     name(disk)
 }
 
-/// Lays a new, empty index of a class of keys down on a device: for so many pages, 8 to 65,536, and so many entries in
-/// a node at most, 4 to 100. What the device held is gone.
+/// Writes a new, empty index of a class of keys to a device: for 8 to 65,536 pages, and at most 4 to 100 entries in a
+/// node. What the device held before is lost.
 ///
 /// It makes fourteen calls of the device, in the order of `formatting`. On an honest device, at each moment of them,
-/// also where one fails, each image is one of before except for its first sector, or has no magic, or is the fresh one;
-/// at `Ok` the device reads as the fresh one, and all of it is settled.
+/// also if one fails, each image is one from before except for its first sector, or has no magic, or is the fresh one;
+/// at `Ok` the device reads as the fresh one, and all of it is durable.
 ///
-/// Refused, in this order: with `BadParameter` where a number is out of range; with `TooSmall` where the device has
-/// fewer sectors than [`sectors_for`] says; with `Memory` where there is none for a page; until here no call was made.
-/// With `Device` where a call fails.
+/// Refused, in this order: with `BadParameter` if a number is out of range; with `TooSmall` if the device has fewer
+/// sectors than [`sectors_for`] says; with `Memory` if there is none for a page; until here no call was made. With
+/// `Device` if a call fails.
 pub fn format<D: SectorDisk, K: KeyClass>(
     alloc: Global,
     disk: &mut D,

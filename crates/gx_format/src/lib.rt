@@ -1,4 +1,4 @@
-//! A new index laid down on a device.
+//! Writes a new index to a device.
 #![tactic(auto)]
 
 mod calls;

@@ -9,8 +9,8 @@ use gx_node::{inner_edits, laws};
 use gx_page::Page;
 use std::alloc::Global;
 
-/// Page 1 of a fresh tree: the root, with page 2 below the class's start key.
-/// Refused with `Memory` where there is none for the page.
+/// Page 1 of a fresh tree: the root, with page 2 below the class's start key. Refused with `Memory` if there is none
+/// for the page.
 pub(crate) fn fresh_root<K: KeyClass>(alloc: Global) -> Result<Page, Refusal>
     ensures page { IfOk result (λ page. page ≡ fresh_root K.spelling K.start_key) }
     ensures well_formed { OnOk result (IsWellFormed (fresh_root K.spelling K.start_key)) }

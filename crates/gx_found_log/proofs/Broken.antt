@@ -27,7 +27,7 @@ use Rattle.gx_found_log.proofs.Parts.{begun_behind}
 use Rattle.gx_found_log.proofs.Reading.{no_record, no_clash}
 
 module _ {E P : Type 0} (k : Known E P) (r : Reading E P) where
-  -- a record of a kind that may not stand there; one whose key is none
+  -- a record of a kind that may not be there; one whose key isn't a key
   pub misplaced : (part : Part) (x : Rec) (s : Kept E) → may_stand part x ≡ false → RecordBreaks part k r x s Misplaced
   misplaced part x s never = inl (refl, never)
 

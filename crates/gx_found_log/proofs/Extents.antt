@@ -154,7 +154,7 @@ module _ {E P : Type 0} (k : Known E P) (r : Reading E P) (l : IsLawful k) where
       let rest : Split front last bodies = split front last bodies told.1 in
       record { before = x ∷ rest.before; records = rest.records; parts = ap (λ (ys : List (List (Record E P))). x ∷ ys) rest.parts; told = (told.0, rest.told); are = rest.are }
 
-  -- the bodies before a place, the one that stands there, and those behind it
+  -- the bodies before a place, the one at it, and those behind it
   record Cut (seen : List ℕ) (extent : Extent) (i : ℕ) (bodies : List (List (Record E P))) : Type 0 where
     before : List (List (Record E P))
     records : List (Record E P)

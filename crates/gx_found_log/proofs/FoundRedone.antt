@@ -16,7 +16,7 @@ use Rattle.gx_found_log.specs.Redone.{IsFoundOn, FoundIsOnDevice}
 use Rattle.gx_found_log.proofs.OnDevice.{all_on_device}
 
 module _ {E P : Type 0} (k : Known E P) (r : Reading E P) where
-  -- a log that is found on what is read of a settled device
+  -- a log that is found on what is read of a synced device
   pub found_on : (d : Device) (log : FoundLog E) (pages : ℕ) → k.pages ≡ pages → HasPages pages d.sectors → IsSettled d → (is : IsFound k r d.seen log) → IsFoundOn k r d is.log.bodies
   unfolding open_bodies
   found_on d log pages same has settled is = record {

@@ -1,4 +1,4 @@
--- A record told to an analysis, of which what it says of pages is kept, is gathered.
+-- A record that an analysis reads, and whose pages are kept, is gathered.
 use Rattle.std.proofs.Common.{◌≡◌, ℕ, ◌==◌, true, false, refl, sym, ap, ◌∙◌, subst, List, [], ◌∷◌, ◌++◌, Option, None, Some}
 use Rattle.std.specs.Prelude.{Result, Ok, Err, if◌then◌else◌}
 use Rattle.std.specs.Option.{option_map}

@@ -1,4 +1,4 @@
--- A log that was read and redone goes on where it stands.
+-- A log that was read and redone goes on from where it ends.
 use Rattle.std.proofs.Common.{◌≡◌, ◌∙◌, sym, ap, refl, subst, ℕ, List, Ok}
 use Rattle.std.proofs.Math.Path.{fun_ext}
 use Rattle.gx_geom.specs.declared.refusal.Refusal.{Refusal}
@@ -26,7 +26,7 @@ use Rattle.gx_found_log.specs.Found.{IsFound}
 use Rattle.gx_found_log.specs.Redone.{IsRedone}
 use Rattle.gx_found_log.specs.GoingOn.{RedoneGoesOn}
 
--- an image's open bodies, as they are read
+-- an image's open bodies, as they were read
 bodies_read : (seen : List ℕ) → open_bodies seen ≡ bodies_in seen (selected_of seen) (opened seen)
 unfolding open_bodies
 bodies_read seen = refl
@@ -35,7 +35,7 @@ module _ {E P : Type 0} (k : Known E P) (r : Reading E P) (d e b f : Device) (lo
   abbrev bodies : List (List (Record E P))
   bodies = is.log.bodies
 
-  -- the log that was read stands on the device that its pages were laid on, and was only read since
+  -- the log that was read is on the device that its pages were laid on, and was only read since
   stands_there : head_in d.seen ≡ k.head → IsRedone k r d e bodies → Looks e b → HasPages k.pages b.sectors → AreGood k r (area_of r k.pages b.seen) (records_of bodies)
       → IsFoundGood k r b.sectors b.seen b.pending bodies
   stands_there says redone looks pages good =

@@ -1,4 +1,4 @@
--- Where a page stands among pages, looked at one after another.
+-- The place of a page among pages that are looked at one after another.
 use Rattle.std.proofs.Common.{◌≡◌, ℕ, zero, suc, ◌<◌, List, [], ◌∷◌, ◌++◌, take, drop, length, get_or, Some, refl, ap, sym, ◌∙◌, arith, drop-cons, eq-eqb}
 use Rattle.std.specs.Prelude.{slice_set}
 use Rattle.gx_found_log.specs.Given.{Imaged, image_in, with_image}
@@ -21,7 +21,7 @@ get_or_same [] i a b h = absurd (omega arith)
 get_or_same (x ∷ xs) zero a b h = refl
 get_or_same (x ∷ xs) (suc i) a b h = get_or_same xs i a b (omega arith)
 
--- the page stands at place i
+-- the page is at place i
 pub stands_at : (page : ℕ) (image : List ℕ) (x : Imaged) (xs : List Imaged) (i : ℕ) → i < length xs → x ≡ get_or xs i x → x.0 ≡ page
     → with_image (page, image) xs ≡ take i xs ++ with_image (page, image) (drop i xs) → with_image (page, image) xs ≡ slice_set xs i (page, image)
 stands_at page image x xs i lt at same so_far =

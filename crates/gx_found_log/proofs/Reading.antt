@@ -119,7 +119,7 @@ module _ {E P : Type 0} (k : Known E P) (r : Reading E P) (l : IsLawful k) where
         others = record { spelled = ys; in_range = in_range.1; bytes_are = both.1; read = refl };
       }
 
-  -- one record told, and then the others
+  -- one record read, and then the others
   pub told_first : (part : Part) (rest : List ℕ) (x : Rec) (n : ℕ) → BeginsWith r.key rest x n → (now next : Gathered E)
       → RecordGathered part k r x now (Ok tt) next → ReadsOn part (part_behind part) k r rest (drop n rest) now next
   told_first part rest x n begins now next told (Ok done) new later log is kept =

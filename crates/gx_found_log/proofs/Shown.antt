@@ -1,4 +1,4 @@
--- That what is told of a damaged log is true, body by body.
+-- What is reported of a damaged log is true, body by body.
 use Rattle.std.proofs.Common.{◌≡◌, ℕ, ◌<◌, ◌≤◌, Bool, true, false, ◌⊎◌, inl, inr, List, refl, ap, sym, ◌∙◌, subst, arith}
 use Rattle.std.specs.Prelude.{Result, Ok, Err, IfOk, IfErr, take, drop}
 use Rattle.gx_geom.specs.declared.refusal.Refusal.{Refusal}
@@ -58,7 +58,7 @@ module _ {E P : Type 0} (k : Known E P) (r : Reading E P) (l : IsLawful k) where
   place_unread seen extent i body old new refusal why is reads =
       subst (λ (w : Refusal). PlaceRead k r seen extent i old (Err w) new) (sym is) (unread_at seen extent i body old new refusal reads)
 
-  -- what is told of a body whose size is out of range, or that the device doesn't give
+  -- what is reported of a body whose size is out of range, or that the device doesn't give
   pub missized_shown : (seen : List ℕ) (extent : Extent) (i : ℕ) (body : List ℕ) (old : Gathered E) (refusal : Refusal) (fault : LogFault)
       → (refusal ≡ refusals.Device) ⊎ (refusal ≡ refusals.Damaged)
       → (refusal ≡ refusals.Damaged → fault ≡ Damaged (record { extent = extent; body = i; at = 0; rule = BodySize })) → (refusal ≡ refusals.Device → fault ≡ Device)
@@ -68,7 +68,7 @@ module _ {E P : Type 0} (k : Known E P) (r : Reading E P) (l : IsLawful k) where
       let odd : ReadsBody seen extent i body (Err refusals.Damaged) = subst (λ (w : Refusal). ReadsBody seen extent i body (Err w)) damage reads in
       subst (λ (f : LogFault). PlaceShows k r seen extent i old f) (sym (damaged damage)) (refl, refl, odd.0, λ so. inl (refl, refl, odd.1))
 
-  -- what is told of a body whose records are refused
+  -- what is reported of a body whose records are refused
   pub misfit_shown : (seen : List ℕ) (extent : Extent) (i : ℕ) (old : Gathered E) (bytes body : List ℕ) (size : ℕ) (part : Part) (at : ℕ) (rule : LogRule) → part ≡ part_at i
       → (size ≤ BODY_ROOM → bytes ≡ take size (drop 4 body)) → is_open seen extent i ≡ true → body ≡ body_of seen extent i → size ≡ size_in body → IsSize size
       → BytesBroken part k r bytes old at rule → PlaceShows k r seen extent i old (Damaged (record { extent = extent; body = i; at = at; rule = rule }))
@@ -89,7 +89,7 @@ module _ {E P : Type 0} (k : Known E P) (r : Reading E P) (l : IsLawful k) where
         })),
   )
 
-  -- what is told of an extent: of one whose first gate is closed, and of a place
+  -- what is reported of an extent: of one whose first gate is closed, and of a place
   pub gate_shown : (seen : List ℕ) (extent : Extent) (i : ℕ) (mid new : Gathered E) (result : Result ℕ LogFault)
       → IfErr result (λ fault. (fault ≡ Damaged (record { extent = extent; body = 0; at = 0; rule = FirstGate })) × (i ≡ 0))
       → (answer : Bool) → answer ≡ false → PlaceRead k r seen extent i mid (Ok answer) new → IfErr result (λ fault. ExtentShows k r seen extent fault)

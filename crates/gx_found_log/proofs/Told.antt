@@ -1,4 +1,4 @@
--- A record of a log, told to an analysis, by its kind.
+-- A record of a log that an analysis reads, by its kind.
 use Rattle.std.proofs.Common.{◌≡◌, ℕ, ◌+◌, ◌==◌, Bool, true, false, ◌&&◌, eq-eqb, List, [], ◌∷◌, ◌++◌, map, refl, ap, sym, ◌∙◌, subst}
 use Rattle.std.proofs.Math.Bool.{and-true, and-false}
 use Rattle.std.specs.List.{list_all}
@@ -198,7 +198,7 @@ module _ {E P : Type 0} (k : Known E P) (r : Reading E P) (l : IsLawful k) where
       head_from (log ++ Note tx (r.entry row key) before leaf ∷ []) (may_touch k.cmp t old) (with_touch k.cmp t old) old new result log (Note tx (r.entry row key) before leaf) refl refl
       (notes_tell k l log old is kept t of_class) by_order
 
-  -- a record of that kind that is the first, or stands in the head
+  -- a record of that kind that is the first, or is in the head
   pub counters_come : (x : rec.Rec) (n counter used next : ℕ) → x ≡ rec.Counters n counter used next → (old new : Kept E) (result : Result (Unit {0}) Refusal)
       → Takes (nat_le used old.pages) (with_counters n counter used next old) old result new → RecordTold Start k r x old result new
   counters_come x n counter used next is old new result takes =

@@ -19,7 +19,7 @@ use Rattle.gx_found_log.specs.declared.found.FoundLog.{FoundLog}
 use Rattle.gx_found_log.specs.Found.{IsFound}
 use Rattle.gx_found_log.specs.Restart.{RedoesFound}
 
--- A device is as it was: as many sectors, as honest.
+-- A device is unchanged: as many sectors, as honest.
 pub record IsSameDevice (old new : Device) : Type 0 where
   pub sectors : new.sectors ≡ old.sectors
   pub honest : new.honest ≡ old.honest
@@ -34,9 +34,9 @@ pub record MayGoOn {E P : Type 0} (k : Known E P) (r : Reading E P) (d : Device)
   pub places : log.bodies ≡ opened d.seen
   pub kept : IsKept k (records_of bodies) log.analysis
 
--- The calls of a restart in a row, each answered Ok, with reads between them: a log was read of a settled device d that says what is known of
--- it, its pages were laid (e),
--- they were tested and found good for it (at b), and its later gates were closed (f).
+-- The calls of a restart in a row, each answered Ok, with reads between them: a log was read of a synced device d that
+-- says what is known of it, its pages were laid (e), they were tested and found good for it (at b), and its later gates
+-- were closed (f).
 abbrev pub RedoneGoesOn : {E P : Type 0} → Known E P → Reading E P → Device → Device → Device → Device → Type 0
 RedoneGoesOn {E} {P} k r d e b f =
     IsLawful k → d.honest ≡ true → IsSettled d → head_in d.seen ≡ k.head → HasPages k.pages d.sectors → IsSameDevice d e → IsSameDevice e b → IsSameDevice b f → (log : FoundLog E) (is : IsFound k r d.seen log)

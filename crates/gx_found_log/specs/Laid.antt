@@ -40,8 +40,8 @@ pub record HasAsRead (Spared : ℕ → Type 0) (seen image : List ℕ) : Type 0 
   pub size : length image ≡ length seen
   pub same : (s : ℕ) → Spared s → sector_of image s ≡ sector_of seen s
 
--- Calls on a settled device that write none of these sectors: each reads as before and is settled, and at each moment of them what a crash may
--- leave has it so.
+-- Calls on a synced device that write none of these sectors: each reads as before and is settled, and at each moment of
+-- them what a crash may leave has it so.
 pub record Spares (Spared : ℕ → Type 0) (old new : Device) : Type 0 where
   pub now : HasAsRead Spared old.seen new.seen
   pub settled : (s : ℕ) → Spared s → new.pending s ≡ false

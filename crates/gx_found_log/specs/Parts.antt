@@ -26,7 +26,7 @@ may_go_on Start k log more = is_head k (log ++ more)
 may_go_on Head k log more = is_head k (log ++ more)
 may_go_on Later k log more = follow k log more
 
--- what comes of a body that ends where this part would go on: a first body has its counters
+-- the outcome of a body that ends where this part would go on: a first body has its counters
 abbrev pub ended : Part → Result (Unit {0}) Refusal
 ended Start = Err Damaged
 ended Head = Ok tt

@@ -32,7 +32,7 @@ use Rattle.gx_found_log.specs.Laid.{Spares}
 abbrev pub FoundIsOnDevice : {E P : Type 0} → Known E P → Reading E P → Type 0
 FoundIsOnDevice {E} {P} k r = IsLawful k → (seen : List ℕ) (log : FoundLog E) → IsFound k r seen log → are_on_device k.pages log.given ≡ true
 
--- A log is found on a settled device, undamaged.
+-- A log is found on a synced device, undamaged.
 pub record IsFoundOn {E P : Type 0} (k : Known E P) (r : Reading E P) (d : Device) (bodies : List (List (Record E P))) : Type 0 where
   pub settled : IsSettled d
   pub pages : HasPages k.pages d.sectors

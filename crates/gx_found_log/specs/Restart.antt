@@ -14,6 +14,6 @@ pub record IsRedoneWhole {T E P : Type 0} (k : Known E P) (r : Reading E P) (d e
   pub redone : Redone k r d e is.log.bodies result
   pub whole : result ≡ Err Damaged → ⊥
 
--- so of a log that was found on what is read of a settled device
+-- so of a log that was found on what is read of a synced device
 abbrev pub RedoesFound : {T E P : Type 0} → Known E P → Reading E P → FoundLog E → Device → Device → Result T Refusal → Type 0
 RedoesFound k r log d e result = IsLawful k → d.honest ≡ true → IsSettled d → (is : IsFound k r d.seen log) → IsRedoneWhole k r d e log is result

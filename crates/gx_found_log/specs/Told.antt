@@ -97,7 +97,7 @@ BodyTold part k r log bytes (Err refusal) new = IsRefused part k r log bytes ref
 abbrev pub BytesTold : {E P : Type 0} → Part → Known E P → Reading E P → List ℕ → Gathered E → Result (Unit {0}) Refusal → Gathered E → Type 0
 BytesTold {E} {P} part k r bytes old result new = (log : List (Record E P)) → IsBegun part k log → IsGathered k r log old → BodyTold part k r log bytes result new
 
--- What comes of reading these bytes from here on, at this part, comes of reading all of them from the start.
+-- The outcome of reading these bytes from here on, at this part, is that of reading all of them from the start.
 abbrev pub ReadsOn : {E P : Type 0} → (part now_at : Part) → Known E P → Reading E P → (bytes rest : List ℕ) (old now : Gathered E) → Type 0
 ReadsOn {E} {P} part now_at k r bytes rest old now =
     (result : Result (Unit {0}) Refusal) (new : Gathered E) → BytesTold now_at k r rest now result new → BytesTold part k r bytes old result new

@@ -50,8 +50,8 @@ where
 }
 
 /// Reads the bytes of a body from its start, record by record, and gathers them: of a log's first body at `Start`, of
-/// others at `Later`. Refused where the bytes aren't whole records, where one may not come, and where a first body has
-/// no counters, with the place and the rule; what is gathered is then of no use.
+/// others at `Later`. Refused if the bytes aren't whole records, if one may not come, and if a first body has no
+/// counters, with the place and the rule; what is gathered is then of no use.
 ///
 /// An extent has 1,048,448 bytes of records at most: what was closed before, at nine bytes each, and these bytes are no
 /// more. A record that closes a transaction has nine bytes at least, and no other closes one. An image has its share of

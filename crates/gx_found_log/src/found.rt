@@ -41,7 +41,8 @@ fn part_at(i: u8) -> Part
     }
 }
 
-/// The bytes of a body's records, of so many bytes; what a device that lies says beyond the body's end is cut off.
+/// The bytes of a body's records, of so many bytes; what a device that isn't honest says beyond the body's end is cut
+/// off.
 fn records(body: &[u8], size: usize) -> &[u8]
     requires { length body.now ≡ BODY_SIZE }
     ensures few { length result.now ≤ BODY_ROOM }
@@ -111,7 +112,7 @@ where
     }
 }
 
-/// How many bodies a log has. Refused where it has none.
+/// How many bodies a log has. Refused if it has none.
 fn some_bodies(extent: Extent, i: u8) -> Result<u8, LogFault>
     ensures ok { IfOk result (λ n. (1 ≤ n) × (n ≡ i)) }
     ensures err { IfErr result
@@ -230,7 +231,7 @@ where
 }
 
 /// Reads the log of a device of so many pages, and entries in a node: the bodies behind the leading open gates of the
-/// selected extent; no gate behind the first closed one is read. `Damaged` exactly where these bodies aren't whole ones
+/// selected extent; no gate behind the first closed one is read. `Damaged` exactly if these bodies aren't whole ones
 /// whose records are an undamaged log, of entries of the class. Refused too by the device's fault (`Device`), and for
 /// nothing else: all memory is in the room that it is given. It makes no write. Each body is read once, for what it
 /// says and for the pages that it gives. [`examine_log`] says what is wrong with a damaged log.

@@ -31,7 +31,7 @@ pub struct Gathered<E> {
 }
 
 impl<E: Copy + Ord> Gathered<E> {
-    /// Of no record as yet. Refused where memory is (`Memory`).
+    /// Of no record as yet. Refused if memory is (`Memory`).
     pub(crate) fn new(alloc: Global) -> Result<Self, Refusal>
         ensures unread { IfOk result IsUnread }
         ensures refusal { IfErr result (λ refusal. refusal ≡ Refusal.Memory) }

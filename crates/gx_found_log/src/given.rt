@@ -76,7 +76,7 @@ fn replace_or_push(pages: &mut Vec<Imaged>, new: Imaged)
 }
 
 impl Given {
-    /// None, with room for as many as there may be. Refused with `Memory` where there is none.
+    /// None, with room for as many as there may be. Refused with `Memory` if there is none.
     pub fn new(alloc: Global) -> Result<Given, Refusal>
         ensures none { IfOk result (λ given. given ≡ []) }
         ensures refusal { IfErr result (λ refusal. refusal ≡ Refusal.Memory) }
@@ -112,8 +112,8 @@ impl Given {
         replace_or_push(&mut self.pages, Imaged::new(page, image));
     }
 
-    /// Makes a small change of the image that is kept of a page. Refused where none is kept (`NoImage`), and where the
-    /// change doesn't fit the page (`Unfit`).
+    /// Makes a small change of the image that is kept of a page. Refused if none is kept (`NoImage`), and if the change
+    /// doesn't fit the page (`Unfit`).
     pub(crate) fn change<M: Readable>(
         &mut self,
         scratch: &mut Scratch,

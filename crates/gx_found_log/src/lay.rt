@@ -1,5 +1,5 @@
 //! Pages written where they belong.
-ghost use Rattle.std.specs.Prelude.{◌≡◌, ◌+◌, ◌≤◌, true, length, IfErr, OnOk, OnErr};
+ghost use Rattle.std.specs.Prelude.{◌≡◌, ◌+◌, true, length, IfErr, OnOk};
 ghost use Rattle.gx_page.specs.declared.block.TheConstants.{PAGE_SIZE};
 ghost use Rattle.gx_disk.specs.Device.{Counts, Writes, Syncs, SameDevice};
 ghost use Rattle.gx_found_log.specs.Found.{FaultsTold};

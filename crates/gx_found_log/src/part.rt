@@ -28,7 +28,7 @@ impl Part {
         }
     }
 
-    /// What comes of a body that ends here, behind so many bytes. Refused where it has no counters yet.
+    /// The outcome of a body that ends here, behind so many bytes. Refused if it has no counters yet.
     pub(crate) fn end_body(self, at: usize) -> Result<(), Misfit>
         ensures refusal { refused result ≡ ended self }
         ensures broken { IfErr result (λ misfit. (misfit.at ≡ at) × (misfit.rule ≡ LogRule.NoCounters)

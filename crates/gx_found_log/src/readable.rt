@@ -17,13 +17,13 @@ pub trait Readable: Spelled {
     fn key_size() -> usize
         ensures { result ≡ Self.reading.key };
 
-    /// The entry of a row and of a key's bytes. None where these are no key's of the class.
+    /// The entry of a row and of a key's bytes. None if these are no key's of the class.
     fn entry(row: u64, key: &[u8]) -> Option<Self::Entry>
         requires { length key.now ≡ Self.reading.key }
         ensures entry { IfSome result (λ e. e ≡ Self.reading.entry row key.now) }
         ensures of_class { (d : Limits) → (Self.known d).is_entry (Self.reading.entry row key.now) ≡ is_some result };
 
-    /// Makes a small change of a page, which may have so many entries, where it fits. False where it doesn't.
+    /// Makes a small change of a page, which may have so many entries, where it fits. False if it doesn't.
     fn change(page: &mut Page, most: usize, small: &Small<'_>) -> bool
         requires most { most ≤ MAX_ENTRIES }
         requires page { IsWellFormed page.old }

@@ -43,7 +43,7 @@ pub(crate) fn is_marked(mark: &Mark) -> bool
     }
 }
 
-/// What a record says of the entry that a transaction wrote. `None` where the bytes are no key's of the class.
+/// What a record says of the entry that a transaction wrote. `None` if the bytes are no key's of the class.
 pub(crate) fn touch_of<M: Readable>(
     tx: u64,
     row: u64,
@@ -66,7 +66,7 @@ where
     Some(Touch::new(tx, entry, is_marked(before), leaf))
 }
 
-/// Tells what a transaction wrote. Refused where the bytes are no key's of the class (`NoKey`), and as
+/// Tells what a transaction wrote. Refused if the bytes are no key's of the class (`NoKey`), and as
 /// [`Analysis::on_write`] is.
 fn on_written<M: Readable>(
     analysis: &mut Analysis<M::Entry>,

@@ -29,14 +29,14 @@ fn lay_all<D: SectorDisk>(disk: &mut D, given: &Given) -> Result<(), Refusal>
 }
 
 /// Lays each page that a log gives where it belongs: one write a page, and then one sync. Nothing else of the device is
-/// touched. Refused with `Device` where a call fails, and only then;
-/// it is then the last call, and the redo may be made again.
+/// touched. Refused with `Device` if a call fails, and only then; it is then the last call, and the redo may be made
+/// again.
 ///
 /// Of an honest device with a log that has passed its tests (`IsFoundOn`), of which these are the pages: at each
 /// moment, also where a call fails, what a crash may leave has the same log, and after it the same pages; where these
 /// are good for it, it stands for the set of the log that was found. Once it succeeds each page is as the log leaves
-/// it, and all is settled. So the log that starts behind its bodies has all pages written, and is up to its turn where
-/// they are good for it.
+/// it, and everything is durable. So the log that starts behind its bodies has all pages written, and is up to its turn
+/// if they are good for it.
 ///
 /// Public source: the redo pass of ARIES (Mohan et al. 1992), with whole pages.
 pub fn redo<M: Spelled, D: SectorDisk>(disk: &mut D, given: &Given) -> Result<(), Refusal>

@@ -29,10 +29,10 @@ fn are_on_device(given: &Given, pages: u32) -> bool
 /// Lays the pages of a log that was read, and has passed its tests, on a device of so many pages; the device was
 /// settled before it was read. Refused by a fault of the device (`Device`).
 ///
-/// `Damaged` where the log gives a page that isn't one of so many: so never of an honest device. At each moment of
-/// that, also where it is refused, what a crash may leave has the log that was read, and after it the same pages; where
+/// `Damaged` if the log gives a page that isn't one of so many, which never happens on an honest device. At each
+/// moment, also if it is refused, what a crash may leave has the log that was read, and after it the same pages; if
 /// these are good for it, it stands for the set that the log keeps. Once it succeeds each page is as the log leaves it,
-/// and all is settled.
+/// and everything is durable.
 pub fn redo_log<M: Readable, D: SectorDisk>(
     disk: &mut D,
     found: &FoundLog<M::Entry>,

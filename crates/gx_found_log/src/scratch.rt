@@ -1,5 +1,5 @@
 //! A page on which small changes are made.
-ghost use Rattle.std.specs.Prelude.{◌≡◌, ◌≤◌, length, IfOk, IfErr};
+ghost use Rattle.std.specs.Prelude.{◌≡◌, ◌≤◌, IfOk, IfErr};
 ghost use Rattle.std.specs.Bool.{OnTrue};
 ghost use Rattle.gx_node.specs.declared.items.TheConstants.{MAX_ENTRIES};
 ghost use Rattle.gx_page.specs.Format.{image_of};
@@ -32,7 +32,7 @@ impl Model for Scratch {
 }
 
 impl Scratch {
-    /// For nodes that may have so many entries. Refused where memory is (`Memory`).
+    /// For nodes that may have so many entries. Refused if memory is (`Memory`).
     pub(crate) fn new(alloc: Global, most: usize) -> Result<Scratch, Refusal>
         requires { most ≤ MAX_ENTRIES }
         ensures most { IfOk result (λ s. s.0 ≡ most) }

@@ -1,5 +1,5 @@
--- A storm that the words ask for is small, and what comes of it is how the program ends.
-use Rattle.std.proofs.Common.{arith, ◌≡◌, ◌*◌, ◌<◌, ◌≤◌, ◌^◌, ◌⊎◌, ℕ, List, Option, None, Some, Result, [], ◌∷◌, Ok, Err, ap, inl, inr, refl, subst}
+-- A storm that the arguments ask for is small, and its outcome is how the program ends.
+use Rattle.std.proofs.Common.{arith, ◌≡◌, ◌*◌, ◌<◌, ◌≤◌, ◌^◌, ℕ, List, Option, None, Some, Result, [], ◌∷◌, Ok, Err, ap, inl, inr, refl, subst}
 use Rattle.std.specs.Prelude.{MatchResult}
 use Rattle.std.proofs.Math.Nat.{mul-le-mul_left}
 use Rattle.clap.specs.Words.{Row, Text, subcommand_of}
@@ -8,7 +8,7 @@ use Rattle.gx_geom.specs.Solids.{Solid}
 use Rattle.gx_geom.specs.declared.refusal.Refusal.{Refusal}
 use Rattle.gx_geom.specs.declared.refusal.Refusal.TheVariants as refusal
 use Rattle.gx_commands.specs.Refusing.{Refuses}
-use Rattle.gx_machine.specs.Keys.{Keys, Members, keys_of}
+use Rattle.gx_machine.specs.Keys.{Members, keys_of}
 use Rattle.gx_class.specs.declared.class.KeyClass.{Ghosts}
 use Rattle.gx_disk.specs.Device.{Device}
 use Rattle.gx_format.specs.Calls.{Call, Write, Sync, HasFailed}
@@ -91,6 +91,6 @@ module _ {D : Type 0} (state : D → Device) (none : (d : D) → (state d).fault
   lacks_memory why (inr (inl memory)) = memory
   lacks_memory why (inr (inr refused)) = lacks why refused
 
--- A refusal that can only be for lack of memory is told as one.
+-- A refusal that can only be for lack of memory is reported as one.
 pub told_as_memory : (why : Refusal) (old new : Outputs) (status : ℕ) → why ≡ refusal.Memory → Refuses why old new status → Refuses refusal.Memory old new status
 told_as_memory why old new status is told = subst (λ w. Refuses w old new status) is told

@@ -1,4 +1,4 @@
--- An error that isn't about memory says that something is wrong with the words.
+-- An error that isn't about memory says that something is wrong with the arguments.
 use Rattle.std.proofs.Common.{◌≡◌, ◌∙◌, ap, inl, inr, [], false, true}
 use denote.Enum.Bare.{sameb}
 use Rattle.clap.specs.Kinds.{HasKind, IsAmong, Kinds}

@@ -23,11 +23,12 @@ use Rattle.gx_words.specs.declared.asking.Dimensions.TheVariants.{Two, Three}
 use Rattle.gx_words.specs.declared.source.WordsFault.{WordsFault}
 use Rattle.gx_words.specs.declared.source.WordsFault.TheVariants.{NotText, Memory}
 
--- what is written for the user where the word at this place isn't text
+-- what is written for the user if the argument at this place isn't text
 abbrev pub unread_text : ℕ → List ℕ
 unread_text place = codes "error: word " ++ (decimal place ++ codes " isn't UTF-8 text\n")
 
--- Wrong words or a call for help: no file was opened, nothing read, and no reply written. A text is written for the user, of which this holds.
+-- The arguments are wrong or ask for help: no file was opened, nothing was read, and no reply was written. A text is
+-- written for the user, of which this holds.
 pub record HasWrongWords {F : Type 0} (is_told : List ℕ → Type 0) (from to : World F) (status : ℕ) : Type 0 where
   pub status_is : status ≡ 2
   pub untouched : IsUntouched from to
@@ -66,14 +67,14 @@ module _ {C E F : Type 0} (plane : Members Rectangle) (plane_class : Ghosts C Re
   EndsAsked (command.Storm seed sessions calls) from to status =
       IsUntouched from to × EndsStormed (keys_of plane) events (record { seed = seed; sessions = sessions; calls = calls }) from.outputs to.outputs status
 
-  -- nothing is wrong with the words, and what they ask for ended so
+  -- nothing is wrong with the arguments, and what they ask for ended so
   pub record EndsAsWanted (words : List Text) (from to : World F) (status : ℕ) : Type 0 where
     pub asked : AskedCommand
     pub asks : WordsAsk words asked
     pub ends : EndsAsked asked from to status
 
-  -- how the program may end on words that were read: they are wrong, about which a text is written; or memory was refused; or what they ask for
-  -- was done or refused
+  -- how the program may end on arguments that were read: they are wrong, and a text says so; or memory was refused; or
+  -- what they ask for was done or refused
   abbrev pub EndsOnWords : List Text → World F → World F → ℕ → Type 0
   EndsOnWords words from to status =
       (AreWrong words × HasWrongWords (λ text. text ≢ []) from to status)
@@ -84,12 +85,12 @@ pub record WantsStorm {F : Type 0} (wanted : AskedCommand) (storm : Storm) (from
   pub wanted_is : wanted ≡ command.Storm storm.seed storm.sessions storm.calls
   pub untouched : to ≡ from
 
--- Nothing is wrong with the words, and they ask for this storm.
+-- Nothing is wrong with the arguments, and they ask for this storm.
 pub record AwaitsStorm {F : Type 0} (words : List Text) (storm : Storm) (from to : World F) : Type 0 where
   pub asks : WordsAsk words (command.Storm storm.seed storm.sessions storm.calls)
   pub untouched : to ≡ from
 
--- how it ends where they couldn't be read
+-- how the program ends if its arguments couldn't be read
 abbrev pub EndsUnread : {F : Type 0} → WordsFault → World F → World F → ℕ → Type 0
 EndsUnread (NotText place) from to status = HasWrongWords (λ text. text ≡ unread_text place) from to status
 EndsUnread Memory from to status = LacksAll from to status

@@ -71,7 +71,7 @@ pub record WasJudged (k : Keys Rectangle) (events : MemoryEvents) (storm : Storm
   pub ends : EndsStorm k events (events.sees index) storm said after
   pub told : TellsVerdict storm said old new status
 
--- how a storm may end: memory lacks for it, which is reported; or it is judged
+-- how a storm may end: memory is refused for it, which is reported; or it is judged
 abbrev pub EndsStormed : Keys Rectangle → MemoryEvents → Storm → Outputs → Outputs → ℕ → Type 0
 EndsStormed k events storm old new status =
     Refuses refusal.Memory old new status ⊎ WasJudged k events storm old new status

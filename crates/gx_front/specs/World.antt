@@ -1,4 +1,4 @@
--- What the program is given, and what it leaves of that.
+-- What the program is given, and in what state it leaves that.
 use Rattle.std.specs.Prelude.{ℕ, ◌≡◌, Option, List}
 use Rattle.gx_commands.specs.Streams.{Outputs, Stream, outputs_of, stream_of}
 use Rattle.gx_commands.specs.declared.opener.Opener.{Opener}

@@ -27,13 +27,14 @@ use std::io::{Read, Write};
 use std::sync::Wait;
 use std::thread::Threads;
 
-/// Status: wrong words, or a call for help.
+/// Status: the arguments are wrong, or ask for help.
 const WRONG_WORDS: u8 = 2;
 
-/// More bytes than the line has that names a word that isn't text.
+/// More bytes than the line about an argument that isn't text has.
 const LONGEST: usize = 64;
 
-/// The program. It reads its words, the program's own name first, does what they ask, and returns its status.
+/// The program. It reads its arguments, of which the first is the program's name, does what they ask, and returns its
+/// status.
 ///
 /// - `gist plain [--class C]` reads a script from the reader and writes the replies of an index in memory to the
 ///   writer.
@@ -41,20 +42,21 @@ const LONGEST: usize = 64;
 ///   M`.
 /// - `gist run FILE [--frames N]` reads a script from the reader and writes the replies of the index in a file.
 /// - `gist dump FILE` writes the text of the tree of the index in a file.
-/// - `gist verify FILE` tests the index in a file, and writes `ok commits N entries E used U`; the file stays as it is.
+/// - `gist verify FILE` tests the index in a file, and writes `ok commits N entries E used U`; the file doesn't change.
 /// - `gist storm SEED SESSIONS CALLS` runs sessions in threads on an index in memory, and writes whether a plain index
 ///   replies the same. No other command has threads or waits: `before_threads` is all that they do.
 ///
-/// C is 1 for boxes of the plane, which it is by default, or 3 for boxes of space. The other commands read of which
-/// boxes the index is from the file; one of intervals is refused (`BadParameter`). Storms are of boxes of the plane.
+/// C is 1 for boxes of the plane, the default, or 3 for boxes of space. The other commands read the class from the
+/// file; an index of intervals is refused (`BadParameter`). Storms are of boxes of the plane.
 ///
-/// The status is 0 where all was done. It is 1 where a call outside of a script was refused, which writes `refused N
-/// text`, 11 for a file that can't be opened or is in use; where a reply to a script on a file was refused with 11, 12
-/// or 13; and where a read or a write failed. The user gets lines in `faults`, unless the reader of the replies
-/// has left, or memory was refused for words or for an index in memory. The status is 2 for words that ask for
-/// something else or for help, about which a text is written to `faults` and nothing to the writer.
+/// The status is 0 if the command did all of its work. It is 1 if a call outside of a script was refused, which writes
+/// `refused N text`, with 11 for a file that can't be opened or is in use; if a reply to a script on a file was refused
+/// with 11, 12 or 13; and if a read or a write failed. The user gets lines in `faults`, unless the reader of the
+/// replies has closed its end, or memory was refused for the arguments or for an index in memory. The status is 2 for
+/// arguments that ask for something else or for help: then a text is written to `faults` and nothing to the writer.
 ///
-/// Of files it opens the one that the words name, once, by the opener, which keeps the device that the command left.
+/// It opens no file but the one that the arguments name, once, by the opener, which keeps the device that the command
+/// left.
 pub fn gist<
     'w,
     F: Files<File = File>,
@@ -86,8 +88,8 @@ pub fn gist<
     }
 }
 
-/// The program up to where it would start threads: it returns its status, or the storm that the words ask for, and has
-/// then opened no file, and neither read nor written. It waits for no thread, and returns.
+/// The program up to the point where it would start threads. It returns its status; or the storm that the arguments ask
+/// for, and then it has opened no file, and neither read nor written. It waits for no thread.
 pub fn before_threads<'w, F: Files<File = File>, S: AsStr, R: Read, W: Write, E: Write>(
     opener: &mut Opener<'w, F>,
     alloc: Global,
@@ -119,7 +121,7 @@ pub fn before_threads<'w, F: Files<File = File>, S: AsStr, R: Read, W: Write, E:
     }
 }
 
-// Does what the words ask for, and returns the status; but of a storm what it is.
+// Does what the arguments ask for, and returns the status; of a storm it returns only what is asked.
 fn carry_out<'w, F: Files<File = File>, R: Read, W: Write, E: Write>(
     opener: &mut Opener<'w, F>,
     alloc: Global,
@@ -164,7 +166,7 @@ fn carry_out<'w, F: Files<File = File>, R: Read, W: Write, E: Write>(
     }
 }
 
-// Lays a new index of boxes of so many dimensions down in a file.
+// Writes a new index of boxes of so many dimensions to a file.
 fn format_boxes<'w, F: Files<File = File>, W: Write, E: Write>(
     opener: &mut Opener<'w, F>,
     alloc: Global,
@@ -189,7 +191,7 @@ fn format_boxes<'w, F: Files<File = File>, W: Write, E: Write>(
     }
 }
 
-// Tells the user what is wrong with the words, or the help that they call for, and returns the status.
+// Tells the user what is wrong with the arguments, or the help that they ask for, and returns the status.
 fn refuse_words<E: Write, D: Display>(alloc: Global, faults: &mut Noted<E>, why: &D) -> u8
     ensures status { result ≡ 2 }
     ensures told { (text : List ℕ) × ((text ≢ []) × Prints text (stream_of E.contents faults.old)
@@ -202,7 +204,7 @@ fn refuse_words<E: Write, D: Display>(alloc: Global, faults: &mut Noted<E>, why:
     WRONG_WORDS
 }
 
-// What is written where the word at this place isn't text.
+// The line for an argument, by its place, that isn't text.
 fn unread_line(place: usize) -> ArrayString<LONGEST>
     ensures { result.bytes ≡ unread_text place }
 {
@@ -214,7 +216,7 @@ fn unread_line(place: usize) -> ArrayString<LONGEST>
     line
 }
 
-// Tells the user that the word at this place isn't text, and returns the status.
+// Tells the user that the argument at this place isn't text, and returns the status.
 fn refuse_unread<E: Write>(faults: &mut Noted<E>, place: usize) -> u8
     ensures status { result ≡ 2 }
     ensures told { Prints (unread_text place) (stream_of E.contents faults.old) (stream_of E.contents faults.new) }

@@ -32,7 +32,7 @@ const MOST: u16 = 8;
 /// How many pages are held in memory.
 const FRAMES: usize = 64;
 
-/// Status: all was done.
+/// Status: the storm is sound, and its line was written.
 const DONE: u8 = 0;
 
 /// Status: the record isn't what the plain index replays, or the line couldn't be written.
@@ -79,7 +79,7 @@ fn tell_sound<W: Write, E: Write>(calls: u32, writer: &mut Noted<W>, faults: &mu
     }
 }
 
-// Tells what is said of a storm, and returns the status.
+// Reports the verdict on a storm, and returns the status.
 fn tell_verdict<W: Write, E: Write>(
     storm: &Storm,
     verdict: Verdict,
@@ -101,7 +101,7 @@ fn tell_verdict<W: Write, E: Write>(
     }
 }
 
-// A new index in memory, with nothing committed. Its device never fails, so only lack of memory can refuse it.
+// Makes a new index in memory, with nothing committed. Its device never fails, so only a lack of memory can refuse it.
 fn fresh(alloc: Global) -> Result<EngineEvents<RamDisk, Box2Class>, Refusal>
     ensures new { IfOk result (IsFresh ⟦<EngineEvents<RamDisk, Box2Class> as Events<Box2>>⟧) }
     ensures refused { IfErr result (λ why. why ≡ Refusal.Memory) }
@@ -117,9 +117,9 @@ fn fresh(alloc: Global) -> Result<EngineEvents<RamDisk, Box2Class>, Refusal>
 
 /// Runs a storm over a new index in memory, prints its line, and returns the status.
 ///
-/// The status is 0 where the storm is sound, and its line was written. It is 1 where the plain index replies
-/// otherwise; where a call was refused for a fault or a full record, and for lack of memory, which writes
-/// `refused N text`; and where the line couldn't be written.
+/// The status is 0 if the storm is sound and its line was written. It is 1 if the plain index replies otherwise; if a
+/// call was refused for a fault, a full record or lack of memory, which writes `refused N text`; and if the line
+/// couldn't be written.
 pub(crate) fn tell_storm<T: Threads + Wait + Sync, W: Write, E: Write>(
     rt: &T,
     alloc: Global,

@@ -1,4 +1,4 @@
-//! The program's words and statuses.
+//! Tests of the program's arguments and statuses.
 
 mod asked;
 mod space;
@@ -12,7 +12,7 @@ use std::process::Abort;
 use std::sync::Wait;
 use std::thread::Threads;
 
-// With these words a script of one line ends with this status, writes this, and a text about the words or none.
+// With these arguments a script of one line ends with this status, writes this, and a text about the arguments or none.
 fn ends<T: Abort + AllocGlobal + Files<File = File> + Threads + Wait + Sync>(
     rt: &T,
     words: Result<&[&str], WordsFault>,
@@ -101,7 +101,7 @@ const fn done(
     }
 }
 
-// A call that is refused, which a line among the replies and one to the user tell.
+// A call that is refused, which a line among the replies and one to the user report.
 const fn refused(
     words: &'static [&'static str],
     replies: &'static [u8],
@@ -139,7 +139,7 @@ fn carries_out<T: Abort + AllocGlobal + Files<File = File> + Threads + Wait + Sy
     assert!(rt; writer.inner.as_slice() == case.replies && faults.inner.as_slice() == case.told);
 }
 
-// The length of a file that is there.
+// The length of an existing file.
 fn length_of<T: Abort + Files<File = File>>(rt: &T, file: &str) -> u64 {
     match fs::metadata(rt, file) {
         Ok(found) => found.len(),
@@ -150,7 +150,7 @@ fn length_of<T: Abort + Files<File = File>>(rt: &T, file: &str) -> u64 {
 const NO_DEVICE: &[u8] = b"refused 11 device\n";
 
 // Two files with an index each: what was committed is found by later runs and dumps of that file, and of no other. Runs
-// and dumps leave a file as long as it is.
+// and dumps don't change a file's length.
 #[test]
 fn what_is_committed_is_in_the_file(rt: HostRuntime) {
     let steps = [
@@ -205,8 +205,8 @@ fn what_is_committed_is_in_the_file(rt: HostRuntime) {
     let _ = fs::remove_file(&rt, "south");
 }
 
-// A file that another has, one that isn't there, and three that hold no index: each is named, and none is made,
-// extended or changed.
+// A file that another opener has, one that doesn't exist, and three that hold no index: each is named, and none is
+// created, extended or changed.
 #[test]
 fn files_that_hold_no_index(rt: HostRuntime) {
     carries_out(

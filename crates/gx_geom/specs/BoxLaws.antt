@@ -1,4 +1,4 @@
--- What holds of the tests on boxes, for any corners.
+-- Laws of the tests on boxes, for any corners.
 use Rattle.std.proofs.Common.{◌≡◌, ℤ, ◌≤ℤ◌, Bool, true, false, ◌&&◌, refl, ap, ◌∙◌, arith, T}
 use Rattle.std.specs.Prelude.{int_le, int_lt, cond, FitsSigned}
 use Rattle.std.specs.Int.{w32, int_min, int_max}

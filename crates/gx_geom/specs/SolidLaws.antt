@@ -1,4 +1,4 @@
--- What holds of the tests on boxes of space, for any corners.
+-- Laws of the tests on boxes of space, for any corners.
 use Rattle.std.proofs.Common.{◌≡◌, ◌≤◌, ℤ, ◌≤ℤ◌, ◌-ℤ◌, true, ◌&&◌, FitsSigned, ap, ◌∙◌, arith}
 use Rattle.std.specs.Prelude.{unsigned_abs}
 use Rattle.std.specs.Int.{w32, int_min, int_max}

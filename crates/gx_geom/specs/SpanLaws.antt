@@ -1,4 +1,4 @@
--- What holds of the tests on intervals, for any ends.
+-- Laws of the tests on intervals, for any ends.
 use Rattle.std.proofs.Common.{◌≡◌, ℤ, true, ap}
 use Rattle.std.specs.Prelude.{int_le, int_lt, FitsSigned}
 use Rattle.std.specs.Int.{w64, int_min, int_max}

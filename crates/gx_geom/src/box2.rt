@@ -34,7 +34,7 @@ impl Box2 {
     ghost use Rattle.std.specs.Int.{int_min, int_max};
     ghost use Rattle.gx_geom.specs.Rectangles.{IsBox, Overlap, Within, overlaps, within, area, union, rectangle_of};
 
-    /// The box with these corners. `BadBox` exactly where `x2 < x1` or `y2 < y1`.
+    /// The box with these corners. `BadBox` exactly if `x2 < x1` or `y2 < y1`.
     pub fn new(x1: i32, y1: i32, x2: i32, y2: i32) -> Result<Box2, Refusal>
         ensures ok { IsOk result ↔ ((x1 ≤ℤ x2) × (y1 ≤ℤ y2)) }
         ensures corners { IfOk result (λ b. b ≡ rectangle_of x1 y1 x2 y2) }

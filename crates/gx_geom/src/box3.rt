@@ -37,7 +37,7 @@ impl Box3 {
     ghost use Rattle.gx_geom.specs.Solids.{IsSolid, Overlap, Within, overlaps, within, volume, union, solid_of};
     ghost use Rattle.gx_geom.specs.Solids.{along_x, along_y, along_z};
 
-    /// The box with these corners. `BadBox` exactly where `x2 < x1`, `y2 < y1` or `z2 < z1`.
+    /// The box with these corners. `BadBox` exactly if `x2 < x1`, `y2 < y1` or `z2 < z1`.
     pub fn new(x1: i32, y1: i32, z1: i32, x2: i32, y2: i32, z2: i32) -> Result<Box3, Refusal>
         ensures ok { IsOk result ↔ ((x1 ≤ℤ x2) × (y1 ≤ℤ y2) × (z1 ≤ℤ z2)) }
         ensures corners { IfOk result (λ b. b ≡ solid_of x1 y1 z1 x2 y2 z2) }

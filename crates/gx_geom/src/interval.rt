@@ -37,7 +37,7 @@ impl Interval {
     ghost use Rattle.std.specs.Int.{int_min, int_max};
     ghost use Rattle.gx_geom.specs.Spans.{IsInterval, Meet, LieIn, meets, lies_in, size, hull, span_of};
 
-    /// The interval with these ends. `BadBox` exactly where `hi < lo`.
+    /// The interval with these ends. `BadBox` exactly if `hi < lo`.
     pub fn new(lo: i64, hi: i64) -> Result<Interval, Refusal>
         ensures ok { IsOk result ↔ (lo ≤ℤ hi) }
         ensures ends { IfOk result (λ a. a ≡ span_of lo hi) }

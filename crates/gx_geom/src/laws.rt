@@ -7,12 +7,12 @@ ghost use Rattle.gx_geom.specs.Solids.{Solid, IsSolid, volume, solid_of};
 ghost use Rattle.gx_geom.specs.SolidPoints as space;
 ghost use Rattle.gx_geom.specs.Spans.{Span, IsInterval, Meet, LieIn, ShareNumber, HasEachOf};
 
-/// Two boxes overlap exactly where some point lies in both.
+/// Two boxes overlap exactly if some point lies in both.
 pub fn overlap_is_a_shared_point()
     ensures { (a b : Rectangle) → IsBox a → IsBox b → (Overlap a b ↔ SharePoint a b) }
 {}
 
-/// A box lies within another exactly where each of its points lies in the other.
+/// A box lies within another exactly if each of its points lies in the other.
 pub fn within_is_each_point()
     ensures { (a b : Rectangle) → IsBox a → (Within a b ↔ IsSubset a b) }
 {}
@@ -32,15 +32,15 @@ pub fn area_is_bounded()
         ≡ 18446744065119617025 }
 {}
 
-/// Two intervals overlap exactly where some number lies in both, and one lies within another exactly where each of its
+/// Two intervals overlap exactly if some number lies in both, and one lies within another exactly if each of its
 /// numbers does.
 pub fn intervals_as_numbers()
     ensures overlap { (a b : Span) → IsInterval a → IsInterval b → (Meet a b ↔ ShareNumber a b) }
     ensures within { (a b : Span) → IsInterval a → (LieIn a b ↔ HasEachOf b a) }
 {}
 
-/// Two boxes of space overlap exactly where some point lies in both, and one lies within another exactly where each of
-/// its points lies in the other.
+/// Two boxes of space overlap exactly if some point lies in both, and one lies within another exactly if each of its
+/// points lies in the other.
 pub fn solids_as_points()
     ensures overlap { (a b : Solid) → IsSolid a → IsSolid b → (solids.Overlap a b ↔ space.SharePoint a b) }
     ensures within { (a b : Solid) → IsSolid a → (solids.Within a b ↔ space.IsSubset a b) }

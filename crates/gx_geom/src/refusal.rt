@@ -12,7 +12,7 @@ pub enum Refusal {
     NoTransaction,
     /// The session has a transaction open.
     InTransaction,
-    /// The entry is there already.
+    /// The entry is present already.
     Present,
     /// The entry isn't there.
     Absent,

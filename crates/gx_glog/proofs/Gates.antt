@@ -10,7 +10,7 @@ use Rattle.gx_glog.specs.declared.extent.Extent.TheVariants.{A, B}
 use Rattle.gx_glog.specs.Layout.{gates_of, bodies_of, other_of, selected_of, is_open, body_of, records_in, open_run}
 use Rattle.gx_glog.specs.Cuts.{bodies_in, open_bodies}
 
--- an extent's gates stand before its bodies, behind the selector and before the pages
+-- an extent's gates lie before its bodies, behind the selector and before the pages
 pub record IsPlaced (extent : Extent) : Type 0 where
   pub bodies : bodies_of extent ≡ gates_of extent + 32
   pub from : 8 ≤ gates_of extent

@@ -55,7 +55,7 @@ module _ (seen seen' : List ℕ) (pending pending' : ℕ → Bool) where
       let P : List ℕ → Type 0 = λ body. IsBody records body in
       subst P (sym (body_kept extent k kept)) is
 
-  -- gated batches stand where their gates and bodies and the gates of the places that aren't taken are kept
+  -- gated batches stay if their gates and bodies, and the gates of the free places, are kept
   pub batches_kept : (extent : Extent) (gated used : ℕ) → length seen' ≡ length seen
       → ((k : ℕ) → (k < gated) ⊎ (used ≤ k) → k < PLACES → IsKept seen seen' pending pending' (gates_of extent + k))
       → ((k : ℕ) → k < gated → (s : ℕ) → IsWithin (bodies_of extent + BODY_SECTORS * k) BODY_SECTORS s → IsKept seen seen' pending pending' s)

@@ -96,7 +96,7 @@ module _ (tails : List ℕ) (are : AreTails tails) (extent : Extent) (k sectors 
       have_set tails are extent k (max (tail_of tails extent k) sectors) below seen pending have
       (tail_later (tail_of tails extent k) (max (tail_of tails extent k) sectors) extent k seen pending (le-max_left (tail_of tails extent k) sectors) (have extent k below))
 
--- where no place is known to have a tail, none is spoken of
+-- if no place is known to have a tail, nothing is said of one
 none_within : (extent : Extent) (k s : ℕ) → k < 32 → bodies_of extent + 64 * k + tail_of unknown_tails extent k ≤ s → s < bodies_of extent + 64 * (k + 1) → ⊥
 unfolding unknown_tails
 none_within extent k s below from to =

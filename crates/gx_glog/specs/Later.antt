@@ -51,15 +51,16 @@ pub record IsClosedBehind (extent : Extent) (n : ℕ) (d : Device) : Type 0 wher
   pub selected : IsSelected extent d.seen d.pending
   pub batches : HasBatches extent n n d.seen d.pending
 
--- What closing the gates behind place n leaves of a settled device with n batches, also where a call fails: at each moment each image has
--- the log that was found, and only the later gates differ. At Ok all of these are closed and settled.
+-- What closing the gates behind place n leaves of a synced device with n batches, also where a call fails: at each
+-- moment each image has the log that was found, and only the later gates differ. At Ok all of these are closed and
+-- settled.
 pub record ClosesLater {T E : Type 0} (extent : Extent) (n : ℕ) (old new : Device) (result : Result T E) : Type 0 where
   pub seen : KeepsRun extent n old.seen new.seen
   pub settled : (s : ℕ) → IsBesideLater extent n s → new.pending s ≡ false
   pub moments : Leaves (KeepsRun extent n old.seen) old new
   pub done : OnOk result (IsClosedBehind extent n new)
 
--- so of a settled device whose selected extent has a run of n batches
+-- so of a synced device whose selected extent has a run of n batches
 abbrev pub ClosesLaterOfRun : {T E : Type 0} → Extent → ℕ → Device → Device → Result T E → Type 0
 ClosesLaterOfRun extent n old new result = old.honest ≡ true → IsSettled old → HasRun extent n old.seen old.pending → IsSelected extent old.seen old.pending
     → ClosesLater extent n old new result

@@ -104,7 +104,7 @@ GoesOnTurning new seen pending (Ok turn.GateSync) = MayTurn new seen pending
 GoesOnTurning new seen pending (Ok turn.Selector) = MayTurn new seen pending
 GoesOnTurning new seen pending (Err refusal) = MayTurn new seen pending
 
--- The same of a log that may turn: no later gate of the extent that it leads from is spoken of.
+-- The same of a log that may turn: it says nothing of later gates of the extent that it leads from.
 pub record KeepsMayTurn (old new : Log) (before now : disk.Device) (result : Result Turn Refusal) : Type 0 where
   pub stands : GoesOnTurning new now.seen now.pending result
   pub gated : Selects (gated_of old before.seen) old.flight (gated_of new now.seen) result

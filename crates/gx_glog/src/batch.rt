@@ -74,7 +74,7 @@ pub(crate) fn write_gate<D: SectorDisk, S: Copy>(
     Ok(answer)
 }
 
-// Settles what was written in a stage.
+// Makes the writes of a stage durable.
 pub(crate) fn settle<D: SectorDisk, S: Copy>(disk: &mut D, stage: S) -> Result<S, Refusal>
     ensures counts { Counts 1 (D.state disk.old) (D.state disk.new) result }
     ensures call { (D.state disk.old).honest ≡ true → Syncs (D.state disk.old) (D.state disk.new) result }
@@ -86,8 +86,8 @@ pub(crate) fn settle<D: SectorDisk, S: Copy>(disk: &mut D, stage: S) -> Result<S
 }
 
 impl Glog {
-    // Puts what fills into flight, at the next place, whose tail begins behind it. A head that was put there is
-    // dropped.
+    // Puts the filling batch in flight, at the next place, whose tail begins behind it. Drops a head that was put
+    // there.
     fn begin_batch(&mut self)
         requires idle { self.old.stage ≡ Stage.Idle }
         requires some { 1 ≤ length self.old.filling }
@@ -102,7 +102,7 @@ impl Glog {
         self.turn = Turn::Closed;
     }
 
-    // The call that was due is made. Once the body is settled, its place's tail begins behind its records.
+    // Notes that the due call was made. Once the body is synced, its place's tail begins behind its records.
     fn advance(&mut self)
         ensures { self.new ≡ done self.old }
     {
@@ -123,7 +123,7 @@ impl Glog {
         }
     }
 
-    // Makes the device call that is due, and returns which one it was. The body is written up to its place's tail.
+    // Makes the due device call, and returns which one it was. The body is written up to its place's tail.
     fn call<D: SectorDisk>(&self, disk: &mut D) -> Result<Stage, Refusal>
         requires flying { in_flight self.now.stage ≡ 1 }
         requires device { PAGES_AT ≤ (D.state disk.old).sectors }
@@ -147,7 +147,7 @@ impl Glog {
         }
     }
 
-    // Makes the device call that is due. Where it fails it is still due.
+    // Makes the due device call. If it fails it is still due.
     fn make<D: SectorDisk>(&mut self, disk: &mut D) -> Result<Stage, Refusal>
         requires flying { in_flight self.old.stage ≡ 1 }
         requires device { PAGES_AT ≤ (D.state disk.old).sectors }
@@ -166,7 +166,7 @@ impl Glog {
     /// Makes the next device call of the batch in flight, or of a new one with all that fills: body, sync, gate, sync.
     /// Of the body it writes as many sectors as its records take, or as may be other than zero there, if these are
     /// more; so the place reads as the whole body. Returns which call it was, and Idle where nothing is logged and none
-    /// was made. Refused where the device call fails (`Device`); it is then still due.
+    /// was made. Refused if the device call fails (`Device`); it is then still due.
     pub fn log_step<D: SectorDisk>(&mut self, disk: &mut D) -> Result<Stage, Refusal>
         requires { PAGES_AT ≤ (D.state disk.old).sectors }
         ensures counts { Counts (calls_of result) (D.state disk.old) (D.state disk.new) result }
@@ -174,7 +174,7 @@ impl Glog {
         // Which call of the device it was, with its bytes.
         ensures call { (D.state disk.old).honest ≡ true → CallOf self.new (D.state disk.old) (D.state disk.new) result }
         ensures idle { result ≡ Ok Stage.Idle → disk.new ≡ disk.old }
-        // Where the log was on the device it still is, and no image at any moment has another log.
+        // If the log was on the device it still is, and no image at any moment has another log.
         ensures keeps { (D.state disk.old).honest ≡ true
             → On self.old (D.state disk.old).seen (D.state disk.old).pending
             → Keeps self.old self.new (D.state disk.old) (D.state disk.new) result }

@@ -47,7 +47,7 @@ fn zeros(alloc: Global, size: usize) -> Result<Vec<u8>, AllocError>
     Ok(bytes)
 }
 
-// Writes a record's spelling from a place on, and returns its size. None where there is no room for it.
+// Writes a record's spelling from a place on, and returns its size. None if there is no room for it.
 #[tactic(auto, using(crate::proofs::Fills::put_tail), unfolding(gx_disk::specs::Sectors::put))]
 fn put_at(buffer: &mut Vec<u8>, end: usize, logged: &Record<'_>) -> Option<usize>
     requires in_range { IsInRange (rec_of logged.now) }
@@ -120,7 +120,7 @@ impl Buffer {
         self.end == SIZE_BYTES
     }
 
-    /// Puts a record behind those that are there. False where there is no room for it, and nothing then changes.
+    /// Appends a record. Returns false if there is no room for it, and nothing changes then.
     pub(crate) fn push(&mut self, logged: &Record<'_>) -> bool
         requires { IsInRange (rec_of logged.now) }
         ensures put { OnTrue result ((length self.old + length (spelling (rec_of logged.now)) ≤ BODY_ROOM)

@@ -70,7 +70,7 @@ fn first_byte<D: SectorDisk>(disk: &mut D, sector: u64) -> Result<u8, Refusal>
 }
 
 #[tactic(auto, unfolding(crate::specs::Layout::selected_of))]
-/// The extent that the device selects. Refused where the read fails.
+/// The extent that the device selects. Refused if the read fails.
 pub fn selected<D: SectorDisk>(disk: &mut D) -> Result<Extent, Refusal>
     requires { PAGES_AT ≤ (D.state disk.old).sectors }
     ensures counts { Counts 0 (D.state disk.old) (D.state disk.new) result }
@@ -185,9 +185,8 @@ fn read_body<D: SectorDisk>(
     Ok(())
 }
 
-/// Reads the body of place i of an extent, and returns how many bytes of records it has, from 1 to 32,764.
-/// None where the gate is closed.
-/// Refused where a read fails (`Device`), and where the number is out of range (`Damaged`).
+/// Reads the body of place i of an extent, and returns how many bytes of records it has, from 1 to 32,764. None if the
+/// gate is closed. Refused if a read fails (`Device`), and if the number is out of range (`Damaged`).
 #[tactic(auto, using(gx_disk::proofs::Looking::looks_joined))]
 pub fn read_extent<D: SectorDisk>(
     disk: &mut D,

@@ -17,7 +17,7 @@ use gx_record::Record;
 use std::alloc::{AllocError, Global};
 use std::marker::Model;
 
-/// What an append answers.
+/// The result of an append.
 #[derive(Clone, Copy, Debug, PartialEq, Eq)]
 pub enum Appended {
     /// The place in the selected extent of the batch that the record goes with.
@@ -26,9 +26,9 @@ pub enum Appended {
     NoRoom,
 }
 
-/// A running log. Its two buffers are taken at the start: records are put into one, while the other has the batch that
-/// is being written, or the first records of the other extent, which `put_first` puts there. It knows of each place
-/// how far it wrote there, so that it writes no zeros over zeros.
+/// A running log. Its two buffers are allocated at the start: records are put into one, while the other has the batch
+/// that is being written, or the first records of the other extent, which `put_first` puts there. It keeps for each
+/// place how far it wrote there, so that it writes no zeros over zeros.
 #[derive(Drop)]
 pub struct Glog {
     pub(crate) extent: Extent,
@@ -93,9 +93,9 @@ fn at_rest(alloc: Global, extent: Extent, used: u8) -> Result<Glog, AllocError>
 }
 
 impl Glog {
-    /// A log that goes on in an extent of which so many places are taken, 32 at most, all of them by gated batches.
-    /// Where a later gate may be open, it may only turn to the other extent.
-    /// Refused where there is no memory for its buffers.
+    /// Makes a log that goes on in an extent of which so many places are taken, 32 at most, all of them by gated
+    /// batches. If a later gate may be open, it may only turn to the other extent. Refused if there is no memory for
+    /// its buffers.
     pub fn start(alloc: Global, extent: Extent, used: u8) -> Result<Glog, Refusal>
         requires { used ≤ PLACES }
         ensures log { IfOk result (λ log. log ≡ starting extent used) }
@@ -107,7 +107,7 @@ impl Glog {
         }
     }
 
-    /// How many places of the selected extent are taken, the one in flight too.
+    /// How many places of the selected extent are taken, including the one in flight.
     pub fn used(&self) -> u8
         ensures used { result ≡ self.now.used }
         ensures bound { result ≤ PLACES }
@@ -115,7 +115,7 @@ impl Glog {
         self.used
     }
 
-    /// Whether nothing is logged, and nothing in flight.
+    /// Whether nothing is logged and nothing is in flight.
     pub fn is_idle(&self) -> bool
         ensures yes { OnTrue result ((self.now.stage ≡ Stage.Idle) × (self.now.filling ≡ [])) }
         ensures no { OnFalse result ((in_flight self.now.stage ≡ 1) ⊎ (1 ≤ length self.now.filling)) }
@@ -138,13 +138,13 @@ impl Glog {
         self.filling.free()
     }
 
-    /// Puts a record into the filling buffer, whose batch takes the next place; a place has to be left. `NoRoom` where
-    /// it doesn't fit, and while a turn is under way. Nothing is written to the device.
+    /// Puts a record into the filling buffer, whose batch takes the next place; a place has to be left. `NoRoom` if it
+    /// doesn't fit, and while a turn is under way. Nothing is written to the device.
     pub fn append(&mut self, logged: &Record<'_>) -> Appended
         requires in_range { IsInRange (rec_of logged.now) }
         requires place { self.old.used < PLACES }
         ensures appends { Appends (spelling (rec_of logged.now)) self.old self.new result }
-        // Where the log was on a device it still is, and where it may turn it still may.
+        // If the log was on a device it still is, and if it may turn it still may.
         ensures on { (seen : List ℕ) (pending : ℕ → Bool) → On self.old seen pending → On self.new seen pending }
         ensures may_turn { (seen : List ℕ) (pending : ℕ → Bool) → MayTurn self.old seen pending
             → MayTurn self.new seen pending }

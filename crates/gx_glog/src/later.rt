@@ -47,14 +47,14 @@ fn close_from<D: SectorDisk>(disk: &mut D, extent: Extent, from: u8) -> Result<(
     Ok(())
 }
 
-/// Closes the gates of an extent behind the first one that is closed, which is that of place `bodies`: where one of the
-/// places `bodies` + 1 to 31 has an open gate, all of these gates are written closed, in one write, and synced; where
-/// none has, nothing is written. So it is made before a log goes on behind `bodies` batches that were found on a
-/// device, 0 to 32 of them: an image that no life of a log left may have such a gate, and a batch more would let the
-/// body behind it count. Refused with `Device` where a call fails, and only then.
+/// Closes the gates of an extent behind the first one that is closed, which is that of place `bodies`: if one of the
+/// places `bodies` + 1 to 31 has an open gate, it writes all of these gates closed, in one write, and syncs; if none
+/// has, it writes nothing. It is called before a log goes on behind `bodies` batches that were found on a device, 0 to
+/// 32 of them: an image that no run of a log left may have such a gate, and one more batch would make the body behind
+/// it count. Refused with `Device` if a call fails, and only then.
 ///
-/// On an honest device, with all of it settled and this extent selected, each image at each moment has the same log and
-/// the same pages, also where a call fails. At Ok a log that starts there is on the device.
+/// On an honest device, with everything durable and this extent selected, each image at each moment has the same log
+/// and the same pages, also if a call fails. At Ok a log that starts there is on the device.
 pub fn close_later<D: SectorDisk>(disk: &mut D, extent: Extent, bodies: u8) -> Result<(), Refusal>
     requires bodies { bodies ≤ PLACES }
     requires device { PAGES_AT ≤ (D.state disk.old).sectors }

@@ -20,16 +20,16 @@ pub fn images()
     ensures joined { LogIsItsBodies }
 {}
 
-/// A log is on a device from its start on, where the device has its batches, and an append or a record put first keeps
-/// it there as long as no turn is under way.
+/// A log is on a device from its start on, if the device has its batches, and an append or a record put first keeps it
+/// there as long as no turn is under way.
 pub fn appends()
     ensures start { StartIsOn }
     ensures append { AppendStaysOn }
     ensures put_first { PutFirstStaysOn }
 {}
 
-/// A log stays on a device, with the same batches, where a call changes no sector of the log:
-/// a read, a sync, a page's write.
+/// A log stays on a device, with the same batches, if a call changes no sector of the log: a read, a sync, a page's
+/// write.
 pub fn calls_elsewhere()
     ensures on { ElsewhereStaysOn }
     ensures batches { ElsewhereKeepsBatches }
@@ -49,8 +49,8 @@ pub fn turns()
     ensures images_bodies { BodiesOfTurn }
 {}
 
-/// The first log of a device that holds what is laid down of it: its one record, spelled; a running log with one place
-/// taken is on that device; and each image of it holds the same.
+/// The first log of a freshly formatted device: its one record, spelled; a running log with one place taken is on that
+/// device; and each image of it holds the same.
 pub fn first_log()
     ensures spelled { FirstIsSpelled }
     ensures selector { SELECTOR ≡ 2 }
@@ -60,7 +60,7 @@ pub fn first_log()
     ensures images { ImagesHaveTheFirstLog }
 {}
 
-/// The bytes of a device's parameters say which they are, and are in sector 1.
+/// The bytes of a device's parameters determine them, and are in sector 1.
 pub fn parameters()
     ensures told { BytesTellParameters }
     ensures sector { PARAMETERS ≡ 1 }

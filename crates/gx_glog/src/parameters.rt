@@ -7,8 +7,7 @@ use gx_disk::SECTOR_SIZE;
 /// The sector that has the parameters.
 pub const PARAMETERS: u64 = 1;
 
-/// What a device is formatted for. Any number can be spelled; whether they are in range is tested where a device is
-/// opened.
+/// What a device is formatted for. Any numbers can be spelled; an opening tests whether they are in range.
 #[derive(Clone, Copy, Debug, PartialEq, Eq)]
 pub struct Parameters {
     /// How many pages there is room for.

@@ -38,7 +38,7 @@ fn place(extent: Extent, k: u8) -> usize
 }
 
 impl Tails {
-    /// Those of a log of which nothing is known: no place has a tail.
+    /// The tails of a log of which nothing is known: no place has one.
     #[tactic(auto, unfolding(crate::specs::Tails::unknown_tails))]
     pub(crate) fn unknown() -> Tails
         ensures { result ≡ unknown_tails }
@@ -57,8 +57,8 @@ impl Tails {
         self.first[place(extent, k)]
     }
 
-    /// Before so many sectors of a place are written: its tail begins behind them, or where it did, if that is farther
-    /// on.
+    /// Notes that so many sectors of a place will be written: its tail begins behind them, or where it did, if that is
+    /// farther on.
     pub(crate) fn widen(&mut self, extent: Extent, k: u8, sectors: u8)
         requires place { k < PLACES }
         requires bound { sectors ≤ BODY_SECTORS }
@@ -68,7 +68,7 @@ impl Tails {
         self.first[i] = self.first[i].max(sectors);
     }
 
-    /// Once a place's body is settled: its tail begins behind the so many sectors that the body's records take.
+    /// Notes that a place's body is synced: its tail begins behind the so many sectors that the body's records take.
     pub(crate) fn trim(&mut self, extent: Extent, k: u8, sectors: u8)
         requires place { k < PLACES }
         requires bound { sectors ≤ BODY_SECTORS }

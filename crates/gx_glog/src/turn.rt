@@ -79,13 +79,13 @@ fn write_selector<D: SectorDisk>(disk: &mut D, extent: Extent) -> Result<Turn, R
 
 impl Glog {
     /// Puts a record into body 0 of the other extent, behind those that were put there before; the place is 0. A turn
-    /// makes it the log's first batch there, and a batch that begins before drops it. `NoRoom` where it doesn't fit,
-    /// and while a turn is under way. Nothing is written to the device.
+    /// makes it the log's first batch there, and a batch that begins before drops it. `NoRoom` if it doesn't fit, and
+    /// while a turn is under way. Nothing is written to the device.
     pub fn put_first(&mut self, logged: &Record<'_>) -> Appended
         requires in_range { IsInRange (rec_of logged.now) }
         requires idle { self.old.stage ≡ Stage.Idle }
         ensures puts { PutsFirst (spelling (rec_of logged.now)) self.old self.new result }
-        // Where the log was on a device it still is, and where it may turn it still may.
+        // If the log was on a device it still is, and if it may turn it still may.
         ensures on { (seen : List ℕ) (pending : ℕ → Bool) → On self.old seen pending → On self.new seen pending }
         ensures may_turn { (seen : List ℕ) (pending : ℕ → Bool) → MayTurn self.old seen pending
             → MayTurn self.new seen pending }
@@ -100,7 +100,7 @@ impl Glog {
         }
     }
 
-    // The turn's call that was due is made. The tail of the head's place goes as that of a batch.
+    // Notes that the due call of the turn was made. The tail of the head's place moves as that of a batch.
     fn advance_turn(&mut self)
         requires idle { self.old.stage ≡ Stage.Idle }
         requires head { 1 ≤ length self.old.flight }
@@ -130,7 +130,7 @@ impl Glog {
         }
     }
 
-    // Makes the turn's device call that is due, and returns which one it was.
+    // Makes the due device call of the turn, and returns which one it was.
     fn call_turn<D: SectorDisk>(&self, disk: &mut D) -> Result<Turn, Refusal>
         requires device { PAGES_AT ≤ (D.state disk.old).sectors }
         ensures counts { Counts 1 (D.state disk.old) (D.state disk.new) result }
@@ -154,8 +154,8 @@ impl Glog {
 
     /// Makes the next device call of the turn to the other extent, whose body 0 gets what was put first: its gates
     /// closed, its body, sync, its gate, sync, the selector, sync. Returns which call it was; after `Done` the other
-    /// extent is selected, and one place of it is used.
-    /// Refused where the device call fails (`Device`); it is then still due.
+    /// extent is selected, and one place of it is used. Refused if the device call fails (`Device`); it is then still
+    /// due.
     pub fn turn_step<D: SectorDisk>(&mut self, disk: &mut D) -> Result<Turn, Refusal>
         requires idle { self.old.stage ≡ Stage.Idle }
         requires quiet { self.old.filling ≡ [] }
@@ -166,8 +166,8 @@ impl Glog {
         // Which call of the device it was, with its bytes.
         ensures call { (D.state disk.old).honest ≡ true
             → TurnCallFor self.old.turn self.old (D.state disk.old) (D.state disk.new) result }
-        // Where the log was on the device it still is; no image at any moment has another log than the old one and,
-        // from the selector's write on, the new one.
+        // If the log was on the device it still is; no image at any moment has another log than the old one or, from
+        // the selector's write on, the new one.
         ensures keeps { (D.state disk.old).honest ≡ true
             → On self.old (D.state disk.old).seen (D.state disk.old).pending
             → KeepsTurning self.old self.new (D.state disk.old) (D.state disk.new) result }

@@ -1,4 +1,4 @@
--- An inner page that is taken stays one, whatever is done to the tree: so a descent's page of before does.
+-- An inner page in use stays one, whatever is done to the tree: so a descent's page of before does.
 use Rattle.std.proofs.Common.{ℕ, ◌≤◌, Bool, inl, inr, List, ◌∷◌, [], ◌++◌, filter, ap, arith}
 use Rattle.std.proofs.lemmas.Bool.{cases_eq}
 use Rattle.gx_node.specs.Trees.{Pair, Child, Node, Tree, Rules, IsLawful, Used}

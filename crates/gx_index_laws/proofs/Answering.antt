@@ -23,8 +23,8 @@ use Rattle.gx_node.proofs.DescentSteps.{descent_begins, descent_goes_down}
 use Rattle.gx_node.proofs.SeekSteps.{seek_begins, seek_goes_right, sought_stands}
 use Rattle.gx_events.specs.Slots.{Note, Slot, Free, Working, Undoing, Waiting, notes_kept, slot_at}
 use Rattle.gx_events.specs.Engines.{gathered}
-use Rattle.gx_events.specs.Events as events
-use Rattle.gx_events.specs.Events.{Event, IsEvent, IsClosed}
+use Rattle.gx_events.specs.Happenings as events
+use Rattle.gx_events.specs.Happenings.{Happening, IsHappening, IsClosed}
 use Rattle.gx_events.specs.Kinds.{changes_what_stood}
 use Rattle.gx_events.specs.Wants.{slot_wants}
 use Rattle.gx_events.proofs.Standing.{working_there}
@@ -177,7 +177,7 @@ module _ {B : Type 0} (c : Class B) (l : IsLawful c) where
         → wants_pair c slot x ≡ true
     wants_of slot e wanted x is = subst (λ y. slot_wants c.keys slot (record { entry = y; live = not x.marked }) ≡ true) (sym (pair_is c l e x is)) (wanted (not x.marked))
 
-    -- a look that ended with nothing found says that no wanted pair stands
+    -- a look that ended with nothing found says that the tree has no wanted pair
     none_stands : (slot : Slot B) (e : Entry B) (p : Pair B → Bool) → ((x : Pair B) → p x ≡ true → is_of c e x ≡ true)
         → ((live : Bool) → slot_wants c.keys slot (record { entry = e; live = live }) ≡ true) → IsLook t (wants_pair c slot) [] [] → standing p t ≡ 0
     none_stands slot e p narrow wanted look =
@@ -224,7 +224,7 @@ module _ {B : Type 0} (c : Class B) (l : IsLawful c) where
         let f : SeeksFor c t (slot_at s old.slots) e leaf = subst (λ (x : Work B). DoesWork c t (slot_at s old.slots) x) at (w.works s) in
         record { wanted = f.wanted; seek = (seek_goes_right c.rules leaf e.row e.key t f.seek none).0 }
 
-    -- what is sought stands
+    -- the tree has the pair that is sought
     pub seeks_stand : (s : ℕ) (e : Entry B) (leaf : ℕ) → old.work s ≡ Seeks e leaf → standing (is_of c e) t ≡ 1
     seeks_stand s e leaf at =
         let f : SeeksFor c t (slot_at s old.slots) e leaf = subst (λ (x : Work B). DoesWork c t (slot_at s old.slots) x) at (w.works s) in
@@ -233,8 +233,8 @@ module _ {B : Type 0} (c : Class B) (l : IsLawful c) where
     -- Answers.
 
     -- an open call is closed, with an event that says no more of the engine
-    pub closed : (event : Event B) (s : ℕ) (locks : Locks B) (notes : List (Note B)) (call : Call B) → old.failed ≡ false → slot_at s old.slots ≡ Working locks notes (Some call)
-        → (IsClosed s call (engine_of c old) (engine_of c (slotted s (Working locks notes None) Rests old)) → IsEvent c.keys (engine_of c old) event (engine_of c (slotted s (Working locks notes None) Rests old)))
+    pub closed : (event : Happening B) (s : ℕ) (locks : Locks B) (notes : List (Note B)) (call : Call B) → old.failed ≡ false → slot_at s old.slots ≡ Working locks notes (Some call)
+        → (IsClosed s call (engine_of c old) (engine_of c (slotted s (Working locks notes None) Rests old)) → IsHappening c.keys (engine_of c old) event (engine_of c (slotted s (Working locks notes None) Rests old)))
         → changes_what_stood event ≡ false → Happens c old event (slotted s (Working locks notes None) Rests old)
     closed event s locks notes call works at is stays =
         quietly c l old w s (working_there c.keys l.keys (engine_of c old) w.sound s locks notes (Some call) at) (Working locks notes None) Rests

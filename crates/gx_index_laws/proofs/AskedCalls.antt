@@ -17,8 +17,8 @@ use Rattle.gx_node.proofs.OwnLook.{look_begins}
 use Rattle.gx_events.specs.Slots.{Note, Slot, Free, Working, Undoing, Waiting, notes_kept, slot_at, with_slot, noted}
 use Rattle.gx_events.specs.Engines.{Engine, IsSame}
 use Rattle.gx_events.specs.Asking.{least_barring, claims_held, asked_with, ask_working, ask_free, ask_slot, ask_in, ask}
-use Rattle.gx_events.specs.Events as events
-use Rattle.gx_events.specs.Events.{Event, IsEvent, MeetsFault, failed_engine}
+use Rattle.gx_events.specs.Happenings as events
+use Rattle.gx_events.specs.Happenings.{Happening, IsHappening}
 use Rattle.gx_events.specs.Kinds.{changes_what_stood}
 use Rattle.gx_events.proofs.Places.{set_itself}
 use Rattle.gx_events.proofs.Asks.{asks_keep_notes}
@@ -115,8 +115,8 @@ module _ {B : Type 0} (c : Class B) (l : IsLawful c) (old : State B) (w : IsWhol
   asks : (s : ℕ) (call : Call B) → is_session s ≡ true → ask c.keys s call (engine_of c old) ≡ ask_there s call true
   asks s call is = ap (ask_there s call) is
 
-  -- An event that leaves an index as it is.
-  pub unchanged : (event : Event B) → IsEvent c.keys (engine_of c old) event (engine_of c old) → changes_what_stood event ≡ false → Happens c old event old
+  -- An event that doesn't change an index.
+  pub unchanged : (event : Happening B) → IsHappening c.keys (engine_of c old) event (engine_of c old) → changes_what_stood event ≡ false → Happens c old event old
   unchanged event is stays = happens c l old w event old is (record {
     healthy = w.healthy;
     works = w.works;
@@ -258,7 +258,7 @@ module _ {B : Type 0} (c : Class B) (l : IsLawful c) (old : State B) (w : IsWhol
           record { session = h.session; busy = ap is_busy (beside_now h.session ne) ∙ h.busy; has = number_beside h.session ne ∙ h.has };
     }
 
-    is_asked : IsEvent c.keys (engine_of c old) (events.Asks s Begin (Now reply.Ok)) (engine_of c later)
+    is_asked : IsHappening c.keys (engine_of c old) (events.Asks s Begin (Now reply.Ok)) (engine_of c later)
     is_asked =
         let given : ask_slot c.keys Begin (least_barring c.keys Begin s 1 old.slots) (claims_held old.slots) (slot_at s old.slots) ≡ (Now reply.Ok, fresh) =
         ap (ask_slot c.keys Begin (least_barring c.keys Begin s 1 old.slots) (claims_held old.slots)) free in (
@@ -285,7 +285,7 @@ module _ {B : Type 0} (c : Class B) (l : IsLawful c) (old : State B) (w : IsWhol
 
   -- Faults.
 
-  pub faulted : (event : Event B) → IsEvent c.keys (engine_of c old) event (engine_of c (failed_state old)) → changes_what_stood event ≡ false → Happens c old event (failed_state old)
+  pub faulted : (event : Happening B) → IsHappening c.keys (engine_of c old) event (engine_of c (failed_state old)) → changes_what_stood event ≡ false → Happens c old event (failed_state old)
   faulted event is stays = happens c l old w event (failed_state old) is (record {
     healthy = w.healthy;
     works = w.works;

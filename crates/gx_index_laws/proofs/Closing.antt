@@ -15,8 +15,8 @@ use Rattle.gx_machine.proofs.SetsByTests.{set_of_a_test_that_agrees}
 use Rattle.gx_node.specs.Trees.{Tree}
 use Rattle.gx_events.specs.Slots.{Note, Slot, Free, Working, Undoing, Waiting, notes_kept, slot_at, with_slot, noted}
 use Rattle.gx_events.specs.Engines.{stood}
-use Rattle.gx_events.specs.Events as events
-use Rattle.gx_events.specs.Events.{Event, IsEvent, IsSealed, IsRestored}
+use Rattle.gx_events.specs.Happenings as events
+use Rattle.gx_events.specs.Happenings.{IsSealed, IsRestored}
 use Rattle.gx_events.proofs.Standing.{working_there, undoing_there}
 use Rattle.gx_events.proofs.WhatStood.{commit_stood}
 use Rattle.gx_recovery.specs.Known.{Known}
@@ -123,7 +123,7 @@ module _ {B : Type 0} (c : Class B) (l : IsLawful c) (old : State B) (w : IsWhol
     closed_restored a =
         subst (λ (t : Tree B). AreRestored c.keys (is_live c t) (slot_at a (with_slot s x old.slots)) (changed_at s [] old.restored a)) (sym same_nodes) (slotted_restored c l old w s there x Rests a)
 
-  -- A commit or an end leaves the tree as it is.
+  -- A commit or an end doesn't change the tree.
   pub quiet_tree : (r : Record (Entry B) (Page B)) → redo (redone old.log.area log) r ≡ redone old.log.area log → (read k (analysis k log) r).counter ≡ (analysis k log).counter
       → (read k (analysis k log) r).used ≡ (analysis k log).used → tree_of k old.log.area (all_records (appended r old.log)) ≡ tree_of k old.log.area log
   quiet_tree r pages counter used =

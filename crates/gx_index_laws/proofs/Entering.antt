@@ -18,8 +18,8 @@ use Rattle.gx_node.proofs.AllSteps.{legal_step}
 use Rattle.gx_node.proofs.SeekSteps.{seek_begins, seek_marked}
 use Rattle.gx_events.specs.Slots.{Note, Slot, Free, Working, Undoing, Waiting, locks_held, notes_kept, slot_at, with_slot, noted, WithNote}
 use Rattle.gx_events.specs.Engines.{HoldsItsLocks}
-use Rattle.gx_events.specs.Events as events
-use Rattle.gx_events.specs.Events.{Event, IsEvent, marked}
+use Rattle.gx_events.specs.Happenings as events
+use Rattle.gx_events.specs.Happenings.{Happening, IsHappening, marked}
 use Rattle.gx_events.specs.Kinds.{changes_what_stood}
 use Rattle.gx_events.proofs.Noted.{has_noted}
 use Rattle.gx_events.proofs.Standing.{working_there}
@@ -72,7 +72,7 @@ module _ {B : Type 0} (c : Class B) (l : IsLawful c) where
             omega (arith, counts, one, same));
       }
 
-  -- A marking writes its entry, where a pair of it stands in the leaf.
+  -- A marking writes its entry, if a pair of it is in the leaf.
   mark_if : (e : Entry B) (mark : Bool) (y : Pair B) → is_of c e y ≡ true
       → (if is_entry c.rules e.row e.key y then record { row = y.row; key = y.key; marked = mark } else y) ≡ (record { row = y.row; key = y.key; marked = mark })
   mark_if e mark y is = ap (λ b. if b then record { row = y.row; key = y.key; marked = mark } else y) is
@@ -149,7 +149,7 @@ module _ {B : Type 0} (c : Class B) (l : IsLawful c) where
       abbrev new : State B
       new = record old { log = appended r old.log; slots = slots; work = work; restored = restored }
 
-      comes : (event : Event B) → IsEvent c.keys (engine_of c old) event (engine_of c new) → changes_what_stood event ≡ false → Comes c old r event new
+      comes : (event : Happening B) → IsHappening c.keys (engine_of c old) event (engine_of c new) → changes_what_stood event ≡ false → Comes c old r event new
       comes event is stays = record {
         may_come = write_comes c l old w s busy e before after leaf said claimed of_class own wrote;
         happens = happens c l old w event new is (record {
@@ -185,7 +185,7 @@ module _ {B : Type 0} (c : Class B) (l : IsLawful c) where
           ap (λ (y : Slot B). noted c.keys x (notes_kept y)) (here c l old w s there later Rests) ∙ with_note x
           ∙ sym (ap (λ (y : Slot B). option_or (noted c.keys x (notes_kept y)) (if same_entry c.keys x e then Some (not now) else None)) at)
 
-      call_written : (event : Event B) → IsEvent c.keys (engine_of c old) event (engine_of c (slotted s later Rests (with_record (write_of old s e now (not now) leaf said) old)))
+      call_written : (event : Happening B) → IsHappening c.keys (engine_of c old) event (engine_of c (slotted s later Rests (with_record (write_of old s e now (not now) leaf said) old)))
           → changes_what_stood event ≡ false
           → Comes c old (write_of old s e now (not now) leaf said) event (slotted s later Rests (with_record (write_of old s e now (not now) leaf said) old))
       call_written event is stays =

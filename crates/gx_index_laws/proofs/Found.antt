@@ -114,7 +114,7 @@ module _ {B : Type 0} (c : Class B) (l : IsLawful c) (next : ℕ) (area : ℕ �
   busy_note [] h = let no : ⊥ = cc in absurd no
   busy_note (n ∷ notes) h = record { entry = n.entry; has_it = or_first (same_entry c.keys n.entry n.entry) (has c.keys n.entry (entries_of notes)) (same_itself c.keys l.keys n.entry) }
 
-  -- what an open transaction has touched is what the log tells of it
+  -- what an open transaction has touched is what the log says of it
   open_of : (t : ℕ) (e : Entry B) → lists k t e xs ≡ true → settled any_number t log ≡ false
   open_of t e listed =
       untrue (settled any_number t log) (and_first (not (settled any_number t log)) (is_some (own_before k t e log)) (sym (told.listed t e) ∙ listed))
@@ -164,7 +164,7 @@ module _ {B : Type 0} (c : Class B) (l : IsLawful c) (next : ℕ) (area : ℕ �
       ap (λ (x : List (Record (Entry B) (Page B))). is_live c (tree_in (tree_of k area x)) e) all_found
       ∙ ap (λ t. is_live c (tree_in t) e) (sym (same_tree k kl next area log is))
 
-  -- what stood is what the log stands for
+  -- the committed set is what the log stands for
   pub found_stood : (e : Entry B) → stood c.keys (engine_of c start) e ≡ stands_for k area log e
   found_stood e =
       ap (λ o. unwrap_or o ((engine_of c start).live e)) (noted_as_first c.keys k refl xs told.apart eight e)

@@ -68,7 +68,7 @@ sweepable_by true false now mine h e = inl refl
 sweepable_by false was now mine h e = let no : ⊥ = cc in absurd no
 
 module _ {B : Type 0} (c : Class B) (l : IsLawful c) where
-  -- of each entry one pair stands
+  -- each entry has one pair
   few_claimed : (t : Tree B) → Legal c.rules t → (claims : List (Entry B))
       → how_many (λ x. has c.keys (entry_of x) claims) (flat_map (λ q. (t.node q).pairs) (leaves t)) ≤ length claims
   few_claimed t legal [] =

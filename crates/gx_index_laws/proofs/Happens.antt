@@ -5,7 +5,7 @@ use Rattle.gx_machine.specs.declared.entry.Entry.{Entry}
 use Rattle.gx_machine.specs.Sets.{IsSetOf}
 use Rattle.gx_machine.proofs.SetsByTests.{set_of_a_test_that_agrees}
 use Rattle.gx_events.specs.Slots.{slot_at}
-use Rattle.gx_events.specs.Events.{Event, IsEvent, step_of}
+use Rattle.gx_events.specs.Happenings.{Happening, IsHappening, step_of}
 use Rattle.gx_events.specs.Kinds.{changes_what_stood}
 use Rattle.gx_events.proofs.Claims.{claims_stay_few}
 use Rattle.gx_events.proofs.Follow.{Follows}
@@ -31,7 +31,7 @@ pub record Leaves {B : Type 0} (c : Class B) (s : State B) : Type 0 where
   pub sets : KeepsSets c s
 
 module _ {B : Type 0} (c : Class B) (l : IsLawful c) (old : State B) (w : IsWhole c old) where
-  pub happens : (event : Event B) (new : State B) → IsEvent c.keys (engine_of c old) event (engine_of c new) → Leaves c new → Happens c old event new
+  pub happens : (event : Happening B) (new : State B) → IsHappening c.keys (engine_of c old) event (engine_of c new) → Leaves c new → Happens c old event new
   happens event new is left =
       let f : Follows c.keys w.machine (step_of event) (engine_of c new) = event_follows c.keys l.keys (engine_of c old) w.machine w.sound w.seen event (engine_of c new) is in
       record {
@@ -52,7 +52,7 @@ module _ {B : Type 0} (c : Class B) (l : IsLawful c) (old : State B) (w : IsWhol
       }
 
   -- where the log's sets stay, and so do those that are older
-  pub sets_stay : (event : Event B) (new : State B) → IsEvent c.keys (engine_of c old) event (engine_of c new) → changes_what_stood event ≡ false
+  pub sets_stay : (event : Happening B) (new : State B) → IsHappening c.keys (engine_of c old) event (engine_of c new) → changes_what_stood event ≡ false
       → AreSame (kept_of (known_of c) old.log) (kept_of (known_of c) new.log) → new.oldest ≡ old.oldest → new.older ≡ old.older → KeepsSets c new
   sets_stay event new is stays same oldest older =
       let last : new.oldest + length new.older ≡ old.oldest + length old.older = ap (λ (n : ℕ). n + length new.older) oldest ∙ ap (λ (xs : List (List (Entry B))). old.oldest + length xs) older in

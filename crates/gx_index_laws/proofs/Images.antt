@@ -8,7 +8,7 @@ use Rattle.gx_machine.proofs.SetsByTests.{set_of_a_test_that_agrees}
 use Rattle.gx_machine.proofs.SetLaws.{entry_total, entry_exact}
 use Rattle.gx_events.specs.Engines as engines
 use Rattle.gx_events.specs.Engines.{SeenAs}
-use Rattle.gx_events.specs.Events.{Event, Acknowledges}
+use Rattle.gx_events.specs.Happenings.{Happening, Acknowledges}
 use Rattle.gx_events.specs.Runs.{steps_of, RunsAs}
 use Rattle.gx_events.proofs.Faults.{kept_set}
 use Rattle.gx_events.proofs.EventRuns.{run_follows}
@@ -49,11 +49,11 @@ module _ {B : Type 0} (c : Class B) (l : IsLawful c) where
           (kept_set c.keys l.keys (engine_of c s) m w.sound seen (number_of (known_of c) log) rises sealed);
     }
 
-  happening_runs : (events : List (Event B)) (old new : State B) (m : Machine B) → IsWhole c old → SeenAs c.keys (engine_of c old) m → AreHappening c old events new
+  happening_runs : (events : List (Happening B)) (old new : State B) (m : Machine B) → IsWhole c old → SeenAs c.keys (engine_of c old) m → AreHappening c old events new
       → RunsAs c.keys m (steps_of events) (engine_of c new)
   happening_runs events old new m w seen life = run_follows c.keys l.keys events (engine_of c old) (engine_of c new) m w.sound seen (are_events c events old new life)
 
-  oldest_rises : (events : List (Event B)) (old new : State B) → IsWhole c old → AreHappening c old events new → old.oldest ≤ new.oldest
+  oldest_rises : (events : List (Happening B)) (old new : State B) → IsWhole c old → AreHappening c old events new → old.oldest ≤ new.oldest
   oldest_rises events old new w life =
       let run : RunsAs c.keys w.machine (steps_of events) (engine_of c new) = happening_runs events old new w.machine w w.seen life in
       let up = run_rises c.keys (steps_of events) w.machine run.end run.runs in
@@ -62,7 +62,7 @@ module _ {B : Type 0} (c : Class B) (l : IsLawful c) where
       omega (arith, up, first, last)
 
   -- a commit that was acknowledged is left by every later crash
-  pub acknowledged_is_left : (a number : ℕ) (events : List (Event B)) (old new : State B) (area : ℕ → Page B) (log : List (Record (Entry B) (Page B))) → IsWhole c old
+  pub acknowledged_is_left : (a number : ℕ) (events : List (Happening B)) (old new : State B) (area : ℕ → Page B) (log : List (Record (Entry B) (Page B))) → IsWhole c old
       → AreHappening c old (Acknowledges a number ∷ events) new → IsLeft new.log area log → number ≤ number_of (known_of c) log
   acknowledged_is_left a number events old new area log w life left =
       let now : number ≤ old.oldest = life.1.is_event.is_durable in

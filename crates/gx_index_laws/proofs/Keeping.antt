@@ -5,8 +5,8 @@ use Rattle.std.specs.List.{list_any}
 use Rattle.std.proofs.lemmas.List.Elements.{All-nil, All-cons, All-head, All-tail}
 use Rattle.gx_machine.specs.declared.entry.Entry.{Entry}
 use Rattle.gx_events.specs.Engines.{Engine, stood}
-use Rattle.gx_events.specs.Events as events
-use Rattle.gx_events.specs.Events.{Event, IsEvent}
+use Rattle.gx_events.specs.Happenings as events
+use Rattle.gx_events.specs.Happenings.{Happening, IsHappening}
 use Rattle.gx_events.specs.Kinds.{changes_what_stood}
 use Rattle.gx_events.proofs.WhatStood.{event_stood}
 use Rattle.gx_recovery.specs.Records.{Record}
@@ -34,7 +34,7 @@ pub record KeepsOne {B : Type 0} (c : Class B) (number : ℕ) (in_set : Entry B 
   pub stands : (e : Entry B) → stood c.keys (engine_of c s) e ≡ in_set e
 
 -- what an event does that is an opening's, or a fault
-record IsQuiet {B : Type 0} (event : Event B) (old new : Engine B) : Type 0 where
+record IsQuiet {B : Type 0} (event : Happening B) (old new : Engine B) : Type 0 where
   older : new.older ≡ []
   oldest : new.oldest ≡ old.oldest
   failed : new.failed ≡ (is_fault event || old.failed)
@@ -52,14 +52,14 @@ or_moves true false was = refl
 or_moves false later was = refl
 
 -- an event may come in an opening
-abbrev MayCome : {B : Type 0} → Event B → Type 0
+abbrev MayCome : {B : Type 0} → Happening B → Type 0
 MayCome event = (is_in_opening event || is_fault event) ≡ true
 
-abbrev InOpening : {B : Type 0} → Event B → Type 0
+abbrev InOpening : {B : Type 0} → Happening B → Type 0
 InOpening event = is_in_opening event ≡ true
 
 module _ {B : Type 0} (c : Class B) where
-  is_quiet : (event : Event B) (old new : Engine B) → old.older ≡ [] → IsEvent c.keys old event new → MayCome event → IsQuiet event old new
+  is_quiet : (event : Happening B) (old new : Engine B) → old.older ≡ [] → IsHappening c.keys old event new → MayCome event → IsQuiet event old new
   is_quiet (events.Undoes s x) old new none h is = record { older = h.is.older ∙ none; oldest = h.is.oldest; failed = h.is.failed; still = refl }
   is_quiet (events.EndsUndo s) old new none h is = record { older = h.is.older ∙ none; oldest = h.is.oldest; failed = h.is.failed; still = refl }
   is_quiet events.Works old new none h is = record { older = h.older ∙ none; oldest = h.oldest; failed = h.failed; still = refl }
@@ -76,7 +76,7 @@ module _ {B : Type 0} (c : Class B) where
 
   module _ (l : IsLawful c) where
     module _ (number : ℕ) (in_set : Entry B → Bool) where
-      event_keeps : (event : Event B) (old new : State B) → KeepsOne c number in_set old → Happens c old event new → MayCome event
+      event_keeps : (event : Happening B) (old new : State B) → KeepsOne c number in_set old → Happens c old event new → MayCome event
           → KeepsOne c number in_set new
       event_keeps event old new keeps h is =
           let quiet : IsQuiet event (engine_of c old) (engine_of c new) = is_quiet event (engine_of c old) (engine_of c new) keeps.older h.is_event is in
@@ -88,13 +88,13 @@ module _ {B : Type 0} (c : Class B) where
           }
 
       -- an opening's events keep it
-      pub goes_on : (list : List (Event B)) (old new : State B) → KeepsOne c number in_set old → AreHappening c old list new → All MayCome list → KeepsOne c number in_set new
+      pub goes_on : (list : List (Happening B)) (old new : State B) → KeepsOne c number in_set old → AreHappening c old list new → All MayCome list → KeepsOne c number in_set new
       goes_on [] old new keeps are all = subst (KeepsOne c number in_set) (sym are) keeps
       goes_on (event ∷ list) old new keeps are all =
           goes_on list are.0 new (event_keeps event old are.0 keeps are.1 (All-head MayCome event list all)) are.2 (All-tail MayCome event list all)
 
       -- and faults alone make it fail
-      pub fails_by : (list : List (Event B)) (old new : State B) → KeepsOne c number in_set old → AreHappening c old list new → All MayCome list
+      pub fails_by : (list : List (Happening B)) (old new : State B) → KeepsOne c number in_set old → AreHappening c old list new → All MayCome list
           → new.failed ≡ (list_any is_fault list || old.failed)
       fails_by [] old new keeps are all = ap (λ (s : State B). s.failed) are
       fails_by (event ∷ list) old new keeps are all =
@@ -126,17 +126,17 @@ module _ {B : Type 0} (c : Class B) where
         let listed = log_listed c l area log in
         record { whole = found_whole c l next area log is up good listed.0 listed.1; older = refl; oldest = refl; stands = found_stood c l next area log is }
 
-no_fault : {B : Type 0} (event : Event B) → is_in_opening event ≡ true → is_fault event ≡ false
+no_fault : {B : Type 0} (event : Happening B) → is_in_opening event ≡ true → is_fault event ≡ false
 no_fault events.Fails h = let no : ⊥ = cc in absurd no
 no_fault other h = refl
 
 -- an opening's events may come, and are no faults
-pub all_may_come : {B : Type 0} (list : List (Event B)) → All InOpening list → All MayCome list
+pub all_may_come : {B : Type 0} (list : List (Happening B)) → All InOpening list → All MayCome list
 all_may_come [] all = All-nil MayCome
 all_may_come (event ∷ list) all =
     All-cons MayCome event list (ap (λ b. b || is_fault event) (All-head InOpening event list all)) (all_may_come list (All-tail InOpening event list all))
 
-pub no_faults : {B : Type 0} (list : List (Event B)) → All InOpening list → list_any is_fault list ≡ false
+pub no_faults : {B : Type 0} (list : List (Happening B)) → All InOpening list → list_any is_fault list ≡ false
 no_faults [] all = refl
 no_faults (event ∷ list) all =
     ap (λ b. b || list_any is_fault list) (no_fault event (All-head InOpening event list all)) ∙ no_faults list (All-tail InOpening event list all)

@@ -1,4 +1,4 @@
--- Which entries are live: as the pair that stands is marked, and after each step.
+-- Which entries are live: by the mark of the entry's pair, and after each step.
 use Rattle.std.proofs.Common.{◌≡◌, ℕ, ◌+◌, ◌≤◌, Bool, true, false, not, ◌&&◌, inl, inr, List, ◌∷◌, ◌++◌, refl, ap, sym, ◌∙◌, subst, arith}
 use Rattle.std.specs.Prelude.{◌==◌, nat_lt}
 use Rattle.std.specs.Ordering.{is_eq}
@@ -62,8 +62,7 @@ module _ {B : Type 0} (c : Class B) (l : IsLawful c) where
   in_leaf t legal test a used leaf =
       let one = legal.once a used leaf in one_counts (λ q. how_many test (t.node q).pairs) a (leaves t) (omega (arith, one))
 
-  -- an entry is live as its pair that stands isn't marked
-  -- an entry is live as its pair that stands isn't marked
+  -- an entry is live exactly if its pair isn't marked
   module _ (t : Tree B) (legal : Legal c.rules t) (e : Entry B) (a : ℕ) (used : Used t a) (leaf : (t.node a).level ≡ 0) (before after : List (Pair B)) (y : Pair B)
       (parts : (t.node a).pairs ≡ before ++ y ∷ after) (is : is_of c e y ≡ true) where
     counts : (test : Pair B → Bool) → test y ≡ true → 1 ≤ standing test t

@@ -117,7 +117,7 @@ module _ {B : Type 0} (c : Class B) (l : IsLawful c) (old new : Tree B) (legal :
     seek_stays (Marks b row key mark) is = seek_kept b (with_mark c.rules row key mark (old.node b).pairs) (old.node b).children is.changes
     seek_stays (Sweeps b claimed) is = seek_kept b (filter (spares claimed) (old.node b).pairs) (old.node b).children is.changes
 
-  -- A descent: a page that is taken counts for more than all levels, and no level comes in any other way.
+  -- A descent: a page in use counts for more than all levels, and no level comes in any other way.
   module _ (parent : ℕ) (item : TraversalItem) (there : Used old item.page) where
     module _ (a : ℕ) (pairs : List (Pair B)) (children : List (Child B)) (changes : ChangesOnly old new a pairs children)
         (pages : map (λ (d : Child B). d.page) children ≡ child_pages (old.node a))

@@ -1,4 +1,4 @@
--- An undo's seek begins with its note's leaf, as the log tells it.
+-- An undo's seek begins with its note's leaf, as the log gives it.
 use Rattle.std.proofs.Common.{◌≡◌, ℕ, Bool, true, false, not, ◌&&◌, ◌||◌, List, [], ◌∷◌, ◌++◌, Some, ap, sym, ◌∙◌, subst}
 use Rattle.std.specs.Prelude.{is_some, option_map, ◌==◌}
 use Rattle.gx_machine.specs.declared.entry.Entry.{Entry}

@@ -137,7 +137,7 @@ module _ {B : Type 0} (c : Class B) (l : IsLawful c) where
 
     -- A session's write, as another sees it.
     module _ (s a : ℕ) (ne : a ≢ s) where
-      -- the session has answered, with its locks as they were
+      -- the session has answered, with its locks unchanged
       module _ (locks : Locks B) (notes then_notes : List (Note B)) (call : Call B) (at : slot_at s old.slots ≡ Working locks notes (Some call)) where
         abbrev answered : Slot B
         answered = Working locks then_notes None

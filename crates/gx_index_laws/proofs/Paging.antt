@@ -8,7 +8,7 @@ use Rattle.gx_node.specs.Legal.{Legal}
 use Rattle.gx_node.specs.Steps.{Step, Splits, SplitsRoot, Widens, Adds, Marks, Sweeps, IsStep, LeavesAlone}
 use Rattle.gx_node.proofs.AllSteps.{legal_step}
 use Rattle.gx_events.specs.Slots.{slot_at}
-use Rattle.gx_events.specs.Events as events
+use Rattle.gx_events.specs.Happenings as events
 use Rattle.gx_events.specs.Wants.{is_claimed}
 use Rattle.gx_events.specs.Engines.{IsSame}
 use Rattle.gx_recovery.specs.Known.{Known}
@@ -46,7 +46,7 @@ steps_rise r old new (Marks a row key mark) is = (let a = is.changes.counter in 
 steps_rise r old new (Sweeps a claimed) is = (let a = is.changes.counter in let b = is.changes.used in (omega (arith, a), omega (arith, b)))
 
 module _ {B : Type 0} (c : Class B) (l : IsLawful c) (old : State B) (w : IsWhole c old) where
-  -- a log that tells of the same transactions
+  -- a log with the same transactions
   pub tied_alike : (log : Logged (Entry B) (Page B))
       → ((t : ℕ) → settled any_number t (all_records log) ≡ settled any_number t (all_records old.log))
       → ((t : ℕ) (e : Entry B) → own_before (known_of c) t e (all_records log) ≡ own_before (known_of c) t e (all_records old.log))

@@ -3,10 +3,10 @@ use Rattle.std.proofs.Common.{◌≡◌, ◌≢◌, ℕ, Bool, true, false, List
 use Rattle.gx_machine.specs.declared.entry.Entry.{Entry}
 use Rattle.gx_machine.specs.Machine.{is_session}
 use Rattle.gx_events.specs.Slots.{Slot, Free, Working, Undoing, Waiting, notes_kept, slot_at, with_slot, noted}
-use Rattle.gx_events.specs.Events.{Event, IsEvent}
+use Rattle.gx_events.specs.Happenings.{Happening, IsHappening}
 use Rattle.gx_events.specs.Engines.{Engine, IsSame}
 use Rattle.gx_events.specs.Kinds.{changes_what_stood}
-use Rattle.gx_events.specs.Events as events
+use Rattle.gx_events.specs.Happenings as events
 use Rattle.gx_events.proofs.Places.{slot_same, slot_other}
 use Rattle.gx_index_laws.specs.Classes.{Class, IsLawful, is_live}
 use Rattle.gx_index_laws.specs.States.{State, Work, tree_now, engine_of}
@@ -91,8 +91,8 @@ module _ {B : Type 0} (c : Class B) (l : IsLawful c) (old : State B) (w : IsWhol
             record { session = h.session; busy = busy_alike h.session ∙ h.busy; has = h.has };
       }
 
-      -- an event that gives a session another slot, with its transaction and notes as they were
-      pub quietly : (event : Event B) → IsEvent c.keys (engine_of c old) event (engine_of c (slotted s x work old)) → changes_what_stood event ≡ false
+      -- an event that gives a session another slot, with its transaction and notes unchanged
+      pub quietly : (event : Happening B) → IsHappening c.keys (engine_of c old) event (engine_of c (slotted s x work old)) → changes_what_stood event ≡ false
           → Happens c old event (slotted s x work old)
       quietly event is stays = happens c l old w event (slotted s x work old) is (record {
         healthy = w.healthy;

@@ -10,8 +10,8 @@ use Rattle.gx_machine.proofs.SetLaws.{entry_total, entry_exact}
 use Rattle.gx_events.specs.Slots.{Slot, Free, noted_in}
 use Rattle.gx_events.specs.Engines as engines
 use Rattle.gx_events.specs.Engines.{Engine, SeenAs, last_number, stood, sessions_of, opened_machine}
-use Rattle.gx_events.specs.Events.{Event, Opens, IsEvent}
-use Rattle.gx_events.specs.Runs.{AreEvents}
+use Rattle.gx_events.specs.Happenings.{Happening, Opens, IsHappening}
+use Rattle.gx_events.specs.Runs.{AreHappenings}
 use Rattle.gx_events.specs.Losers.{IsReopened}
 use Rattle.gx_events.proofs.EventRuns.{run_follows}
 use Rattle.gx_recovery.specs.Known as known
@@ -90,15 +90,15 @@ module _ {B : Type 0} (c : Class B) (l : IsLawful c) (old : State B) (w : IsWhol
       }
 
 module _ {B : Type 0} (c : Class B) where
-  pub are_events : (events : List (Event B)) (old new : State B) → AreHappening c old events new → AreEvents c.keys (engine_of c old) events (engine_of c new)
+  pub are_events : (events : List (Happening B)) (old new : State B) → AreHappening c old events new → AreHappenings c.keys (engine_of c old) events (engine_of c new)
   are_events [] old new are = ap (engine_of c) are
   are_events (event ∷ events) old new are = (engine_of c are.0, are.1.is_event, are_events events are.0 new are.2)
 
-  pub whole_on : (events : List (Event B)) (old new : State B) → IsWhole c old → AreHappening c old events new → IsWhole c new
+  pub whole_on : (events : List (Happening B)) (old new : State B) → IsWhole c old → AreHappening c old events new → IsWhole c new
   whole_on [] old new w are = subst (IsWhole c) (sym are) w
   whole_on (event ∷ events) old new w are = whole_on events are.0 new are.1.whole are.2
 
-  -- where all slots are free, what stood is what is live
+  -- if all slots are free, the committed set is what is live
   all_live : (s : State B) → s.slots ≡ replicate SESSIONS Free → (e : Entry B) → (engine_of c s).live e ≡ stood c.keys (engine_of c s) e
   all_live s free e = sym (ap (λ (slots : List (Slot B)). unwrap_or (noted_in c.keys e slots) ((engine_of c s).live e)) free)
 
@@ -186,7 +186,7 @@ module _ {B : Type 0} (c : Class B) where
       restarts_stand area log again = one_left c l number (stands_for (known_of c) one.area one.log) new keeps area log again
 
       module _ (free : new.slots ≡ replicate SESSIONS Free) where
-        is_opened : IsEvent c.keys (engine_of c old) (Opens number) (engine_of c new)
+        is_opened : IsHappening c.keys (engine_of c old) (Opens number) (engine_of c new)
         is_opened = record {
           rises = rises c l old w one.area one.log left;
           sealed = sealed c l old w one.area one.log left;

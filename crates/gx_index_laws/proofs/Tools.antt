@@ -77,7 +77,7 @@ module _ {X : Type 0} where
         | inr other ↦ (let a = ap (λ b. one_if b) other in omega (arith, a, rest))
       ]
 
--- a page that stands in a list counts in its sum
+-- a page in a list counts in its sum
 pub one_counts : (f : ℕ → ℕ) (a : ℕ) (xs : List ℕ) → 0 < times a xs → f a ≤ sum_over f xs
 one_counts f a [] some = absurd (omega arith)
 one_counts f a (x ∷ xs) some =

@@ -1,4 +1,4 @@
--- What an opening's sessions undo: by touches, by the notes of the log renewed, and by what stood.
+-- What an opening's sessions undo: by touches, by the notes of the renewed log, and by the committed set.
 use Rattle.std.proofs.Common.{◌≡◌, ℕ, zero, suc, ◌-◌, ◌<◌, ◌≤◌, Bool, true, false, not, ◌&&◌, ◌||◌, inl, inr, cond, List, [], ◌∷◌, length, Option, Some, None, refl, ap, sym, ◌∙◌, arith}
 use Rattle.std.specs.Prelude.{◌==◌, if◌then◌else◌, is_some, option_map, map, sum_by}
 use Rattle.std.specs.List.{slice_index_or, filter}

@@ -23,7 +23,7 @@ use Rattle.gx_node.specs.Looks.{LeadsTo}
 use Rattle.gx_node.proofs.Sums.{each_always}
 use Rattle.gx_events.specs.Slots.{Note, slot_at, noted, WithNote}
 use Rattle.gx_events.specs.Engines.{stood}
-use Rattle.gx_events.specs.Events.{Event, Asks, Inserts, Finds, Seals, Durable, Acknowledges, Undoes, EndsUndo, Opens, Works}
+use Rattle.gx_events.specs.Happenings.{Happening, Asks, Inserts, Finds, Seals, Durable, Acknowledges, Undoes, EndsUndo, Opens, Works}
 use Rattle.gx_events.specs.Kinds.{changes_what_stood}
 use Rattle.gx_events.proofs.WhatStood.{event_stood}
 use Rattle.gx_recovery.specs.Records.{Image, Whole}
@@ -134,13 +134,13 @@ noted_last n (m ∷ notes) x = by (same_entry number_keys x m.entry) (noted_last
     by true rest = refl
     by false rest = rest
 
--- Until the commit, nothing stood.
+-- Until the commit, the committed set is empty.
 
 record Stage (s : State ℕ) : Type 0 where
   whole : IsWhole numbers s
   nothing : IsSetOf number_keys (stood number_keys (engine_of numbers s)) []
 
-next_stage : {old new : State ℕ} {event : Event ℕ} → Stage old → Happens numbers old event new → changes_what_stood event ≡ false → Stage new
+next_stage : {old new : State ℕ} {event : Happening ℕ} → Stage old → Happens numbers old event new → changes_what_stood event ≡ false → Stage new
 next_stage {old = old} {new = new} {event = event} stage h stays = record {
   whole = h.whole;
   nothing =
@@ -402,7 +402,7 @@ happens_35 = begins numbers numbers_lawful undone happens_34.whole refl
 happens_36 : Happens numbers sent (Durable 1) reopened
 happens_36 = synced numbers numbers_lawful sent happens_35.whole refl
 
-abbrev InOpening : Event ℕ → Type 0
+abbrev InOpening : Happening ℕ → Type 0
 InOpening event = is_in_opening event ≡ true
 
 of_opening : All InOpening undoing
@@ -428,7 +428,7 @@ happens_37 = restarts_happen numbers numbers_lawful lost happens_31.whole openin
 
 -- All of it.
 
-joined : (events more : List (Event ℕ)) (old middle new : State ℕ) → AreHappening numbers old events middle → AreHappening numbers middle more new
+joined : (events more : List (Happening ℕ)) (old middle new : State ℕ) → AreHappening numbers old events middle → AreHappening numbers middle more new
     → AreHappening numbers old (events ++ more) new
 joined [] more old middle new are then_are = subst (λ (s : State ℕ). AreHappening numbers s more new) are then_are
 joined (event ∷ events) more old middle new are then_are = (are.0, are.1, joined events more are.0 middle new are.2 then_are)

@@ -41,8 +41,8 @@ use Rattle.gx_index_laws.proofs.Leaving.{write_spares, write_leaves, work_kept}
 use Rattle.gx_index_laws.proofs.Room.{IsClaimed, claimed_has_room}
 use Rattle.gx_index_laws.proofs.Standing.{grown, each_listed, known_lawful, beside_kept, is_log, is_good, is_legal, tells, busy_session, touched_is_held, one_claims, touch_is_claimed}
 
--- A step of the tree writes one entry: its mark was so and is so now, no other entry is live or dead by it, and its pair
--- then stands in this leaf or to the right of it.
+-- A step of the tree writes one entry: it had one mark and has another now, no other entry becomes live or dead by it,
+-- and its pair is then in this leaf or to the right of it.
 pub record Writes {B : Type 0} (c : Class B) (old new : Tree B) (e : Entry B) (before after : Bool) (leaf : ℕ) : Type 0 where
   pub step : Step B
   pub is_step : IsStep c.rules old step new
@@ -61,7 +61,7 @@ restored_kept c (Working locks notes call) old new restored same are = tt
 restored_kept c (Undoing locks notes) old new restored same are = λ e was there is. same e (has_noted c.keys e notes was is) ∙ are e was there is
 restored_kept c (Waiting number) old new restored same are = tt
 
--- what is closed, touched and told by one session's write
+-- what one session's write closes, touches and says
 module _ {B : Type 0} (c : Class B) (l : IsLawful c) (old : State B) (w : IsWhole c old) where
   abbrev k : Known (Entry B) (Page B)
   k = known_of c

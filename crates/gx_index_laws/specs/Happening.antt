@@ -9,7 +9,7 @@ use Rattle.gx_node.specs.Trees.{Tree}
 use Rattle.gx_node.specs.Looks.{from_root}
 use Rattle.gx_events.specs.Slots.{Slot, Working, with_slot}
 use Rattle.gx_events.specs.Engines.{SeenAs}
-use Rattle.gx_events.specs.Events.{Event, IsEvent, step_of}
+use Rattle.gx_events.specs.Happenings.{Happening, IsHappening, step_of}
 use Rattle.gx_events.specs.Runs.{RunsAs}
 use Rattle.gx_recovery.specs.Records.{Said, Record, Write}
 use Rattle.gx_recovery.specs.Coming.{MayCome}
@@ -20,13 +20,13 @@ use Rattle.gx_index_laws.specs.Whole.{IsWhole}
 
 -- From old, this leads to new: it is the engine's event, a step of any machine that the old one is seen as, and what every
 -- index keeps is kept.
-pub record Happens {B : Type 0} (c : Class B) (old : State B) (event : Event B) (new : State B) : Type 0 where
-  pub is_event : IsEvent c.keys (engine_of c old) event (engine_of c new)
+pub record Happens {B : Type 0} (c : Class B) (old : State B) (event : Happening B) (new : State B) : Type 0 where
+  pub is_event : IsHappening c.keys (engine_of c old) event (engine_of c new)
   pub steps : (m : Machine B) → SeenAs c.keys (engine_of c old) m → RunsAs c.keys m (step_of event ∷ []) (engine_of c new)
   pub whole : IsWhole c new
 
 -- A record may come after all of an index's, and with it this happens.
-pub record Comes {B : Type 0} (c : Class B) (old : State B) (r : Record (Entry B) (Page B)) (event : Event B) (new : State B) : Type 0 where
+pub record Comes {B : Type 0} (c : Class B) (old : State B) (r : Record (Entry B) (Page B)) (event : Happening B) (new : State B) : Type 0 where
   pub may_come : MayCome (known_of c) old.log.area (all_records old.log) r
   pub happens : Happens c old event new
 
@@ -71,6 +71,6 @@ abbrev pub failed_state : {B : Type 0} → State B → State B
 failed_state s = record s { failed = true }
 
 -- from old, these events lead to new, one after another
-abbrev pub AreHappening : {B : Type 0} → Class B → State B → List (Event B) → State B → Type 0
+abbrev pub AreHappening : {B : Type 0} → Class B → State B → List (Happening B) → State B → Type 0
 AreHappening c old [] new = new ≡ old
 AreHappening {B} c old (event ∷ events) new = (middle : State B) × Happens c old event middle × AreHappening c middle events new

@@ -12,7 +12,7 @@ use Rattle.gx_events.specs.Wants.{is_claimed}
 use Rattle.gx_index_laws.specs.Classes.{Class, entry_of}
 use Rattle.gx_index_laws.specs.States.{State, Work, Rests, Looks, Descends, Seeks, tree_now}
 
--- the device's pages that aren't taken
+-- the device's free pages
 abbrev pub pages_free : {B : Type 0} → Class B → Tree B → ℕ
 pages_free c t = c.pages - t.used
 

@@ -6,7 +6,7 @@ use Rattle.gx_machine.specs.declared.entry.Entry.{Entry}
 use Rattle.gx_machine.specs.Sets.{IsSetOf}
 use Rattle.gx_machine.specs.Machine.{Machine, newest, set_of}
 use Rattle.gx_events.specs.Slots.{Note}
-use Rattle.gx_events.specs.Events.{Event, Durable, Fails}
+use Rattle.gx_events.specs.Happenings.{Happening, Durable, Fails}
 use Rattle.gx_events.specs.Losers.{loser_slot, is_of_opening}
 use Rattle.gx_recovery.specs.Records.{Record, Touch}
 use Rattle.gx_recovery.specs.Analysis.{analysis, number_of}
@@ -59,11 +59,11 @@ found_state c next area log = record {
 
 -- The events of an opening: its undo, and the log's. Its records are gated like any others, but nothing is durable then that
 -- wasn't, since no commit is among them.
-abbrev pub is_in_opening : {B : Type 0} → Event B → Bool
+abbrev pub is_in_opening : {B : Type 0} → Happening B → Bool
 is_in_opening (Durable number) = true
 is_in_opening event = is_of_opening event
 
-abbrev pub is_fault : {B : Type 0} → Event B → Bool
+abbrev pub is_fault : {B : Type 0} → Happening B → Bool
 is_fault Fails = true
 is_fault event = false
 
@@ -72,7 +72,7 @@ pub record Try (B : Type 0) : Type 0 where
   pub area : ℕ → Page B
   pub log : List (Record (Entry B) (Page B))
   pub next : ℕ
-  pub events : List (Event B)
+  pub events : List (Happening B)
 
 -- An opening goes this far, over an undamaged log and pages that are good for it. Faults may have come.
 pub record GoesOpening {B : Type 0} (c : Class B) (one : Try B) (s : State B) : Type 0 where

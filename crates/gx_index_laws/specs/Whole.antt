@@ -45,7 +45,7 @@ pub record IsTied {B : Type 0} (c : Class B) (s : State B) : Type 0 where
   pub had : (t : ℕ) (e : Entry B) → settled any_number t (all_records s.log) ≡ false → is_some (own_before (known_of c) t e (all_records s.log)) ≡ true
       → IsHad s t
 
--- the kept sets are the log's, under the same numbers; what stood is the last of them
+-- the kept sets are the log's, under the same numbers; the committed set is the last of them
 pub record KeepsSets {B : Type 0} (c : Class B) (s : State B) : Type 0 where
   pub first : s.oldest ≡ durable (known_of c) s.log
   pub last : s.oldest + length s.older ≡ latest (known_of c) s.log

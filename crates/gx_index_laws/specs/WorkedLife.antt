@@ -14,7 +14,7 @@ use Rattle.gx_machine.specs.Worked.{number_keys}
 use Rattle.gx_node.specs.Trees.{Pair, Child}
 use Rattle.gx_node.specs.Reach.{TraversalItem}
 use Rattle.gx_events.specs.Slots.{Note, Free, Working, Waiting}
-use Rattle.gx_events.specs.Events.{Event, Asks, Inserts, Finds, Seals, Durable, Acknowledges, Undoes, EndsUndo, Opens, Works}
+use Rattle.gx_events.specs.Happenings.{Happening, Asks, Inserts, Finds, Seals, Durable, Acknowledges, Undoes, EndsUndo, Opens, Works}
 use Rattle.gx_recovery.specs.Records.{Whole, Record, Pages, Write, Commit, End}
 use Rattle.gx_recovery.specs.Logged.{begun, gate_synced}
 use Rattle.gx_index_laws.specs.Classes.{Class, Page}
@@ -228,29 +228,29 @@ abbrev pub reopened : State ℕ
 reopened = record sent { log = gate_synced sent.log; older = []; oldest = 1 }
 
 -- The events.
-abbrev pub inserting : List (Event ℕ)
+abbrev pub inserting : List (Happening ℕ)
 inserting =
     Asks 1 Begin (Now Ok) ∷ Asks 1 (Insert (nth 1)) Open ∷ Inserts 1 (nth 1) ∷ Asks 1 (Insert (nth 2)) Open ∷ Inserts 1 (nth 2)
     ∷ Asks 1 (Insert (nth 3)) Open ∷ Inserts 1 (nth 3) ∷ Asks 1 (Insert (nth 4)) Open ∷ Inserts 1 (nth 4) ∷ []
 
-abbrev pub committing : List (Event ℕ)
+abbrev pub committing : List (Happening ℕ)
 committing = Asks 1 CommitCall Open ∷ Seals 1 [] 1 ∷ Works ∷ Durable 1 ∷ Acknowledges 1 1 ∷ []
 
 -- the search begins, and another looks and descends, up to the split
-abbrev pub descending : List (Event ℕ)
+abbrev pub descending : List (Happening ℕ)
 descending =
     Asks 2 Begin (Now Ok) ∷ Asks 2 (Search query) Open ∷ Works ∷ Asks 1 Begin (Now Ok) ∷ Asks 1 (Insert fifth) Open
     ∷ Works ∷ Works ∷ Works ∷ Works ∷ Works ∷ []
 
 -- the entry is added, and the search goes on to its end
-abbrev pub finding : List (Event ℕ)
+abbrev pub finding : List (Happening ℕ)
 finding = Works ∷ Works ∷ Inserts 1 fifth ∷ Works ∷ Works ∷ Finds 2 query (nth 4 ∷ []) ∷ Works ∷ []
 
-abbrev pub undoing : List (Event ℕ)
+abbrev pub undoing : List (Happening ℕ)
 undoing = Works ∷ Undoes 1 fifth ∷ EndsUndo 1 ∷ Works ∷ Durable 1 ∷ []
 
 abbrev pub opening : Try ℕ
 opening = record { area = lost.log.area; log = found_log; next = 4; events = undoing }
 
-abbrev pub worked_events : List (Event ℕ)
+abbrev pub worked_events : List (Happening ℕ)
 worked_events = inserting ++ (committing ++ (descending ++ (finding ++ Opens 1 ∷ [])))

@@ -1,4 +1,4 @@
--- What holds of a session's work: what the tree's laws say of it, for what its slot wants.
+-- Laws of a session's work: what the tree's laws say of it, for what its slot wants.
 use Rattle.std.specs.Prelude.{ℕ, ◌≡◌, ◌≢◌, ◌<◌, ◌⊎◌, Bool, true, Option, None, Some, List, []}
 use Rattle.gx_machine.specs.declared.entry.Entry.{Entry}
 use Rattle.gx_machine.specs.declared.call.Call.{Call}
@@ -25,7 +25,7 @@ open_call (Waiting number) = None
 abbrev pub wants_pair : {B : Type 0} → Class B → Slot B → Pair B → Bool
 wants_pair c slot x = slot_wants c.keys slot (pair_of x)
 
--- a descent is at the root, where it begins, or came from an inner page that is taken
+-- a descent is at the root, where it begins, or came from an inner page in use
 abbrev pub CameFrom : {B : Type 0} → Tree B → ℕ → ℕ → Type 0
 CameFrom t parent page = ((parent ≡ 0) × (page ≡ 1)) ⊎ (Used t parent × (0 < (t.node parent).level))
 

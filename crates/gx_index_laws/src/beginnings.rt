@@ -10,7 +10,7 @@ ghost use Rattle.gx_machine.specs.Machine.{is_session, fresh_machine};
 ghost use Rattle.gx_events.specs.Slots.{Free, slot_at};
 ghost use Rattle.gx_events.specs.Engines.{SeenAs};
 ghost use Rattle.gx_events.specs.Asking.{ask_in, ask};
-ghost use Rattle.gx_events.specs.Events.{Asks, RefusesAsk};
+ghost use Rattle.gx_events.specs.Happenings.{Asks, RefusesAsk};
 ghost use Rattle.gx_recovery.specs.Damage.{is_transaction};
 ghost use Rattle.gx_index_laws.specs.Classes.{Class, IsLawful};
 ghost use Rattle.gx_index_laws.specs.States.{State, tree_now, engine_of, fresh_state};

@@ -6,7 +6,7 @@ ghost use Rattle.gx_machine.specs.Sets.{has, IsSetOf};
 ghost use Rattle.gx_machine.specs.Sessions.{Locks};
 ghost use Rattle.gx_events.specs.Slots.{Note, Free, Working, Undoing, Waiting, slot_at, noted};
 ghost use Rattle.gx_events.specs.Engines.{stood};
-ghost use Rattle.gx_events.specs.Events.{Seals, Acknowledges, EndsUndo};
+ghost use Rattle.gx_events.specs.Happenings.{Seals, Acknowledges, EndsUndo};
 ghost use Rattle.gx_recovery.specs.Records.{Commit, End};
 ghost use Rattle.gx_recovery.specs.Logged.{latest};
 ghost use Rattle.gx_index_laws.specs.Classes.{Class, IsLawful, known_of};
@@ -14,8 +14,8 @@ ghost use Rattle.gx_index_laws.specs.States.{State, Rests, engine_of};
 ghost use Rattle.gx_index_laws.specs.Whole.{IsWhole};
 ghost use Rattle.gx_index_laws.specs.Happening.{Happens, Comes, with_record, slotted};
 
-/// A commit's record is appended, with the next number: the commit is sealed, what stood is one set more of the older
-/// ones, and the session's notes are gone. What stood is a list: the machine's last set.
+/// A commit's record is appended, with the next number: the commit is sealed, the set that was committed before is one
+/// more of the older ones, and the session's notes are gone. That set can be listed: it is the machine's last set.
 pub fn a_commit_is_sealed<B>()
     ensures sealed { (c : Class B) → IsLawful c → (old : State B) → IsWhole c old → old.failed ≡ false
         → (s : ℕ) (locks : Locks B) (notes : List (Note B))

@@ -5,7 +5,7 @@ ghost use Rattle.gx_geom.specs.declared.refusal.Refusal.TheVariants.{Device, Fai
 ghost use Rattle.gx_machine.specs.declared.call.Call.{Call};
 ghost use Rattle.gx_node.specs.Steps.{Step, IsStep};
 ghost use Rattle.gx_events.specs.Slots.{slot_at, is_unanswered};
-ghost use Rattle.gx_events.specs.Events.{Durable, Works, Fails, RefusesAsk, RefusesCall};
+ghost use Rattle.gx_events.specs.Happenings.{Durable, Works, Fails, RefusesAsk, RefusesCall};
 ghost use Rattle.gx_recovery.specs.Analysis.{analysis};
 ghost use Rattle.gx_recovery.specs.Records.{Image, Change, Pages, Adjust};
 ghost use Rattle.gx_recovery.specs.Damage.{image_fits};

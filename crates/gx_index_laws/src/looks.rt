@@ -1,4 +1,4 @@
-//! A session's look, descent or seek at work, and the answers that it comes to.
+//! Laws of a session's look, descent or seek at work, and of its replies.
 ghost use Rattle.std.specs.Prelude.{◌≡◌, ◌<◌, ℕ, Bool, true, false, not, ◌&&◌, Some, None, List, [], ◌∷◌, ◌++◌, map};
 ghost use Rattle.gx_geom.specs.declared.refusal.Refusal.{Refusal};
 ghost use Rattle.gx_machine.specs.declared.entry.Entry.{Entry};
@@ -13,7 +13,7 @@ ghost use Rattle.gx_node.specs.Reach.{TraversalItem};
 ghost use Rattle.gx_node.specs.Looks.{LeadsTo, stacked, found_with, from_root};
 ghost use Rattle.gx_events.specs.Slots.{Note, Working, Undoing, slot_at, noted};
 ghost use Rattle.gx_events.specs.Engines.{gathered};
-ghost use Rattle.gx_events.specs.Events.{Finds, FindsPresent, FindsAbsent, Closes, Works};
+ghost use Rattle.gx_events.specs.Happenings.{Finds, FindsPresent, FindsAbsent, Closes, Works};
 ghost use Rattle.gx_events.specs.Wants.{slot_wants};
 ghost use Rattle.gx_recovery.specs.Records.{Touch};
 ghost use Rattle.gx_recovery.specs.Analysis.{analysis, lists};
@@ -92,7 +92,7 @@ pub fn an_undo_seeks_from_its_notes_leaf<B>()
         → DoesWork c (tree_now c old) (slot_at s old.slots) (Seeks x.entry x.leaf) }
 {}
 
-/// What a session seeks is in the tree, one pair of it: no seek is in vain, not even an undo's.
+/// The tree has exactly one pair that a session seeks: every seek finds its pair, also an undo's.
 pub fn what_is_sought_stands<B>()
     ensures { (c : Class B) → IsLawful c → (old : State B) → IsWhole c old → (s : ℕ) (e : Entry B) (leaf : ℕ)
         → old.work s ≡ Seeks e leaf

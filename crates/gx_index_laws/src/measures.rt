@@ -148,9 +148,9 @@ pub fn transactions_come_to_an_end<B>()
         → work_left c old s ≡ 0 }
 {}
 
-/// What is no session's leaves each session's call no more to do. The log leaves as much: a batch that begins, pages
-/// that are written, a gate that is synced, a checkpoint's new log. A split, a root split, a widening or a sweep leaves
-/// no more: what a split puts ahead of a look, or to the right of a seek, it takes from the pages that aren't taken.
+/// An event of no session leaves each session's call no more to do. Events of the log leave as much: the start of a
+/// batch, written pages, a synced gate, a checkpoint's new log. A split, a root split, a widening or a sweep leaves no
+/// more: what a split puts ahead of a look, or to the right of a seek, it takes from the free pages.
 pub fn what_is_no_sessions_leaves_no_more<B>()
     ensures begins { (c : Class B) (old : State B) → old.log.flight ≡ [] → (s : ℕ)
         → work_left c (record old { log = begun old.log }) s ≡ work_left c old s }
@@ -193,9 +193,9 @@ pub fn what_is_freed_is_all_that_comes<B>()
         ≤ work_left c old a + length (locks_held (slot_at s old.slots)).claims }
 {}
 
-/// What is to be done for the log and for frames, before a call that waits for it can go on, is below 2^13, with at
-/// most 4,096 frames. Each chore that does its work lowers it:
-/// a step of the log, a page's write, a step of a checkpoint.
+/// The number of events for the log and for frames before a call that waits for them can go on is below 2^13, with at
+/// most 4,096 frames. Each such event that does its work lowers it: a step of the log, a page's write, a step of a
+/// checkpoint.
 pub fn chores_come_to_an_end()
     ensures most { (u : Upkeep) → IsWithin u → upkeep_left u < 2 ^ 13 }
     ensures falls { (old new : Upkeep) (chore : Chore) → IsChore old chore new → upkeep_left new < upkeep_left old }

@@ -8,7 +8,7 @@ ghost use Rattle.gx_machine.specs.Machine.{Machine};
 ghost use Rattle.gx_node.specs.Trees.{Tree, leaves};
 ghost use Rattle.gx_events.specs.Slots.{Free};
 ghost use Rattle.gx_events.specs.Engines.{gathered, opened_machine, stood, SeenAs};
-ghost use Rattle.gx_events.specs.Events.{Event, Opens, Acknowledges};
+ghost use Rattle.gx_events.specs.Happenings.{Happening, Opens, Acknowledges};
 ghost use Rattle.gx_events.specs.Losers.{AreLosers, IsReopened, losing_machine};
 ghost use Rattle.gx_recovery.specs.Records.{Record};
 ghost use Rattle.gx_recovery.specs.Analysis.{analysis, number_of};
@@ -25,8 +25,8 @@ ghost use Rattle.gx_index_laws.specs.Openings.{losers_of, found_state, is_fault,
 ghost use Rattle.gx_index_laws.specs.Openings.{GoesOpening, AreRestarts, IsKeptBy};
 
 /// An index that is found over a log that is undamaged, and pages that are good for it, is whole: these pages and this
-/// log, and a session for each transaction that was cut off, which undoes it. What stood is what the log stands for,
-/// and it is seen as the machine with that set whose sessions abort. That set is all that its log keeps, under the
+/// log, and a session for each transaction that was cut off, which undoes it. The committed set is what the log stands
+/// for, and it is seen as the machine with that set whose sessions abort. That set is all that its log keeps, under the
 /// log's number, and it is durable. The next transaction's number is any that covers the log's.
 pub fn a_found_index_is_whole<B>()
     ensures whole { (c : Class B) → IsLawful c → (next : ℕ) (area : ℕ → Page B) (log : List (Record (Entry B) (Page B)))
@@ -80,10 +80,10 @@ pub fn a_crash_leaves_an_index_to_open<B>()
         (engine_of c old) (engine_of c (found_state c next area log)) }
 {}
 
-/// An opening over an undamaged log, and pages that are good for it, at each moment of it: the index is whole, what
-/// stood is what the log stands for, and whatever a crash leaves stands for that very set, under the log's number. Once
-/// all that was cut off is undone, it is seen as the machine with that one set, of that number, and idle sessions,
-/// which has failed where a fault came.
+/// An opening over an undamaged log, and pages that are good for it, at each moment of it: the index is whole, its
+/// committed set is what the log stands for, and whatever a crash leaves stands for that very set, under the log's
+/// number. Once all that was cut off is undone, it is seen as the machine with that one set, of that number, and idle
+/// sessions, which has failed if a fault came.
 pub fn an_opening_keeps_its_set<B>()
     ensures whole { (c : Class B) → IsLawful c → (one : Try B) (s : State B) → GoesOpening c one s → IsWhole c s }
     ensures stood { (c : Class B) → IsLawful c → (one : Try B) (s : State B) → GoesOpening c one s
@@ -119,13 +119,13 @@ pub fn openings_are_one_opening<B>()
 {}
 
 /// Whatever a crash leaves of a whole index stands for the set that its machine keeps under the image's number. And
-/// that number is none below a commit's that was acknowledged before,
-/// whatever came in between: events, crashes, openings.
+/// that number is at least that of each commit that was acknowledged before, whatever came in between: events, crashes,
+/// openings.
 pub fn a_crash_leaves_a_kept_set<B>()
     ensures kept { (c : Class B) → IsLawful c → (s : State B) → IsWhole c s → (m : Machine B)
         → SeenAs c.keys (engine_of c s) m
         → (area : ℕ → Page B) (log : List (Record (Entry B) (Page B))) → IsLeft s.log area log → IsKeptBy c m area log }
-    ensures acknowledged { (c : Class B) → IsLawful c → (old new : State B) (s number : ℕ) (events : List (Event B))
+    ensures acknowledged { (c : Class B) → IsLawful c → (old new : State B) (s number : ℕ) (events : List (Happening B))
         → IsWhole c old
         → AreHappening c old (Acknowledges s number ∷ events) new
         → (area : ℕ → Page B) (log : List (Record (Entry B) (Page B))) → IsLeft new.log area log

@@ -1,5 +1,5 @@
 //! The laws at work on a list of events that was worked out by hand, so that none holds only because it has no case.
-ghost use Rattle.std.specs.Prelude.{◌≡◌, ◌<◌, Some, true, false, replicate, [], ◌∷◌, length};
+ghost use Rattle.std.specs.Prelude.{◌≡◌, Some, true, false, replicate, [], ◌∷◌, length};
 ghost use Rattle.gx_machine.specs.declared.limits.TheConstants.{SESSIONS};
 ghost use Rattle.gx_machine.specs.declared.call.Call.TheVariants.{Search};
 ghost use Rattle.gx_node.specs.Steps.{IsStep, Splits};
@@ -12,7 +12,7 @@ ghost use Rattle.gx_index_laws.specs.Working.{open_call};
 ghost use Rattle.gx_index_laws.specs.Whole.{IsWhole};
 ghost use Rattle.gx_index_laws.specs.Happening.{AreHappening};
 ghost use Rattle.gx_index_laws.specs.Openings.{GoesOpening, IsRestart};
-ghost use Rattle.gx_index_laws.specs.WorkedLife.{numbers, query, nth, fifth, note, claiming, item, split, state_23};
+ghost use Rattle.gx_index_laws.specs.WorkedLife.{numbers, query, nth, fifth, note, claiming, item, state_23};
 ghost use Rattle.gx_index_laws.specs.WorkedLife.{state_24, lost, found_log, opened, reopened, opening, worked_events};
 
 /// From a fresh index on: one session inserts four entries and commits; a search of another is open while a leaf is

@@ -7,7 +7,7 @@ ghost use Rattle.gx_machine.specs.Sessions.{Locks};
 ghost use Rattle.gx_node.specs.Lists.{how_many};
 ghost use Rattle.gx_node.specs.Steps.{IsAdding, IsMarking};
 ghost use Rattle.gx_events.specs.Slots.{Note, Working, Undoing, slot_at, noted, WithNote};
-ghost use Rattle.gx_events.specs.Events.{Inserts, Deletes, Undoes};
+ghost use Rattle.gx_events.specs.Happenings.{Inserts, Deletes, Undoes};
 ghost use Rattle.gx_recovery.specs.Records.{Said};
 ghost use Rattle.gx_recovery.specs.Coming.{IsSaid};
 ghost use Rattle.gx_recovery.specs.Logged.{all_records};

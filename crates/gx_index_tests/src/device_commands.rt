@@ -1,5 +1,7 @@
 //! Commands over devices in memory: the status, what is written, what is read, and whether the user gets a message.
 
+use crate::asserts::{got, holds};
+use crate::ended::Ended;
 use gx_class::Box2Class;
 use gx_commands::{Noted, dump_over, format_over, run_over};
 use gx_disk::{DiskFault, Fuse, FuseDisk, MemDisk, SectorDisk};
@@ -44,24 +46,6 @@ impl<D: SectorDisk> SectorDisk for Counted<D> {
     }
 }
 
-// What became of a command: its status, what was written, how many bytes weren't read, and whether the user got a
-// message.
-#[derive(Drop)]
-struct Ended {
-    status: u8,
-    written: Vec<u8>,
-    left: usize,
-    is_told: bool,
-}
-
-impl Ended {
-    // Whether it is this status, and this text was written and no more. The user gets a message where the status isn't
-    // 0.
-    fn is(&self, status: u8, text: &[u8]) -> bool {
-        self.status == status && self.is_told == (status != 0) && self.written.as_slice() == text
-    }
-}
-
 // Runs a script over a device with so many frames. Returns the device.
 fn run<D: SectorDisk + Drop>(alloc: Global, disk: D, frames: usize, script: &[u8]) -> (D, Ended) {
     let mut reader = Noted::new(script);
@@ -75,13 +59,8 @@ fn run<D: SectorDisk + Drop>(alloc: Global, disk: D, frames: usize, script: &[u8
         &mut writer,
         &mut faults,
     );
-    let ended = Ended {
-        status,
-        written: writer.inner,
-        left: reader.inner.len(),
-        is_told: !faults.inner.is_empty(),
-    };
-    (disk, ended)
+    let left = reader.inner.len();
+    (disk, Ended::new(status, writer, faults, left))
 }
 
 // A device is formatted.
@@ -96,12 +75,7 @@ fn format(alloc: Global, disk: &mut MemDisk, pages: u32, most: u16) -> Ended {
         &mut writer,
         &mut faults,
     );
-    Ended {
-        status,
-        written: writer.inner,
-        left: 0,
-        is_told: !faults.inner.is_empty(),
-    }
+    Ended::new(status, writer, faults, 0)
 }
 
 // Dumps the tree of a device's index. Returns the device.
@@ -115,13 +89,7 @@ fn dump(alloc: Global, disk: MemDisk) -> (MemDisk, Ended) {
         &mut writer,
         &mut faults,
     );
-    let ended = Ended {
-        status,
-        written: writer.inner,
-        left: 0,
-        is_told: !faults.inner.is_empty(),
-    };
-    (disk, ended)
+    (disk, Ended::new(status, writer, faults, 0))
 }
 
 // A new device with an index of 16 pages.
@@ -134,37 +102,39 @@ fn fresh(alloc: Global) -> Option<MemDisk> {
     }
 }
 
-// A script over this device is done, and gives these replies. Returns the device.
-fn gives<T: Abort + AllocGlobal>(rt: &T, disk: MemDisk, script: &[u8], replies: &[u8]) -> MemDisk {
-    let (disk, ended) = run(rt.alloc(), disk, 16, script);
-    assert!(rt; ended.is(0, replies));
+// A script, and its replies.
+type Case = (&'static [u8], &'static [u8]);
+
+// Fails unless scripts over this device, one after another, are done and give these replies. Returns the device.
+fn all_give<T: Abort + AllocGlobal>(rt: &T, disk: MemDisk, cases: &[Case]) -> MemDisk {
+    let mut disk = disk;
+    for (script, replies) in cases {
+        let (next, ended) = run(rt.alloc(), disk, 16, script);
+        holds(rt, ended.is(0, replies));
+        disk = next;
+    }
     disk
 }
 
-#[test]
-fn commits_are_found_again(rt: HostRuntime) {
-    let Some(disk) = fresh(rt.alloc()) else {
-        assert!(rt; false);
-        return;
-    };
-    let disk = gives(
-        &rt,
-        disk,
+static FOUND_AGAIN: [Case; 3] = [
+    (
         b"1 BEGIN\n1 INSERT 7 0 0 10 10\n1 COMMIT\n1 BEGIN\n1 OVERLAP 10 10 20 20\n",
         b"1 ok\n1 inserted\n1 committed 1\n1 ok\n1 found 1\n1 entry 7 0 0 10 10\n",
-    );
-    let disk = gives(
-        &rt,
-        disk,
+    ),
+    (
         b"1 BEGIN\n1 OVERLAP 10 10 20 20\n1 INSERT 8 0 0 1 1\n",
         b"1 ok\n1 found 1\n1 entry 7 0 0 10 10\n1 inserted\n",
-    );
-    gives(
-        &rt,
-        disk,
+    ),
+    (
         b"1 BEGIN\n1 OVERLAP 0 0 9 9\n1 INSERT 8 0 0 1 1\n1 COMMIT\n",
         b"1 ok\n1 found 1\n1 entry 7 0 0 10 10\n1 inserted\n1 committed 2\n",
-    );
+    ),
+];
+
+#[test]
+fn commits_are_found_again(rt: HostRuntime) {
+    let disk = got(&rt, fresh(rt.alloc()));
+    all_give(&rt, disk, &FOUND_AGAIN);
 }
 
 // A script that commits sixty rows, four of which have room in a node.
@@ -187,7 +157,7 @@ fn reads<T: Abort + AllocGlobal>(
     script: &[u8],
 ) -> (MemDisk, usize) {
     let (counted, ended) = run(rt.alloc(), Counted { disk, reads: 0 }, frames, script);
-    assert!(rt; ended.status == 0);
+    holds(rt, ended.status == 0);
     (counted.disk, counted.reads)
 }
 
@@ -195,12 +165,10 @@ fn reads<T: Abort + AllocGlobal>(
 // don't.
 #[test]
 fn frames_are_as_many_as_asked_for(rt: HostRuntime) {
-    let (Ok(mut disk), Ok(rows)) = (MemDisk::new(rt.alloc(), 4168 + 8 * 64), rows(rt.alloc()))
-    else {
-        assert!(rt; false);
-        return;
-    };
-    assert!(rt; format(rt.alloc(), &mut disk, 64, 4).is(0, b"formatted pages 64 fanout 4\n"));
+    let rows = got(&rt, rows(rt.alloc()).ok());
+    let mut disk = got(&rt, MemDisk::new(rt.alloc(), 4168 + 8 * 64).ok());
+    let formatted = format(rt.alloc(), &mut disk, 64, 4);
+    holds(&rt, formatted.is(0, b"formatted pages 64 fanout 4\n"));
     let (disk, _) = reads(&rt, disk, 16, rows.as_slice());
     // (from here on an opening finds one body in the log)
     let (disk, _) = reads(&rt, disk, 16, b"");
@@ -210,74 +178,68 @@ fn frames_are_as_many_as_asked_for(rt: HostRuntime) {
     let (disk, many_twice) = reads(&rt, disk, 64, twice);
     let (disk, few_once) = reads(&rt, disk, 16, once);
     let (_, few_twice) = reads(&rt, disk, 16, twice);
-    assert!(rt; many_twice == many_once && few_once < few_twice);
+    holds(&rt, many_twice == many_once && few_once < few_twice);
 }
+
+// How many sectors of zeros a device has, and what a script over it is refused with.
+static SCRIPTS_REFUSED: [(usize, &[u8]); 2] = [
+    (SECTORS, b"refused 14 not formatted\n"),
+    (4000, b"refused 17 too small\n"),
+];
+
+// How many pages a format is to make, how many entries a node, and what it is refused with.
+static FORMATS_REFUSED: [(u32, u16, &[u8]); 3] = [
+    (7, 4, b"refused 18 bad parameter\n"),
+    (16, 3, b"refused 18 bad parameter\n"),
+    (17, 4, b"refused 17 too small\n"),
+];
 
 #[test]
 fn refusals(rt: HostRuntime) {
-    let alloc = rt.alloc();
     let script = b"1 BEGIN\n".as_slice();
-    for (sectors, line) in [
-        (SECTORS, b"refused 14 not formatted\n".as_slice()),
-        (4000, b"refused 17 too small\n".as_slice()),
-    ] {
-        let Ok(disk) = MemDisk::new(alloc, sectors) else {
-            assert!(rt; false);
-            return;
-        };
-        let (_, ended) = run(alloc, disk, 16, script);
-        assert!(rt; ended.is(1, line) && ended.left == script.len());
+    for (sectors, line) in &SCRIPTS_REFUSED {
+        let disk = got(&rt, MemDisk::new(rt.alloc(), *sectors).ok());
+        let (_, ended) = run(rt.alloc(), disk, 16, script);
+        holds(&rt, ended.is(1, line) && ended.left == script.len());
     }
-    let Ok(mut disk) = MemDisk::new(alloc, SECTORS) else {
-        assert!(rt; false);
-        return;
-    };
-    for (pages, most, line) in [
-        (7, 4, b"refused 18 bad parameter\n".as_slice()),
-        (16, 3, b"refused 18 bad parameter\n".as_slice()),
-        (17, 4, b"refused 17 too small\n".as_slice()),
-    ] {
-        assert!(rt; format(alloc, &mut disk, pages, most).is(1, line));
+    let mut disk = got(&rt, MemDisk::new(rt.alloc(), SECTORS).ok());
+    for (pages, most, line) in &FORMATS_REFUSED {
+        let ended = format(rt.alloc(), &mut disk, *pages, *most);
+        holds(&rt, ended.is(1, line));
     }
 }
+
+static BEFORE_DUMPS: [Case; 1] = [(
+    b"1 BEGIN\n1 INSERT 7 0 0 10 10\n1 COMMIT\n1 BEGIN\n1 INSERT 8 5 5 6 6\n",
+    b"1 ok\n1 inserted\n1 committed 1\n1 ok\n1 inserted\n",
+)];
+
+static BEHIND_DUMPS: [Case; 1] = [(
+    b"1 BEGIN\n1 WITHIN 0 0 10 10\n1 INSERT 9 1 1 2 2\n1 COMMIT\n",
+    b"1 ok\n1 found 1\n1 entry 7 0 0 10 10\n1 inserted\n1 committed 2\n",
+)];
 
 // The tree has what a transaction that was left open inserted, marked by the opening that undid it; and dumps change
 // nothing for the script behind them.
 #[test]
 fn trees_are_told(rt: HostRuntime) {
-    let Some(disk) = fresh(rt.alloc()) else {
-        assert!(rt; false);
-        return;
-    };
-    let disk = gives(
-        &rt,
-        disk,
-        b"1 BEGIN\n1 INSERT 7 0 0 10 10\n1 COMMIT\n1 BEGIN\n1 INSERT 8 5 5 6 6\n",
-        b"1 ok\n1 inserted\n1 committed 1\n1 ok\n1 inserted\n",
-    );
+    let disk = got(&rt, fresh(rt.alloc()));
+    let disk = all_give(&rt, disk, &BEFORE_DUMPS);
     let text =
         b"commits 1 used 2 counter 0\npage 1 level 1 nsn 0 right 0 count 1\nchild 2 0 0 10 10\npage 2 level 0 nsn 0 right 0 count 2\nentry 7 0 0 10 10 live\nentry 8 5 5 6 6 marked\n";
     let (disk, first) = dump(rt.alloc(), disk);
     let (disk, second) = dump(rt.alloc(), disk);
-    assert!(rt; first.is(0, text) && second.is(0, text));
-    gives(
-        &rt,
-        disk,
-        b"1 BEGIN\n1 WITHIN 0 0 10 10\n1 INSERT 9 1 1 2 2\n1 COMMIT\n",
-        b"1 ok\n1 found 1\n1 entry 7 0 0 10 10\n1 inserted\n1 committed 2\n",
-    );
+    holds(&rt, first.is(0, text) && second.is(0, text));
+    all_give(&rt, disk, &BEHIND_DUMPS);
 }
 
 // A writer without room ends a dump, as does a device that isn't formatted.
 #[test]
 fn dumps_that_end_early(rt: HostRuntime) {
-    let (Some(disk), Ok(unformatted)) = (fresh(rt.alloc()), MemDisk::new(rt.alloc(), SECTORS))
-    else {
-        assert!(rt; false);
-        return;
-    };
+    let unformatted = got(&rt, MemDisk::new(rt.alloc(), SECTORS).ok());
     let (_, refused) = dump(rt.alloc(), unformatted);
-    assert!(rt; refused.is(1, b"refused 14 not formatted\n"));
+    holds(&rt, refused.is(1, b"refused 14 not formatted\n"));
+    let disk = got(&rt, fresh(rt.alloc()));
     let mut room = [0u8; 20];
     let mut told = [0u8; 1];
     let mut writer = Noted::new(room.as_mut_slice());
@@ -289,7 +251,10 @@ fn dumps_that_end_early(rt: HostRuntime) {
         &mut writer,
         &mut faults,
     );
-    assert!(rt; status == 1 && &room == b"commits 0 used 2 cou" && told != [0]);
+    holds(
+        &rt,
+        status == 1 && &room == b"commits 0 used 2 cou" && told != [0],
+    );
 }
 
 // How a script over a device that fails may end, by where it first fails: in the opening, the insert, the commit, and
@@ -308,25 +273,15 @@ fn devices_that_fail(rt: HostRuntime) {
     let script = b"1 BEGIN\n1 INSERT 7 0 0 9 9\n1 COMMIT\n1 BEGIN\n1 INSERT 8 0 0 9 9\n".as_slice();
     let mut last = 0usize;
     for passed in 0..200 {
-        let Some(disk) = fresh(rt.alloc()) else {
-            assert!(rt; false);
-            return;
-        };
-        let (_, ended) = run(
-            rt.alloc(),
-            FuseDisk::new(disk, passed, Fuse::ForEver, false),
-            16,
-            script,
-        );
+        let disk = got(&rt, fresh(rt.alloc()));
+        let disk = FuseDisk::new(disk, passed, Fuse::ForEver, false);
+        let (_, ended) = run(rt.alloc(), disk, 16, script);
         if ended.is(0, b"1 ok\n1 inserted\n1 committed 1\n1 ok\n1 inserted\n") {
             break;
         }
-        let Some(place) = ENDS.iter().position(|end| ended.is(1, end)) else {
-            assert!(rt; false);
-            return;
-        };
-        assert!(rt; last <= place && place.saturating_sub(last) <= 1);
+        let place = got(&rt, ENDS.iter().position(|end| ended.is(1, end)));
+        holds(&rt, last <= place && place.saturating_sub(last) <= 1);
         last = place;
     }
-    assert!(rt; last == 3);
+    holds(&rt, last == 3);
 }

@@ -1,11 +1,11 @@
 //! An index of which no page is left: inserts are refused, and deletes go on.
+use crate::asserts::{got, holds};
 use crate::devices::fresh;
 use gx_class::Box2Class;
 use gx_disk::MemDisk;
 use gx_geom::{Box2, Refusal};
 use gx_machine::{Call, Entry, Reply};
 use gx_restart::Index;
-use std::alloc::Global;
 use std::process::Abort;
 
 // A row with another box.
@@ -39,16 +39,16 @@ fn emptied(index: &mut Index<MemDisk, Box2Class>, rows: u8) -> Option<bool> {
 }
 
 // Whether an index is filled, and each of its rows can be deleted then.
-fn deletes(alloc: Global) -> Option<bool> {
-    let mut index = fresh(alloc)?;
+fn deletes(index: &mut Index<MemDisk, Box2Class>) -> Option<bool> {
     let begun = matches!(index.call(1, Call::Begin), Reply::Ok);
-    let rows = filled(&mut index)?;
-    let emptied = emptied(&mut index, rows)?;
+    let rows = filled(index)?;
+    let emptied = emptied(index, rows)?;
     let committed = matches!(index.call(1, Call::Commit), Reply::Committed(1));
     Some(begun && rows > 16 && emptied && committed)
 }
 
 #[test]
 fn deletes_go_on(rt: HostRuntime) {
-    assert!(rt; deletes(rt.alloc()) == Some(true));
+    let mut index = got(&rt, fresh(rt.alloc()));
+    holds(&rt, deletes(&mut index) == Some(true));
 }

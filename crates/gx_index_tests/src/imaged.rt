@@ -1,5 +1,7 @@
 //! A device whose log has images alone and no small record, written by hand, and what it is opened to.
+use crate::asserts::holds;
 use crate::devices::{formatted, index_over};
+use Part::{Bytes, Zeros};
 use gx_class::Box2Class;
 use gx_disk::{MemDisk, SectorDisk};
 use gx_geom::Box2;
@@ -13,25 +15,90 @@ const GATE: u64 = 9;
 
 const BODY: u64 = 104;
 
+// A part of a body: these bytes, or so many zeros.
+#[derive(Clone, Copy)]
+enum Part {
+    Bytes(&'static [u8]),
+    Zeros(usize),
+}
+
 // The boxes 0 0 10 10 of row 7, which is the root's bound too, and 0 0 5 5 of row 8.
-static LARGE: [u8; 16] = [0, 0, 0, 0, 0, 0, 0, 0, 0, 0, 0, 10, 0, 0, 0, 10];
+const LARGE: Part = Bytes(&[0, 0, 0, 0, 0, 0, 0, 0, 0, 0, 0, 10, 0, 0, 0, 10]);
 
-static SMALL: [u8; 16] = [0, 0, 0, 0, 0, 0, 0, 0, 0, 0, 0, 5, 0, 0, 0, 5];
+const SMALL: Part = Bytes(&[0, 0, 0, 0, 0, 0, 0, 0, 0, 0, 0, 5, 0, 0, 0, 5]);
 
-static SEVEN: [u8; 8] = [0, 0, 0, 0, 0, 0, 0, 7];
+const SEVEN: Part = Bytes(&[0, 0, 0, 0, 0, 0, 0, 7]);
 
-static EIGHT: [u8; 8] = [0, 0, 0, 0, 0, 0, 0, 8];
+const EIGHT: Part = Bytes(&[0, 0, 0, 0, 0, 0, 0, 8]);
 
-// What a page has behind its level, count and heap: no sequence number, no rightlink, and its own number.
-static ROOT: [u8; 24] = [
+// What pages 1 and 2 have behind their level, count and heap: no sequence number, no rightlink, and their own number.
+const ROOT: Part = Bytes(&[
     0, 0, 0, 0, 0, 0, 0, 0, 0, 0, 0, 0, 0, 0, 0, 1, 0, 0, 0, 0, 0, 0, 0, 0,
-];
+]);
 
-static LEAF: [u8; 24] = [
+const LEAF: Part = Bytes(&[
     0, 0, 0, 0, 0, 0, 0, 0, 0, 0, 0, 0, 0, 0, 0, 2, 0, 0, 0, 0, 0, 0, 0, 0,
+]);
+
+// The front of a write of transaction 1 or 2.
+const FIRST: Part = Bytes(&[2, 0, 0, 0, 0, 0, 0, 0, 1]);
+
+const SECOND: Part = Bytes(&[2, 0, 0, 0, 0, 0, 0, 0, 2]);
+
+// The end of a write in page 2: of an insert and of a delete, by the mark before and after.
+const INSERTED: Part = Bytes(&[1, 0, 0, 0, 0, 2]);
+
+const DELETED: Part = Bytes(&[0, 1, 0, 0, 0, 2]);
+
+// The image of page 2 with both rows, but for the mark of row 7 behind it.
+const BOTH: &[Part] = &[
+    Bytes(&[0, 0, 0, 2, 0x0f, 0xce, 0, 0]),
+    LEAF,
+    Bytes(&[0x0f, 0xe7, 0, 0x19, 0x0f, 0xce, 0, 0x19]),
+    Zeros(4006),
+    SMALL,
+    EIGHT,
+    Bytes(&[0]),
+    LARGE,
 ];
 
-// Puts so many zeros behind what is there.
+// The records: the root's bound is wider, transaction 1 inserts both rows and commits, and transaction 2 deletes row 7
+// and doesn't.
+static RECORDS: [&[Part]; 10] = [
+    // the root's bound, and the image of page 1: a root over page 2
+    &[
+        Bytes(&[1, 0, 0, 0, 0, 0, 0, 0, 0, 0, 0, 0, 2, 1, 0, 0, 0, 1]),
+        Bytes(&[0, 1, 0, 1, 0x0f, 0xec, 0, 0]),
+        ROOT,
+        Bytes(&[0x0f, 0xec, 0, 0x14]),
+        Zeros(4040),
+        LARGE,
+        Bytes(&[0, 0, 0, 2]),
+    ],
+    // row 7, and the image of page 2 with it
+    &[FIRST, SEVEN, LARGE, INSERTED],
+    &[
+        Bytes(&[0, 0, 0, 1, 0x0f, 0xe7, 0, 0]),
+        LEAF,
+        Bytes(&[0x0f, 0xe7, 0, 0x19]),
+        Zeros(4035),
+        LARGE,
+        SEVEN,
+        Bytes(&[0]),
+    ],
+    // row 8, and the image of page 2 with both
+    &[FIRST, EIGHT, SMALL, INSERTED],
+    BOTH,
+    &[SEVEN, Bytes(&[0])],
+    // the commit
+    &[Bytes(&[3, 0, 0, 0, 0, 0, 0, 0, 1, 0, 0, 0, 0, 0, 0, 0, 1])],
+    // row 7 deleted, and the image of page 2 with that
+    &[SECOND, SEVEN, LARGE, DELETED],
+    BOTH,
+    &[SEVEN, Bytes(&[1])],
+];
+
+// Appends so many zeros.
 fn put_zeros(bytes: &mut Vec<u8>, count: usize) -> Result<(), AllocError> {
     for _ in 0..count {
         bytes.push(0)?;
@@ -39,77 +106,24 @@ fn put_zeros(bytes: &mut Vec<u8>, count: usize) -> Result<(), AllocError> {
     Ok(())
 }
 
-// Puts the image of page 1: a root over page 2.
-fn put_root(bytes: &mut Vec<u8>) -> Result<(), AllocError> {
-    bytes.extend_from_slice(&[0, 1, 0, 1, 0x0f, 0xec, 0, 0])?;
-    bytes.extend_from_slice(&ROOT)?;
-    bytes.extend_from_slice(&[0x0f, 0xec, 0, 0x14])?;
-    put_zeros(bytes, 4040)?;
-    bytes.extend_from_slice(&LARGE)?;
-    bytes.extend_from_slice(&[0, 0, 0, 2])
-}
-
-// Puts the image of page 2 with row 7.
-fn put_one(bytes: &mut Vec<u8>) -> Result<(), AllocError> {
-    bytes.extend_from_slice(&[0, 0, 0, 1, 0x0f, 0xe7, 0, 0])?;
-    bytes.extend_from_slice(&LEAF)?;
-    bytes.extend_from_slice(&[0x0f, 0xe7, 0, 0x19])?;
-    put_zeros(bytes, 4035)?;
-    bytes.extend_from_slice(&LARGE)?;
-    bytes.extend_from_slice(&SEVEN)?;
-    bytes.push(0)?;
+// Appends parts.
+fn put_parts(bytes: &mut Vec<u8>, parts: &[Part]) -> Result<(), AllocError> {
+    for part in parts {
+        match *part {
+            Bytes(given) => bytes.extend_from_slice(given)?,
+            Zeros(count) => put_zeros(bytes, count)?,
+        }
+    }
     Ok(())
 }
 
-// Puts the image of page 2 with row 7, which has this mark, and row 8.
-fn put_both(bytes: &mut Vec<u8>, mark: u8) -> Result<(), AllocError> {
-    bytes.extend_from_slice(&[0, 0, 0, 2, 0x0f, 0xce, 0, 0])?;
-    bytes.extend_from_slice(&LEAF)?;
-    bytes.extend_from_slice(&[0x0f, 0xe7, 0, 0x19, 0x0f, 0xce, 0, 0x19])?;
-    put_zeros(bytes, 4006)?;
-    bytes.extend_from_slice(&SMALL)?;
-    bytes.extend_from_slice(&EIGHT)?;
-    bytes.push(0)?;
-    bytes.extend_from_slice(&LARGE)?;
-    bytes.extend_from_slice(&SEVEN)?;
-    bytes.push(mark)?;
-    Ok(())
-}
-
-// Puts the front of a write in page 2: of this transaction, of the row of a box, and the mark before and after.
-fn put_write(
-    bytes: &mut Vec<u8>,
-    transaction: u8,
-    row: &[u8; 8],
-    key: &[u8; 16],
-    marks: [u8; 2],
-) -> Result<(), AllocError> {
-    bytes.extend_from_slice(&[2, 0, 0, 0, 0, 0, 0, 0, transaction])?;
-    bytes.extend_from_slice(row)?;
-    bytes.extend_from_slice(key)?;
-    bytes.extend_from_slice(&marks)?;
-    bytes.extend_from_slice(&[0, 0, 0, 2])
-}
-
-// Puts the records: the root's bound is wider, transaction 1 inserts both rows and commits, and transaction 2 deletes
-// row 7 and doesn't.
-fn put_records(bytes: &mut Vec<u8>) -> Result<(), AllocError> {
-    bytes.extend_from_slice(&[1, 0, 0, 0, 0, 0, 0, 0, 0, 0, 0, 0, 2, 1, 0, 0, 0, 1])?;
-    put_root(bytes)?;
-    put_write(bytes, 1, &SEVEN, &LARGE, [1, 0])?;
-    put_one(bytes)?;
-    put_write(bytes, 1, &EIGHT, &SMALL, [1, 0])?;
-    put_both(bytes, 0)?;
-    bytes.extend_from_slice(&[3, 0, 0, 0, 0, 0, 0, 0, 1, 0, 0, 0, 0, 0, 0, 0, 1])?;
-    put_write(bytes, 2, &SEVEN, &LARGE, [0, 1])?;
-    put_both(bytes, 1)
-}
-
-// A body of these records: 0x4098 bytes.
+// A body of the records: 0x4098 bytes.
 fn body(alloc: Global) -> Result<Vec<u8>, AllocError> {
     let mut bytes = Vec::new(alloc);
     bytes.extend_from_slice(&[0, 0, 0x40, 0x98])?;
-    put_records(&mut bytes)?;
+    for parts in &RECORDS {
+        put_parts(&mut bytes, parts)?;
+    }
     bytes.resize(32768, 0)?;
     Ok(bytes)
 }
@@ -166,5 +180,5 @@ fn opened_twice(alloc: Global) -> Option<MemDisk> {
 
 #[test]
 fn a_log_of_images_alone_is_opened(rt: HostRuntime) {
-    assert!(rt; opened_twice(rt.alloc()).is_some());
+    holds(&rt, opened_twice(rt.alloc()).is_some());
 }

@@ -3,11 +3,15 @@
 #![tactic(auto)]
 
 #[cfg(test)]
+mod asserts;
+#[cfg(test)]
 mod device_commands;
 #[cfg(test)]
 mod devices;
 #[cfg(test)]
 mod dumps;
+#[cfg(test)]
+mod ended;
 #[cfg(test)]
 mod full;
 #[cfg(test)]
@@ -30,6 +34,8 @@ mod records;
 mod scripts;
 #[cfg(test)]
 mod sessions;
+#[cfg(test)]
+mod space;
 #[cfg(test)]
 mod stores;
 #[cfg(test)]

@@ -5,6 +5,7 @@
 //! `MemDisk`, which comes up under a new fuse.
 mod beside;
 
+use crate::asserts::holds;
 use beside::{Device, EVENTS, Plain, Working, call, interleave, make, work};
 use gx_class::Box2Class;
 use gx_disk::{Fuse, FuseDisk, MemDisk, SectorDisk, Torn};
@@ -24,7 +25,7 @@ const MOST: u16 = 4;
 
 const FRAMES: usize = 16;
 
-// A device of which the call behind so many fails, and each later one. A write that fails is made none the less.
+// A device of which the call behind so many fails, and each later one. A write that fails is made all the same.
 fn failing(disk: MemDisk, calls: u64) -> Device {
     FuseDisk::new(disk, calls, Fuse::ForEver, true)
 }
@@ -266,6 +267,6 @@ fn lives(alloc: Global, torn: Torn, first: u8, cuts: [u64; 2]) -> Option<()> {
 // So a crash that takes the selector's write back leaves a log of many batches, and one that leaves it just their head.
 #[test]
 fn a_life_is_one_run(rt: HostRuntime) {
-    assert!(rt; lives(rt.alloc(), Torn::Old, 0x5A, [60, 80]).is_some());
-    assert!(rt; lives(rt.alloc(), Torn::New, 0, [20, 40]).is_some());
+    holds(&rt, lives(rt.alloc(), Torn::Old, 0x5A, [60, 80]).is_some());
+    holds(&rt, lives(rt.alloc(), Torn::New, 0, [20, 40]).is_some());
 }

@@ -1,4 +1,5 @@
 //! Openings of devices in memory.
+use crate::asserts::holds;
 use crate::devices::formatted;
 use gx_class::Box2Class;
 use gx_disk::MemDisk;
@@ -26,7 +27,11 @@ fn entry(row: u64, corner: i32) -> Option<Entry<Box2>> {
 }
 
 // Whether an engine has so many commits, and finds just this entry.
-fn holds(engine: &mut Engine<MemDisk, Box2Class>, commits: u64, only: Entry<Box2>) -> Option<bool> {
+fn has_only(
+    engine: &mut Engine<MemDisk, Box2Class>,
+    commits: u64,
+    only: Entry<Box2>,
+) -> Option<bool> {
     ask(engine, 8, Call::Begin)?;
     let everything = Box2::new(-100, -100, 100, 100).ok()?;
     let found = match ask(engine, 8, Call::Search(Query::Overlap(everything)))? {
@@ -46,7 +51,7 @@ fn cut(engine: Engine<MemDisk, Box2Class>) -> MemDisk {
 // What a crash leaves of a device that is opened, if one commit and just this entry are found there.
 fn opened(alloc: Global, disk: MemDisk, only: Entry<Box2>) -> Option<MemDisk> {
     let mut engine = open::<MemDisk, Box2Class>(alloc, disk, 16).ok()?;
-    let held = holds(&mut engine, 1, only);
+    let held = has_only(&mut engine, 1, only);
     let disk = cut(engine);
     if held == Some(true) { Some(disk) } else { None }
 }
@@ -73,7 +78,7 @@ fn changed(alloc: Global, kept: Entry<Box2>, lost: Entry<Box2>) -> Option<MemDis
     if done.is_some() { Some(disk) } else { None }
 }
 
-// What was committed is there after two openings, and what was cut off isn't.
+// After two openings the index has what was committed, and not what was cut off.
 fn cut_off(alloc: Global) -> Option<MemDisk> {
     let (kept, lost) = (entry(7, 0)?, entry(8, 1)?);
     let again = opened(alloc, changed(alloc, kept, lost)?, kept)?;
@@ -82,7 +87,7 @@ fn cut_off(alloc: Global) -> Option<MemDisk> {
 
 #[test]
 fn committed_sets(rt: HostRuntime) {
-    assert!(rt; cut_off(rt.alloc()).is_some());
+    holds(&rt, cut_off(rt.alloc()).is_some());
 }
 
 // A new device that is opened, if nothing was committed there.
@@ -101,5 +106,5 @@ fn opened_twice(alloc: Global) -> Option<MemDisk> {
 
 #[test]
 fn new_devices(rt: HostRuntime) {
-    assert!(rt; opened_twice(rt.alloc()).is_some());
+    holds(&rt, opened_twice(rt.alloc()).is_some());
 }

@@ -1,5 +1,6 @@
 //! The plain command: scripts from a reader to a writer: the status, the replies, and the messages.
 
+use crate::asserts::holds;
 use gx_commands::{Noted, run_script};
 use gx_geom::Box2;
 use std::alloc::Global;
@@ -24,7 +25,7 @@ fn a_script(rt: HostRuntime) {
         b"1 BEGIN\n1 INSERT 3 0 0 1 1\n1 EQUAL 0 0 1 1\nx",
     );
     let text = b"1 ok\n1 inserted\n1 found 1\n1 entry 3 0 0 1 1\nline 4 bad\n\0".as_slice();
-    assert!(rt; status == 0 && replies.starts_with(text) && !is_told);
+    holds(&rt, status == 0 && replies.starts_with(text) && !is_told);
 }
 
 // With ample memory a script is run; where memory is refused once, it is that or the refusal, and nothing else.
@@ -33,7 +34,7 @@ fn refused_memory(rt: HostRuntime) {
     let (status, replies, is_told) = run(rt.alloc(), b"1 COMMIT\n");
     let ran = status == 0 && replies.starts_with(b"1 refused 1 no transaction\n\0");
     let lacked = status == 1 && replies.starts_with(b"refused 10 memory\n\0");
-    assert!(rt; (ran || lacked) && !is_told);
+    holds(&rt, (ran || lacked) && !is_told);
 }
 
 // A reader or a writer that answers with errors of one kind.
@@ -71,7 +72,7 @@ fn stops<T: Abort + AllocGlobal, R: Read + Drop, W: Write + Drop>(
         &mut Noted::new(writer),
         &mut faults,
     );
-    assert!(rt; status == 1 && told.starts_with(line));
+    holds(rt, status == 1 && told.starts_with(line));
 }
 
 // What stopped a script is reported in one line, except where the reader of its replies has left. Where the replies'

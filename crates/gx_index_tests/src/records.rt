@@ -1,11 +1,11 @@
 //! What two commits log: of a leaf its image first, and then the change alone.
+use crate::asserts::{got, holds};
 use crate::devices::fresh;
 use gx_class::Box2Class;
 use gx_disk::{MemDisk, SectorDisk};
 use gx_geom::Box2;
 use gx_machine::{Call, Entry, Reply};
 use gx_restart::Index;
-use std::alloc::Global;
 use std::process::Abort;
 
 // The first sectors of the two bodies behind the first of extent B, which an opening's checkpoint selects.
@@ -40,18 +40,21 @@ fn length(disk: &mut MemDisk, sector: u64) -> Option<u32> {
     Some(u32::from_be_bytes([one, two, three, four]))
 }
 
-// The lengths of the batches of two commits of a row each, in one leaf.
-fn logged(alloc: Global) -> Option<[u32; 2]> {
-    let mut index = fresh(alloc)?;
-    if !inserts(&mut index, 7, 10, 1)? || !inserts(&mut index, 8, 5, 2)? {
-        return None;
-    }
-    let mut disk = index.into_engine().into_disk();
+// Two commits of a row each, in one leaf.
+fn inserts_both(index: &mut Index<MemDisk, Box2Class>) -> Option<bool> {
+    Some(inserts(index, 7, 10, 1)? && inserts(index, 8, 5, 2)?)
+}
+
+// The lengths of their batches.
+fn lengths(disk: &mut MemDisk) -> Option<[u32; 2]> {
     let [first, second] = BODIES;
-    Some([length(&mut disk, first)?, length(&mut disk, second)?])
+    Some([length(disk, first)?, length(disk, second)?])
 }
 
 #[test]
 fn a_leaf_is_imaged_once(rt: HostRuntime) {
-    assert!(rt; logged(rt.alloc()) == Some(LENGTHS));
+    let mut index = got(&rt, fresh(rt.alloc()));
+    holds(&rt, inserts_both(&mut index) == Some(true));
+    let mut disk = index.into_engine().into_disk();
+    holds(&rt, lengths(&mut disk) == Some(LENGTHS));
 }

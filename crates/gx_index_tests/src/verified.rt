@@ -1,56 +1,83 @@
 //! Devices in memory that are verified.
-use crate::devices::formatted;
-use crate::dumps::{ABORTED, SWEPT, written};
+use crate::asserts::{got, holds};
+use crate::devices::{formatted, index_over};
+use crate::dumps::{ABORTED, SWEPT, writes, written};
 use gx_class::Box2Class;
 use gx_disk::{Fuse, FuseDisk, MemDisk, SectorDisk};
 use gx_format::format;
 use gx_geom::Refusal;
 use gx_glog::Extent;
-use gx_restart::{Index, Noted, Report, open, run_script, verify};
+use gx_restart::{Report, verify};
 use std::alloc::Global;
+use std::process::Abort;
 
-// What verifying a device answers, where there is one.
-fn verified(
-    alloc: Global,
-    disk: Option<MemDisk>,
-    frames: usize,
-) -> Option<Result<Report, Refusal>> {
-    let mut disk = disk?;
-    Some(verify::<MemDisk, Box2Class>(alloc, &mut disk, frames))
+// A device.
+#[derive(Clone, Copy)]
+enum Made {
+    // of so many sectors, all zeros
+    Blank(usize),
+    Formatted,
+    // on which a script ran
+    Written(&'static [u8]),
+    CutOff,
+    // in a sector of which, at this place, another byte was written
+    Changed(u64, usize, u8),
+    Longer,
+}
+
+fn make(alloc: Global, made: Made) -> Option<MemDisk> {
+    match made {
+        Made::Blank(sectors) => MemDisk::new(alloc, sectors).ok(),
+        Made::Formatted => formatted(alloc),
+        Made::Written(script) => written(alloc, script),
+        Made::CutOff => cut_off(alloc),
+        Made::Changed(sector, at, value) => with_byte(alloc, sector, at, value),
+        Made::Longer => longer(alloc),
+    }
+}
+
+// A device, how many frames there are, and what verifying it answers.
+type Case = (Made, usize, Result<Report, Refusal>);
+
+// Fails unless verifying each device answers so.
+fn all_answer<T: Abort + AllocGlobal>(rt: &T, cases: &[Case]) {
+    for (made, frames, wanted) in cases {
+        let mut disk = got(rt, make(rt.alloc(), *made));
+        let found = verify::<MemDisk, Box2Class>(rt.alloc(), &mut disk, *frames);
+        holds(rt, found == *wanted);
+    }
 }
 
 // It holds this.
-fn holding(commits: u64, entries: u64, used: u32) -> Option<Result<Report, Refusal>> {
-    Some(Ok(Report {
+fn holding(commits: u64, entries: u64, used: u32) -> Result<Report, Refusal> {
+    Ok(Report {
         commits,
         entries,
         used,
-    }))
+    })
 }
 
 // A device whose last script was cut off in a transaction, which is in its log.
 fn cut_off(alloc: Global) -> Option<MemDisk> {
-    let disk = written(alloc, SWEPT)?;
-    let mut index = Index::new(open::<MemDisk, Box2Class>(alloc, disk, 16).ok()?);
-    let mut replies = [0u8; 128];
-    run_script(
-        &mut Noted::new(b"1 BEGIN\n1 INSERT 6 0 0 1 1\n1 DELETE 5 0 4 1 5\n".as_slice()),
-        &mut Noted::new(replies.as_mut_slice()),
+    let mut index = index_over(alloc, written(alloc, SWEPT)?)?;
+    let is_written = writes(
         &mut index,
-    )
-    .ok()?;
-    index.settle().ok()?;
-    Some(index.into_engine().into_disk())
+        b"1 BEGIN\n1 INSERT 6 0 0 1 1\n1 DELETE 5 0 4 1 5\n",
+    );
+    let disk = index.into_engine().into_disk();
+    if is_written { Some(disk) } else { None }
 }
 
 // What was inserted and aborted isn't counted, nor what was deleted, nor what a transaction wrote that was cut off.
 #[test]
 fn what_stands_is_counted(rt: HostRuntime) {
-    let alloc = rt.alloc();
-    assert!(rt; verified(alloc, formatted(alloc), 64) == holding(0, 0, 2));
-    assert!(rt; verified(alloc, written(alloc, ABORTED), 64) == holding(0, 0, 3));
-    assert!(rt; verified(alloc, written(alloc, SWEPT), 16) == holding(3, 1, 2));
-    assert!(rt; verified(alloc, cut_off(alloc), 64) == holding(3, 1, 2));
+    let cases = [
+        (Made::Formatted, 64, holding(0, 0, 2)),
+        (Made::Written(ABORTED), 64, holding(0, 0, 3)),
+        (Made::Written(SWEPT), 16, holding(3, 1, 2)),
+        (Made::CutOff, 64, holding(3, 1, 2)),
+    ];
+    all_answer(&rt, &cases);
 }
 
 // A device of an index in which one byte was changed.
@@ -79,37 +106,32 @@ fn longer(alloc: Global) -> Option<MemDisk> {
 
 #[test]
 fn refusals(rt: HostRuntime) {
-    let alloc = rt.alloc();
-    let short = MemDisk::new(alloc, 4231).ok();
-    assert!(rt; verified(alloc, short, 64) == Some(Err(Refusal::TooSmall)));
-    assert!(rt; verified(alloc, formatted(alloc), 15) == Some(Err(Refusal::BadParameter)));
-    assert!(rt; verified(alloc, with_byte(alloc, 0, 0, 0), 64) == Some(Err(Refusal::NotFormatted)));
-    assert!(rt; verified(alloc, with_byte(alloc, 1, 7, 9), 64) == Some(Err(Refusal::BadParameter)));
-    assert!(rt; verified(alloc, with_byte(alloc, 1, 3, 17), 64) == Some(Err(Refusal::TooSmall)));
     // the opening's checkpoint has turned the log to its other extent
     let body = Extent::B.bodies();
-    assert!(rt; verified(alloc, with_byte(alloc, body, 0, 255), 64) == Some(Err(Refusal::Damaged)));
-    assert!(rt; verified(alloc, longer(alloc), 64) == holding(0, 0, 2));
+    let cases = [
+        (Made::Blank(4231), 64, Err(Refusal::TooSmall)),
+        (Made::Formatted, 15, Err(Refusal::BadParameter)),
+        (Made::Changed(0, 0, 0), 64, Err(Refusal::NotFormatted)),
+        (Made::Changed(1, 7, 9), 64, Err(Refusal::BadParameter)),
+        (Made::Changed(1, 3, 17), 64, Err(Refusal::TooSmall)),
+        (Made::Changed(body, 0, 255), 64, Err(Refusal::Damaged)),
+        (Made::Longer, 64, holding(0, 0, 2)),
+    ];
+    all_answer(&rt, &cases);
 }
 
 // A device whose read of this number fails is refused with that. It is read three times and no more: its magic, its
 // parameters, and the sectors that are copied.
 #[test]
 fn faults(rt: HostRuntime) {
-    let alloc = rt.alloc();
     for calls in 0..4 {
-        let Some(inner) = written(alloc, SWEPT) else {
-            assert!(rt; false);
-            return;
-        };
+        let inner = got(&rt, written(rt.alloc(), SWEPT));
         let mut disk = FuseDisk::new(inner, calls, Fuse::Once, false);
-        let result = verify::<FuseDisk<MemDisk>, Box2Class>(alloc, &mut disk, 64);
-        assert!(rt;
-            if calls < 3 {
-                result == Err(Refusal::Device)
-            } else {
-                result.is_ok()
-            }
+        let result = verify::<FuseDisk<MemDisk>, Box2Class>(rt.alloc(), &mut disk, 64);
+        let is_refused = result == Err(Refusal::Device);
+        holds(
+            &rt,
+            is_refused == (calls < 3) && result.is_ok() == (calls == 3),
         );
     }
 }

@@ -1,4 +1,4 @@
--- How often a thing stands in a list, by an order.
+-- How often an item is in a list, by an order.
 use Rattle.std.proofs.Common.{◌≡◌, ◌≢◌, ℕ, zero, suc, ◌+◌, ◌-◌, ◌<◌, ◌≤◌, Bool, true, false, List, [], ◌∷◌, ◌++◌, length, take, drop, get_or, Some, refl, ap, sym, ◌∙◌, subst, arith}
 use Rattle.std.specs.Cmp.{IsTotalOrder, tied_itself}
 use Rattle.std.specs.List.{sum_by}
@@ -62,7 +62,7 @@ module _ {E : Type 0} (cmp : E → E → Ordering) (o : IsTotalOrder cmp) where
   once_by x e xs Equal is next rest = let here = one_of x e Equal is in let none = none_after x e xs next (tied_upto x e is) in omega (arith, here, none)
   once_by x e xs Greater is next rest = let here = one_of x e Greater is in omega (arith, here, rest)
 
-  -- where each comes after the one before, none stands twice
+  -- if each item comes after the one before, none is in the list twice
   pub ascends_once : (e : E) (xs : List E) → Ascends cmp xs → count cmp e xs ≤ 1
   ascends_once e [] up = omega arith
   ascends_once e (x ∷ xs) up = once_by x e xs (cmp x e) refl up.0 (ascends_once e xs up.1)
@@ -79,7 +79,7 @@ module _ {E : Type 0} (cmp : E → E → Ordering) (o : IsTotalOrder cmp) where
       let rest : Ascends cmp (y ∷ ys) = ascends_by (y ∷ ys) (λ j k d next low. up (suc j) (suc k) d (ap suc next) (omega (arith, low))) in
       ((first, each_later x y ys first rest.0), rest)
 
-  -- at a bound that stands in it, a rising list is what comes no later and what comes after
+  -- at a bound in it, a rising list is the items that come no later and those that come after
   pub cut_after : (xs ys : List E) (b : E) → Ascends cmp (xs ++ b ∷ ys) → Each (λ y. cmp b y ≡ Less) ys
   cut_after [] ys b up = up.0
   cut_after (x ∷ xs) ys b up = cut_after xs ys b up.1
@@ -98,7 +98,7 @@ module _ {E : Type 0} (cmp : E → E → Ordering) (o : IsTotalOrder cmp) where
   upto_by b x e xs Equal is low rest some = ap is_gt (sym (o.congr x e b is)) ∙ low
   upto_by b x e xs Greater is low rest some = let here = one_of x e Greater is in rest (omega (arith, here, some))
 
-  -- what stands in a list whose elements come no later than a bound doesn't either
+  -- an item of a list whose items come no later than a bound doesn't either
   pub stands_upto : (b e : E) (xs : List E) → Each (λ x. is_gt (cmp x b) ≡ false) xs → 0 < count cmp e xs → is_gt (cmp e b) ≡ false
   stands_upto b e [] low some = absurd (omega arith)
   stands_upto b e (x ∷ xs) low some = upto_by b x e xs (cmp x e) refl low.0 (stands_upto b e xs low.1) some
@@ -136,7 +136,7 @@ module _ {E : Type 0} (cmp : E → E → Ordering) (o : IsTotalOrder cmp) where
   some_twice [] j up low ne = absurd (omega arith)
   some_twice (x ∷ xs) j up low ne = twice_by (x ∷ xs) j x up low (ne x)
 
-  -- a sorted list rises, or something stands twice
+  -- a sorted list rises, or has an item twice
   pub rises : (xs ys : List E) (b : Bool) → ys ≡ xs → IsSorted cmp xs
       → MatchBool b ((j k : ℕ) (d : E) → suc j ≡ k → k < length ys → cmp (get_or ys j d) (get_or ys k d) ≡ Less)
       ((j : ℕ) × (suc j < length ys) × ((d : E) → cmp (get_or ys j d) (get_or ys (suc j) d) ≢ Less))

@@ -1,9 +1,9 @@
 -- What breaks a rule is no legal tree.
-use Rattle.std.proofs.Common.{◌≡◌, ℕ, suc, ◌+◌, ◌<◌, ◌≤◌, ◌==◌, ◌⊎◌, inl, inr, List, [], ◌∷◌, ap, sym, ◌∙◌, subst, arith}
+use Rattle.std.proofs.Common.{◌≡◌, ℕ, ◌+◌, ◌<◌, ◌==◌, ◌⊎◌, inl, inr, List, [], ◌∷◌, ap, sym, ◌∙◌, subst, arith}
 use Rattle.gx_node.specs.Lists.{one_if}
-use Rattle.gx_node.specs.Trees.{Child, Tree, Rules, Used, leaves, times}
+use Rattle.gx_node.specs.Trees.{Tree, Rules, Used, leaves, times}
 use Rattle.gx_node.proofs.Chains.{one_at, linked_once}
-use Rattle.gx_node.specs.Legal.{Legal, ChildFits, Bounds, Linked}
+use Rattle.gx_node.specs.Legal.{Legal, ChildFits, Linked}
 use Rattle.gx_legality.specs.declared.fault.Rule.{Rule}
 use Rattle.gx_legality.specs.declared.fault.Rule.TheVariants.{SplitsOutnumberPages, RootIsLeaf, TooManyEntries, NoChild, SequenceNumber, ChildPage, ChildLevel, Bound, NamedTwice, NotNamed, Chain, OffTheChain, PairTwice, PairOutOfPlace}
 use Rattle.gx_legality.specs.Breaks.{Breaks, Leads}

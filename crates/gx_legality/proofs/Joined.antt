@@ -31,7 +31,7 @@ module _ {B : Type 0} where
   }
   has_shape t marks links (Err e) are long named ones chain once = tt
 
-  -- a tree that is legal but for its pairs is legal where none stands twice
+  -- a tree that is legal but for its pairs is legal if none is in two places
   pub with_pairs : (r : Rules B) (t : Tree B) → IsLegalButPairs r t → ((row : ℕ) (key : B) → standing (is_entry r row key) t ≤ 1) → Legal r t
   with_pairs r t legal single = record {
     pages = legal.pages;

@@ -26,7 +26,7 @@ module _ {E : Type 0} where
   pub one_note : (notes : List (NotedPair E)) (k : ℕ) (n m : NotedPair E) → slice_get notes k ≡ Some n → slice_get notes k ≡ Some m → n ≡ m
   one_note notes k n m at here = cc
 
-  -- what is read at a place stands there
+  -- what is read at a place is there
   pub note_at : (notes : List (NotedPair E)) (k : ℕ) (n : NotedPair E) → k < length notes → n ≡ get_or notes k n → slice_get notes k ≡ Some n
   note_at notes k n low is = slice_get_read notes (length notes) k n refl low is
 

@@ -1,4 +1,4 @@
--- No pair stands twice, by passes.
+-- No pair is in two places, by passes.
 use Rattle.std.proofs.Common.{◌≡◌, ℕ, zero, suc, ◌+◌, ◌*◌, ◌<◌, ◌≤◌, ◌==◌, ◌&&◌, Bool, true, false, not, cond, ◌⊎◌, inl, inr, List, [], ◌∷◌, length, map, Option, Some, None, refl, ap, sym, ◌∙◌, subst, arith, length-append}
 use Rattle.std.specs.Prelude.{nat_lt}
 use Rattle.std.specs.Cmp.{IsTotalOrder}
@@ -167,7 +167,7 @@ module _ {B : Type 0} (order : B → B → Ordering) (overlap inside : B → B �
       let rest = count_pairs e pairs in
       omega (arith, here, rest)
 
-  -- an entry is on these pages as often as a pair of its row and key stands there
+  -- an entry is on these pages as often as a pair of its row and key is
   pub count_entries : (t : Tree B) (e : Entry B) (qs : List ℕ)
       → count (entry_cmp the_keys) e (entries_on t qs) ≡ passing (is_entry the_rules e.row e.key) t qs
   count_entries t e [] = refl

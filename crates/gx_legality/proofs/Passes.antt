@@ -100,7 +100,7 @@ module _ {E : Type 0} (cmp : E → E → Ordering) (o : IsTotalOrder cmp) where
             );
       }
 
-  -- what stands twice among what is kept came twice
+  -- an item that is kept twice came twice
   pub gathers_twice : (g : Gathered E) (all rest : List E) → Gathers cmp g all rest → StandsTwice cmp g.kept → StandsTwice cmp all
   gathers_twice g all rest was twice =
       let e = twice.0 in
@@ -109,7 +109,7 @@ module _ {E : Type 0} (cmp : E → E → Ordering) (o : IsTotalOrder cmp) where
       let counts = was.counts e bounds.0 bounds.1 in
       (e, let two = twice.1 in omega (arith, two, counts))
 
-  -- what is kept in order stands once
+  -- an item that is kept in order is kept once
   pub gathers_once : (g : Gathered E) (all sorted : List E) → Gathers cmp g all [] → ((e : E) → count cmp e sorted ≡ count cmp e g.kept)
       → Ascends cmp sorted → OnceBetween cmp g.above g.top all
   gathers_once g all sorted was same up = λ e after low. (

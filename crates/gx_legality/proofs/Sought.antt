@@ -40,7 +40,7 @@ module _ {E : Type 0} (is : E → Bool) where
   met_ahead [] = refl
   met_ahead (x ∷ xs) = met_ahead xs
 
-  -- where the leaf is reached, the pair is found as soon as it stands on the page
+  -- once the leaf is reached, the pair is found on the first page that has it
   met_reached : (xs : List E) → ((how_many is xs ≡ 0) × (met is xs Reached ≡ Reached)) ⊎ ((0 < how_many is xs) × (met is xs Reached ≡ Found))
   met_reached [] = inl (refl, refl)
   met_reached (x ∷ xs) = by_case (is x) refl (met_reached xs)
@@ -110,7 +110,7 @@ module _ {B : Type 0} (t : Tree B) (is : Entry B → Bool) (a : ℕ) where
           let some = rest.0 in
           inr (omega (arith, some), ap (passed t is a qs) here.1 ∙ rest.1)
 
-  -- a pass over the chain finds the pair where it stands on the pages from the leaf on, and nowhere else
+  -- a pass over the chain finds the pair exactly if the pages from the leaf on have it
   pub passed_ahead : (qs : List ℕ) → ((found_on (from a qs) ≡ 0) × (passed t is a qs Ahead ≢ Found)) ⊎ ((0 < found_on (from a qs)) × (passed t is a qs Ahead ≡ Found))
   passed_ahead [] = inl (refl, λ bad. (cc))
   passed_ahead (q ∷ qs) = elim (cases_eq q a) [

@@ -100,7 +100,7 @@ module _ {K : Type 0} where
   led_within t a p [] led = tt
   led_within t a p (q ∷ qs) led = (led.1, led_within t (t.node q).right p qs led.3)
 
-  -- pages that are taken are counted page by page
+  -- pages in use are counted page by page
   total_times : (t : Tree K) (qs : List ℕ) → Each (Used t) qs → total (λ q. times q qs) t.used ≡ length qs
   total_times t [] within = total_none (λ q. 0) t.used (λ q low high. refl)
   total_times t (x ∷ xs) within =
@@ -114,7 +114,7 @@ module _ {K : Type 0} where
       one_sided x q (inl same) = one_at x q same ∙ sym (ap (λ k. at_page x 1 k) (sym same) ∙ at_page_same x 1)
       one_sided x q (inr ne) = one_off x q ne ∙ sym (at_page_other x 1 q (λ same. ne (sym same)))
 
-  -- it has made all its steps, so it has passed each page that is taken
+  -- it has made all its steps, so it has passed each page in use
   pub walk_is_long : (t : Tree K) (passed : List Bool) (left page : ℕ) → left ≡ 0 → Walks t passed left page → page ≢ 0
       → (0 < page) × (pages : List ℕ) × Leads t 2 pages page × ((Used t page → (t.node page).level ≡ 0 → ⊥) ⊎ (0 < times page pages))
   walk_is_long t passed left page is walks some = (omega (arith, some), walks.pages, walks.led, by_times (cases_lt 0 (times page walks.pages)))

@@ -26,7 +26,7 @@ abbrev pub Ascends : {E : Type 0} → (E → E → Ordering) → List E → Type
 Ascends cmp [] = Unit {0}
 Ascends cmp (x ∷ xs) = Each (λ y. cmp x y ≡ Less) xs × Ascends cmp xs
 
--- something is there twice
+-- some pair is in two places
 abbrev pub StandsTwice : {E : Type 0} → (E → E → Ordering) → List E → Type 0
 StandsTwice {E} cmp xs = (e : E) × (2 ≤ count cmp e xs)
 
@@ -50,7 +50,7 @@ pub record Halves {E : Type 0} (cmp : E → E → Ordering) (old new : List E) (
   pub upto : (e : E) → 0 < count cmp e new → IsUpTo cmp (Some b) e
   pub bound : 0 < count cmp b old
 
--- nothing that comes after the first bound, and no later than the second, is there twice
+-- no pair that comes after the first bound, and no later than the second, is in two places
 abbrev pub OnceBetween : {E : Type 0} → (E → E → Ordering) → Option E → Option E → List E → Type 0
 OnceBetween {E} cmp above top all = (e : E) → IsAfter cmp above e → IsUpTo cmp top e → count cmp e all ≤ 1
 
@@ -70,8 +70,8 @@ abbrev pub below : {E : Type 0} → (E → E → Ordering) → Option E → List
 below cmp None xs = 0
 below cmp (Some a) xs = how_many (λ x. not (is_gt (cmp x a))) xs
 
--- so many passes were made over all: what isn't after the bound is there at most once, and each pass has raised the
--- bound
+-- so many passes were made over all: a pair that isn't after the bound is in one place at most, and each pass has
+-- raised the bound
 pub record Tested {E : Type 0} (cmp : E → E → Ordering) (g : Gathered E) (all : List E) (passes : ℕ) : Type 0 where
   pub fresh : g ≡ gathered_above g.half g.above
   pub once : (e : E) → (IsAfter cmp g.above e → ⊥) → count cmp e all ≤ 1

@@ -41,7 +41,7 @@ test_fails fails Memory = 0
 test_fails fails (Broken page rule) = 0
 test_fails fails Unsteady = 0
 
--- what a test says of pages that show the same each time: what it names is so
+-- what a test says of pages that show the same each time: the damage that it names is real
 abbrev pub IsFound : {F : Type 0} → (ℕ → Rule → Type 0) → LegalityFault F → Type 0
 IsFound breaks (Broken page rule) = breaks page rule
 IsFound breaks Unsteady = ⊥

@@ -1,5 +1,5 @@
 //! The test of a node by itself, and below its parent's entry.
-ghost use Rattle.std.specs.Prelude.{◌≡◌, ◌↔◌, ℕ, true, IsTrue, length, slice_get, None, Some, OnOk, IfErr, MatchOption};
+ghost use Rattle.std.specs.Prelude.{◌≡◌, ◌↔◌, ℕ, true, IsTrue, slice_get, None, Some, OnOk, IfErr, MatchOption};
 ghost use Rattle.gx_node.specs.Reading.{format_of, is_node};
 ghost use Rattle.gx_node.specs.Seen.{child_seen};
 ghost use Rattle.gx_node.specs.Legal.{Bounds};

@@ -10,7 +10,7 @@ ghost use Rattle.gx_legality.specs.Marks.{AreLinks, marked};
 use crate::fault::Rule;
 use gx_class::KeyClass;
 
-/// Passes a page of the chain: marks it, and says its rightlink. `None` where it isn't a leaf, or was passed before.
+/// Passes a page of the chain: marks it, and says its rightlink. `None` if it isn't a leaf, or was passed before.
 fn pass(links: &[Option<u32>], passed: &mut [bool], page: u32) -> Option<u32>
     requires { length passed.old ≡ length links.now }
     ensures { MatchOption result ((slice_index_or links.now page None ≡ None) ⊎ (1 ≤ marked passed.old page))

@@ -17,7 +17,7 @@ pub enum Rule {
     NoChild,
     /// A node's sequence number is at most the counter of splits.
     SequenceNumber,
-    /// The child in this slot is a page that is taken, and not the root.
+    /// The child in this slot is a page in use, and not the root.
     ChildPage(usize),
     /// The child in this slot is one level lower.
     ChildLevel(usize),
@@ -31,14 +31,15 @@ pub enum Rule {
     Chain,
     /// Each leaf is on this chain.
     OffTheChain,
-    /// No pair is there twice.
+    /// No pair is in two places.
     PairTwice,
     /// A pair that an open transaction touched is in its leaf, or to the right of it.
     PairOutOfPlace,
 }
 
 impl Rule {
-    /// How it is broken, in plain words; where a slot is named, those before it, the slot, and those behind it.
+    /// The text that says how it is broken; if a slot is named, in three parts: before the slot's number, the number,
+    /// and behind it.
     pub fn words(self) -> (&'static str, Option<(usize, &'static str)>)
         ensures words { MatchOption result.1 (text_of self ≡ result.0.now)
             (λ rest. text_of self ≡ result.0.now ++ (decimal rest.0 ++ rest.1.now)) }
@@ -84,7 +85,7 @@ impl fmt::Display for Rule {
 
     ghost output = { λ rule. Some (text_of rule) };
 
-    /// How it is broken, in plain words.
+    /// The text that says how it is broken.
     fn fmt<W: fmt::Write>(&self, f: &mut fmt::Formatter<W>) -> fmt::Result {
         match self.words() {
             (text, None) => f.write_str(text),
@@ -102,6 +103,6 @@ pub enum LegalityFault<F> {
     Pages(F),
     /// This page doesn't keep this rule.
     Broken(u32, Rule),
-    /// What a page shows was another thing before. Only a device that lies does so.
+    /// What a page shows was another thing before. Only a device that isn't honest does so.
     Unsteady,
 }

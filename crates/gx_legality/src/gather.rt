@@ -1,4 +1,4 @@
-//! The least of what comes, in passes of rising bounds.
+//! Gathers the least items, in passes of rising bounds.
 ghost use Rattle.std.specs.Prelude.{◌≡◌, ◌≢◌, ℕ, suc, ◌^◌, ◌++◌, ◌<◌, ◌≤◌, List, [], ◌∷◌, length};
 ghost use Rattle.std.specs.Prelude.{slice_index_or, vec_len, vec_capacity, None, IfOk, MatchBool, MatchOption};
 ghost use Rattle.std.specs.declared.cmp.Ordering.TheVariants.{Less};
@@ -9,7 +9,7 @@ use std::alloc::{AllocError, Global};
 use std::cmp::Ordering;
 use std::marker::Model;
 
-/// The least of what comes after a bound, in a buffer of a bounded size.
+/// The least items after a bound, in a buffer of bounded size.
 #[derive(Drop)]
 pub(crate) struct Gather<E: Ord + Copy> {
     kept: Vec<E>,
@@ -30,17 +30,17 @@ impl<E: Ord + Copy> Model for Gather<E> {
         × (g.half + g.half ≤ vec_capacity g.kept) };
 }
 
-/// What a pass comes to.
+/// The result of a pass.
 pub(crate) enum Pass {
-    /// Something is there twice.
+    /// Some pair is in two places.
     Twice,
-    /// Nothing up to a new bound is there twice.
+    /// No pair up to a new bound is in two places.
     Again,
-    /// Nothing is there twice.
+    /// No pair is in two places.
     Done,
 }
 
-/// Whether each comes after the one before.
+/// Whether each item comes after the one before.
 fn ascends<E: Ord + Copy>(items: &[E]) -> bool
     ensures { MatchBool result
         ((j k : ℕ) (d : E) → suc j ≡ k → k < length items.now
@@ -56,7 +56,7 @@ fn ascends<E: Ord + Copy>(items: &[E]) -> bool
     true
 }
 
-/// Puts them in order, and says whether each comes after the one before.
+/// Sorts the items, and returns whether each comes after the one before.
 fn put_in_order<E: Ord + Copy>(items: &mut Vec<E>) -> bool
     ensures len { vec_len items.new ≡ vec_len items.old }
     ensures capacity { vec_capacity items.new ≡ vec_capacity items.old }
@@ -67,7 +67,7 @@ fn put_in_order<E: Ord + Copy>(items: &mut Vec<E>) -> bool
     ascends(items.as_slice())
 }
 
-/// Keeps so many of the least, and returns the greatest of them. `None` where something is there twice.
+/// Keeps so many of the least, and returns the greatest of them. `None` if some pair is in two places.
 fn halve<E: Ord + Copy>(items: &mut Vec<E>, half: usize) -> Option<E>
     requires some { 0 < half }
     requires enough { half ≤ length items.old.items }
@@ -81,7 +81,7 @@ fn halve<E: Ord + Copy>(items: &mut Vec<E>, half: usize) -> Option<E>
     if rises { Some(items[half - 1]) } else { None }
 }
 
-/// Puts an item behind the last, where there is room for it.
+/// Appends an item, for which there is room.
 fn append<E: Copy>(items: &mut Vec<E>, item: E)
     requires { vec_len items.old < vec_capacity items.old }
     ensures items { items.new.items ≡ items.old.items ++ item ∷ [] }
@@ -111,7 +111,7 @@ fn is_up_to<E: Ord + Copy>(top: Option<E>, item: &E) -> bool
 }
 
 impl<E: Ord + Copy> Gather<E> {
-    /// Nothing yet, in a buffer of twice so many.
+    /// Starts with nothing gathered, in a buffer of twice so many items.
     pub(crate) fn new(alloc: Global, half: usize) -> Result<Self, AllocError>
         requires some { 0 < half }
         requires few { half < 2 ^ 40 }
@@ -125,7 +125,7 @@ impl<E: Ord + Copy> Gather<E> {
         })
     }
 
-    /// Takes one more that comes, if it is among the least. `false` where something came twice.
+    /// Takes one more item, if it is among the least. Returns `false` if an item came twice.
     pub(crate) fn offer(&mut self, item: E) -> bool
         ensures above { self.new.above ≡ self.old.above }
         ensures half { self.new.half ≡ self.old.half }
@@ -148,7 +148,7 @@ impl<E: Ord + Copy> Gather<E> {
         }
     }
 
-    /// Ends a pass, once all have come, and begins the next above those that were kept.
+    /// Ends a pass, once all items have come, and begins the next one above those that were kept.
     pub(crate) fn finish(&mut self) -> Pass
         ensures { (all : List E) → Gathers E.cmp self.old all [] → Finishes E.cmp self.old self.new all result }
     {

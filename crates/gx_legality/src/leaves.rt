@@ -1,5 +1,5 @@
 //! A pass over the leaves, along the chain.
-ghost use Rattle.std.specs.Prelude.{◌≡◌, ℕ, List, [], ◌++◌, length, map, true, None, Some, slice_get};
+ghost use Rattle.std.specs.Prelude.{◌≡◌, List, [], ◌++◌, length, map, true, None, Some, slice_get};
 ghost use Rattle.std.specs.Prelude.{OnOk, IfOk, IfErr, MatchBool, MatchOption, MatchResult};
 ghost use Rattle.gx_machine.specs.Keys.{keys_of, entry_cmp};
 ghost use Rattle.gx_machine.specs.declared.entry.Entry.{Entry};
@@ -41,7 +41,7 @@ fn entry_at<K: KeyClass>(page: &Page, room: u32, slot: usize) -> Option<Entry<K:
     }
 }
 
-/// Takes the pairs of a leaf. `false` where something came twice.
+/// Takes the pairs of a leaf. Returns `false` if a pair came twice.
 fn gather_page<K: KeyClass>(page: &Page, room: u32, gather: &mut Gather<Entry<K::Key>>) -> bool
     requires { is_node (format_of K.KeyClass) room page.now ≡ true }
     ensures above { gather.new.above ≡ gather.old.above }
@@ -62,7 +62,7 @@ fn gather_page<K: KeyClass>(page: &Page, room: u32, gather: &mut Gather<Entry<K:
     true
 }
 
-/// The pass comes to the pairs of a leaf, one after another.
+/// Looks the pairs of a leaf up among the notes, one after another.
 fn meet_page<K: KeyClass>(
     page: &Page,
     room: u32,
@@ -84,7 +84,7 @@ fn meet_page<K: KeyClass>(
     }
 }
 
-/// Brings a leaf of the chain, takes its pairs, comes to it with the notes, and says its rightlink.
+/// Brings a leaf of the chain, takes its pairs, looks them up among the notes, and returns its rightlink.
 fn take_leaf<K: KeyClass, P: Pages<K>>(
     pages: &mut P,
     page: u32,
@@ -122,7 +122,7 @@ fn take_leaf<K: KeyClass, P: Pages<K>>(
     Ok(node.right())
 }
 
-/// A pass over all leaves, along the chain: it takes their pairs, and comes to them with the notes.
+/// Makes a pass over all leaves, along the chain: takes their pairs, and looks them up among the notes.
 pub(crate) fn take_leaves<K: KeyClass, P: Pages<K>>(
     pages: &mut P,
     gather: &mut Gather<Entry<K::Key>>,

@@ -98,8 +98,8 @@ fn test_root<K: KeyClass, P: Pages<K>>(
     Ok(())
 }
 
-/// Tests all but that no pair is there twice. There are two marks and a rightlink for each page and for page 0, none of
-/// them set.
+/// Tests all but that no pair is in two places. There are two marks and a rightlink for each page and for page 0, none
+/// of them set.
 fn test_shape<K: KeyClass, P: Pages<K>>(
     pages: &mut P,
     most: u16,
@@ -134,8 +134,8 @@ fn test_shape<K: KeyClass, P: Pages<K>>(
     }
 }
 
-/// Tests that no pair is there twice, and that each note's pair is in its place, in a tree that is legal otherwise. No
-/// stage has come to its leaf before.
+/// Tests that no pair is in two places, and that each note's pair is in its place, in a tree that is legal otherwise.
+/// No note's leaf was reached before.
 fn test_leaves<K: KeyClass, P: Pages<K>>(
     pages: &mut P,
     most: u16,
@@ -169,12 +169,13 @@ fn test_leaves<K: KeyClass, P: Pages<K>>(
 /// Tests that the tree is legal, where a node has at most `most` entries: the number of splits and the root, then
 /// `test_nodes`, `test_named`, `test_chain` and `test_pairs`, whose buffer has room for twice `half` pairs. And tests
 /// that the pair of each note is in the note's leaf or to the right of it on the chain: the first pass over the leaves
-/// comes to the notes too, and looks each pair up among them by halves. Notes are of pairs that open transactions
-/// touched, in order by row and key, and no pair has two (`are_in_order`). Two pages at most are held at a time, and
-/// each page was held once.
+/// also looks each pair up among the notes, by binary search. Notes are of pairs that open transactions touched, in
+/// order by row and key, and no pair has two (`are_in_order`). Two pages at most are held at a time, and each page was
+/// held once.
 ///
 /// Refused with `Memory` before any page is brought, with `Pages`, and with `Broken`: with `PairOutOfPlace` only in a
-/// legal tree, at the leaf of a note whose pair is elsewhere or nowhere. With `Unsteady` only on a device that lies.
+/// legal tree, at the leaf of a note whose pair is elsewhere or nowhere. With `Unsteady` only on a device that isn't
+/// honest.
 pub fn test_tree<K: KeyClass, P: Pages<K>>(
     alloc: Global,
     pages: &mut P,

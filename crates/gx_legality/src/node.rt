@@ -1,4 +1,4 @@
-//! The test of a node and of its children, each beside it.
+//! Tests a node together with each of its children.
 ghost use Rattle.std.specs.Prelude.{◌≡◌, ◌<◌, ◌≤◌, [], length, slice_get, Some, OnOk, IfOk, IfErr};
 ghost use Rattle.gx_node.specs.Legal.{ChildFits, NodeFits};
 ghost use Rattle.gx_node.specs.Lists.{Each};
@@ -14,7 +14,7 @@ use crate::fault::{LegalityFault, Rule};
 use gx_class::KeyClass;
 use gx_node::Pages;
 
-/// Brings pages that are taken, four at most. Refused with `Pages`.
+/// Brings pages in use, four at most. Refused with `Pages`.
 pub(crate) fn bring_pages<K: KeyClass, P: Pages<K>>(
     pages: &mut P,
     these: &[u32],
@@ -71,7 +71,7 @@ fn test_child<K: KeyClass, P: Pages<K>>(
     }
 }
 
-/// Brings a page that is taken, and tests it by itself. It is held then.
+/// Brings a page in use, and tests it by itself. It is held then.
 fn test_first<K: KeyClass, P: Pages<K>>(
     pages: &mut P,
     page: u32,
@@ -100,11 +100,11 @@ fn test_first<K: KeyClass, P: Pages<K>>(
     }
 }
 
-/// Tests a page that is taken as a node of the tree, where a node has at most `most` entries: its entries, its sequence
+/// Tests a page in use as a node of the tree, where a node has at most `most` entries: its entries, its sequence
 /// number, and each of its children beside it, so that two pages are held at a time. The page is held then.
 ///
-/// Refused with `Pages` where a page could not be brought, and with `Broken` where the page doesn't keep a rule, which
-/// is one of those from `TooManyEntries` to `Bound`.
+/// Refused with `Pages` if a page could not be brought, and with `Broken` if the page doesn't keep a rule, which is one
+/// of those from `TooManyEntries` to `Bound`.
 pub fn test_node<K: KeyClass, P: Pages<K>>(
     pages: &mut P,
     page: u32,

@@ -1,5 +1,5 @@
 //! The test of every page, in the order of their numbers.
-ghost use Rattle.std.specs.Prelude.{◌≡◌, ℕ, suc, ◌+◌, ◌<◌, ◌≤◌, ◌⊎◌, None, length};
+ghost use Rattle.std.specs.Prelude.{◌≡◌, ℕ, suc, ◌+◌, ◌<◌, ◌⊎◌, None, length};
 ghost use Rattle.std.specs.Prelude.{slice_index_or, slice_set, OnOk, IfErr};
 ghost use Rattle.gx_node.specs.Legal.{NodeFits};
 ghost use Rattle.gx_node.specs.Trees.{Used, times, child_pages, parents};
@@ -65,9 +65,9 @@ fn test_page<K: KeyClass, P: Pages<K>>(
     }
 }
 
-/// Tests all pages that are taken, in the order of their numbers, each as `test_node` does: a page is brought beside
-/// its parent too. Marks each page that an entry names, by page, and keeps each leaf's rightlink. There is a mark and a
-/// rightlink for each page and for page 0, none of them set.
+/// Tests all pages in use, in the order of their numbers, each as `test_node` does: a page is brought beside its parent
+/// too. Marks each page that an entry names, by page, and keeps each leaf's rightlink. There is a mark and a rightlink
+/// for each page and for page 0, none of them set.
 ///
 /// Refused with `Pages`, and with `Broken` by a rule from `TooManyEntries` to `NamedTwice`.
 pub fn test_nodes<K: KeyClass, P: Pages<K>>(

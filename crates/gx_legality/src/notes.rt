@@ -1,7 +1,6 @@
-//! Notes of pairs that are sought, and how far a pass has come with each.
+//! Notes of pairs that are sought, and the stage of a pass for each.
 ghost use Rattle.std.specs.Prelude.{◌≡◌, ◌≢◌, ◌↔◌, ◌==◌, ℕ, ◌<◌, true, false, IsTrue, Some};
 ghost use Rattle.std.specs.Prelude.{length, slice_get, MatchOption, OnOk, IfOk, IfErr};
-ghost use Rattle.std.specs.Ordering.{is_eq};
 ghost use Rattle.gx_legality.specs.Gathered.{Ascends};
 ghost use Rattle.gx_legality.specs.Placing.{Moves, come_to, is_noted, meets, noted, stage_at};
 ghost use Rattle.gx_legality.specs.declared.notes.NoteStage.TheVariants.{Ahead, Found};
@@ -18,14 +17,14 @@ pub struct NotedPair<E> {
     pub leaf: u32,
 }
 
-/// How far a pass along the chain has come with a note.
+/// The stage of a pass along the chain for a note.
 #[derive(Clone, Copy)]
 pub(crate) enum NoteStage {
-    /// Not yet to its leaf.
+    /// It hasn't reached the note's leaf.
     Ahead,
-    /// To its leaf, and not yet to its pair.
+    /// It has reached the note's leaf, and not yet its pair.
     Reached,
-    /// To its pair.
+    /// It has reached the note's pair.
     Found,
 }
 
@@ -41,7 +40,7 @@ pub fn are_in_order<E: Ord + Copy>(notes: &[NotedPair<E>]) -> bool
     true
 }
 
-/// The place of a pair's note, by halves. `None` where it has none.
+/// The place of a pair's note, by halves. `None` if it has none.
 fn find<E: Ord + Copy>(notes: &[NotedPair<E>], entry: &E) -> Option<usize>
     requires { Ascends E.cmp (noted notes.now) }
     ensures { MatchOption result
@@ -62,7 +61,7 @@ fn find<E: Ord + Copy>(notes: &[NotedPair<E>], entry: &E) -> Option<usize>
     None
 }
 
-/// Stages of so many notes, none of them come to.
+/// Stages of so many notes, of which none was reached.
 pub(crate) fn blank_stages(alloc: Global, count: usize) -> Result<Vec<NoteStage>, AllocError>
     ensures len { IfOk result (λ stages. length stages.items ≡ count) }
     ensures ahead { IfOk result (λ stages. (i : ℕ) → stage_at stages.items i ≡ Ahead) }
@@ -70,7 +69,7 @@ pub(crate) fn blank_stages(alloc: Global, count: usize) -> Result<Vec<NoteStage>
     vec![in alloc; NoteStage::Ahead; count]
 }
 
-/// A note's stage once the pass comes to its pair.
+/// A note's stage once the pass reaches its pair.
 fn meet(stage: NoteStage) -> NoteStage
     ensures { result ≡ meets true stage }
 {
@@ -80,7 +79,7 @@ fn meet(stage: NoteStage) -> NoteStage
     }
 }
 
-/// The pass comes to a page.
+/// Notes that the pass has reached a page.
 pub(crate) fn come_to_page<E: Copy>(notes: &[NotedPair<E>], stages: &mut [NoteStage], page: u32)
     requires { length stages.old ≡ length notes.now }
     ensures { Moves (λ n s. come_to page n.leaf s) notes.now stages.old stages.new }
@@ -92,7 +91,7 @@ pub(crate) fn come_to_page<E: Copy>(notes: &[NotedPair<E>], stages: &mut [NoteSt
     }
 }
 
-/// A note's stage once the pass comes to its leaf.
+/// A note's stage once the pass reaches its leaf.
 fn reach(stage: NoteStage) -> NoteStage
     ensures { (page : ℕ) → result ≡ come_to page page stage }
 {
@@ -102,7 +101,7 @@ fn reach(stage: NoteStage) -> NoteStage
     }
 }
 
-/// The pass comes to a pair.
+/// Notes that the pass has reached a pair.
 pub(crate) fn meet_entry<E: Ord + Copy>(notes: &[NotedPair<E>], stages: &mut [NoteStage], entry: &E)
     requires as_many { length stages.old ≡ length notes.now }
     requires in_order { Ascends E.cmp (noted notes.now) }
@@ -113,7 +112,7 @@ pub(crate) fn meet_entry<E: Ord + Copy>(notes: &[NotedPair<E>], stages: &mut [No
     }
 }
 
-/// Whether the pass has come to a note's pair.
+/// Whether the pass has reached a note's pair.
 fn is_found(stage: NoteStage) -> bool
     ensures { IsTrue result ↔ (stage ≡ Found) }
 {
@@ -123,7 +122,7 @@ fn is_found(stage: NoteStage) -> bool
     }
 }
 
-/// Tests that the pass has come to each note's pair. Refused, with the leaf, where it hasn't.
+/// Tests that the pass has reached each note's pair. Refused, with the leaf, if it hasn't.
 pub(crate) fn test_found<E: Copy>(notes: &[NotedPair<E>], stages: &[NoteStage]) -> Result<(), u32>
     requires { length stages.now ≡ length notes.now }
     ensures found { OnOk result ((i : ℕ) (n : NotedPair E) → slice_get notes.now i ≡ Some n

@@ -1,4 +1,4 @@
-//! No pair is there twice.
+//! Tests that no pair is in two places.
 ghost use Rattle.std.specs.Prelude.{◌≡◌, ℕ, ◌*◌, ◌^◌, ◌<◌, ◌≤◌, [], length, None, OnOk, IfErr};
 ghost use Rattle.gx_machine.specs.Keys.{keys_of, entry_cmp};
 ghost use Rattle.gx_node.specs.Legal.{Linked};
@@ -63,10 +63,10 @@ fn finish_passes<K: KeyClass, P: Pages<K>>(
     Err(LegalityFault::Unsteady)
 }
 
-/// Tests that no pair is there twice on the chain of leaves from page 2, where a node has at most `most` entries and
-/// the chain is sound. It goes over the leaves in passes, a page at a time: each pass gathers the least pairs above
-/// those of the pass before, in a buffer which it sorts when it is full. The first comes to each leaf with the notes
-/// too.
+/// Tests that no pair is in two places on the chain of leaves from page 2, if a node has at most `most` entries and the
+/// chain is sound. It goes over the leaves in passes, a page at a time: each pass gathers the least pairs above those
+/// of the pass before, in a buffer which it sorts when it is full. The first pass also looks for the notes in each
+/// leaf.
 ///
 /// Refused with `Pages`, and with `Broken` by `PairTwice`, at page 2, where the chain begins.
 pub(crate) fn test_pairs<K: KeyClass, P: Pages<K>>(

@@ -8,7 +8,7 @@ use Rattle.gx_class.specs.declared.class.KeyClass.{Ghosts}
 use Rattle.gx_disk.specs.Device.{Device}
 use Rattle.gx_engine.specs.States.{Parts}
 use Rattle.gx_engine.specs.Sweeping.{bring_events}
-use Rattle.gx_events.specs.Events as laws
+use Rattle.gx_events.specs.Happenings as laws
 use Rattle.gx_events.specs.Steps.{IsJust, IsSync}
 use Rattle.gx_events.specs.declared.outcome.Need.{Need}
 use Rattle.gx_events.specs.declared.outcome.Outcome.{Outcome}
@@ -32,19 +32,19 @@ away_upkeep B refusal.Device = tt
 away_upkeep B why = tt
 
 module _ {B : Type 0} where
-  these_are : (events given : List (laws.Event B)) → events ≡ given → AreUpkeep given → AreUpkeep events
-  these_are events given is upkeep = subst (λ (xs : List (laws.Event B)). AreUpkeep xs) (sym is) upkeep
+  these_are : (events given : List (laws.Happening B)) → events ≡ given → AreUpkeep given → AreUpkeep events
+  these_are events given is upkeep = subst (λ (xs : List (laws.Happening B)). AreUpkeep xs) (sym is) upkeep
 
-  fault_upkeep : (events : List (laws.Event B)) → IsJust laws.Fails events → AreUpkeep events
+  fault_upkeep : (events : List (laws.Happening B)) → IsJust laws.Fails events → AreUpkeep events
   fault_upkeep events (inl is) = these_are events (laws.Fails ∷ []) is tt
   fault_upkeep events (inr is) = these_are events (laws.Works ∷ laws.Fails ∷ []) is tt
 
-  refused_upkeep : (failed : Bool) (why : Refusal) (events : List (laws.Event B)) → IsSync failed (Refused why) events → AreUpkeep events
+  refused_upkeep : (failed : Bool) (why : Refusal) (events : List (laws.Happening B)) → IsSync failed (Refused why) events → AreUpkeep events
   refused_upkeep failed refusal.Device events are = fault_upkeep events are.1
   refused_upkeep failed refusal.Failed events are = these_are events [] are.1 tt
   refused_upkeep failed why events are = absurd are
 
-  sync_upkeep : (failed : Bool) (outcome : Outcome B) (events : List (laws.Event B)) → IsSync failed outcome events → AreUpkeep events
+  sync_upkeep : (failed : Bool) (outcome : Outcome B) (events : List (laws.Happening B)) → IsSync failed outcome events → AreUpkeep events
   sync_upkeep failed More events (works, inl is) = these_are events [] is tt
   sync_upkeep failed More events (works, inr (inl is)) = these_are events (laws.Works ∷ []) is tt
   sync_upkeep failed More events (works, inr (inr (number, is))) = these_are events (laws.Durable number ∷ []) is tt

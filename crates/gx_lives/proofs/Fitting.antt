@@ -1,5 +1,5 @@
 -- What an index of a class may be formatted for fits its fields.
-use Rattle.std.proofs.Common.{◌≡◌, sym, subst, ℕ, ◌<◌, arith}
+use Rattle.std.proofs.Common.{sym, subst, ℕ, ◌<◌, arith}
 use Rattle.std.specs.Prelude.{◌^◌}
 use Rattle.gx_glog.specs.Parameters.{Fit}
 use Rattle.gx_glog.specs.declared.parameters.Parameters.{Parameters}

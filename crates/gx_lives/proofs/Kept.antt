@@ -15,7 +15,6 @@ use Rattle.gx_machine.specs.Keys.{Keys}
 use Rattle.gx_machine.specs.Machine.{Machine, answer, claims_held, close, is_session, least_conflicting, newest, session_at, with_session}
 use Rattle.gx_machine.specs.Runs.{Step, Asks, Answers, Seals, Durable, Closes, RefusesAsk, RefusesCall, Fails, Crashes, Nothing, IsStep}
 use Rattle.gx_machine.specs.Sessions.{Session, Idle, Open, Committing, answer_session, ask_session, closed_session, sealed_set}
-use Rattle.gx_machine.specs.Sets.{has}
 use Rattle.gx_machine.proofs.Places.{at_idle, at_set, session_there}
 use Rattle.gx_machine.proofs.StepEffects.{asked_session, asked_there, mapped, sealed_view, with_set}
 use Rattle.gx_machine.proofs.Transactions.{ask_refused_sessions, failed_sessions, fault_sessions}
@@ -37,7 +36,7 @@ each_at P [] i d all low = absurd (omega arith)
 each_at P (x ∷ xs) zero d all low = all.0
 each_at P (x ∷ xs) (suc i) d all low = each_at P xs i d all.1 (omega arith)
 
--- a step that tells of a change
+-- a step that reports a change
 abbrev pub step_changes : {B : Type 0} → Step B → Bool
 step_changes (Answers s r) = is_change r
 step_changes other = false

@@ -34,7 +34,7 @@ use Rattle.gx_lives.proofs.Kept.{AllAre, idle_are, step_asks, step_changes, step
 use Rattle.gx_lives.proofs.Told.{told, turn_told}
 use Rattle.gx_lives.proofs.Unchanged.{HoldsOnly, OpenFor, Unchanged, of_another, only_kept, open_kept, open_search, view_of_none}
 
--- What steps tell of a turn.
+-- What steps say of a turn.
 
 one_step : {B : Type 0} (test : Step B → Bool) (steps : List (Step B)) (step : Step B) → steps ≡ step ∷ [] → test step ≡ false → list_any test steps ≡ false
 one_step test steps step is quiet = ap (list_any test) is ∙ ap (λ b. b || false) quiet
@@ -61,7 +61,7 @@ module _ {B : Type 0} where
   of_upkeep test durable fails (Fails ∷ steps) told = ap (λ b. b || list_any test steps) fails ∙ of_upkeep test durable fails steps told
   of_upkeep test durable fails (other ∷ steps) told = absurd told
 
-  -- steps of turns without a change tell of none
+  -- steps of turns without a change report none
   of_reply : (s : ℕ) (r : Reply B) (steps : List (Step B)) → is_change r ≡ false → TellsReply s r steps → list_any step_changes steps ≡ false
   of_reply s r steps quiet (inl is) = one_step step_changes steps (Answers s r) is quiet
   of_reply s r steps quiet (inr (why, refused, inl is)) = one_step step_changes steps (Closes s why) is refl

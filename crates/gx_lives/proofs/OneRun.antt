@@ -1,4 +1,4 @@
--- What a stage bears, told of which it is.
+-- What a stage carries, by which it is.
 use Rattle.std.proofs.Common.{◌≡◌, ℕ, Bool, List, subst}
 use Rattle.gx_class.specs.Traits.{traits_of}
 use Rattle.gx_class.specs.declared.class.KeyClass.{Ghosts}

@@ -9,8 +9,7 @@ use Rattle.gx_durable.specs.Classes.{class_of, reading_of}
 use Rattle.gx_durable.specs.Standing as durable
 use Rattle.gx_engine.specs.States.{Parts}
 use Rattle.gx_events.specs.Engines.{SeenAs}
-use Rattle.gx_events.specs.Events as laws
-use Rattle.gx_format.specs.Formatting.{sectors_of}
+use Rattle.gx_events.specs.Happenings as laws
 use Rattle.gx_glog.specs.declared.parameters.Parameters.{Parameters}
 use Rattle.gx_index_laws.specs.Classes.{Class, IsLawful, known_of}
 use Rattle.gx_index_laws.specs.Happening.{AreHappening}
@@ -35,7 +34,7 @@ module _ {B : Type 0} (c : Class B) where
     runs : IsRun c.keys m steps machine
     seen : SeenAs c.keys (engine_of c j) machine
 
-  kept_up : (events : List (laws.Event B)) (i j : index.State B) → AreUpkeep events → AreHappening c i events j → (m : Machine B) → SeenAs c.keys (engine_of c i) m → IsKeptUp m j
+  kept_up : (events : List (laws.Happening B)) (i j : index.State B) → AreUpkeep events → AreHappening c i events j → (m : Machine B) → SeenAs c.keys (engine_of c i) m → IsKeptUp m j
   kept_up [] i j upkeep same m seen = record {
     machine = m;
     steps = [];

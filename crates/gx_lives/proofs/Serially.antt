@@ -1,4 +1,4 @@
--- A run's searches, told of its own steps.
+-- A run's searches, in terms of its own steps.
 use Rattle.std.proofs.Common.{ℕ, List, [], ◌∷◌, ◌++◌, refl, subst}
 use Rattle.gx_machine.specs.declared.entry.Entry.{Entry}
 use Rattle.gx_machine.specs.declared.reply.Reply.TheVariants.{Found}

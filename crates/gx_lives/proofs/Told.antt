@@ -133,7 +133,7 @@ module _ {B : Type 0} (k : Keys B) where
       (law old middle new (crash new.oldest new) s number new.oldest run.0 answered run.2 kept).0
   covered law (turn ∷ turns) old new (middle, is, others) number (inr more) = covered law turns middle new others number more
 
-  -- what was acknowledged is there at a later opening
+  -- what was acknowledged is kept by a later opening
   pub opened_later : ((old answered last crashed : Machine B) (s committed number : ℕ) (steps : List (Step B)) → IsStep k old (Answers s (reply.Committed committed)) answered
       → IsRun k answered steps last → IsStep k last (Crashes number) crashed → (committed ≤ number) × (newest crashed ≡ number) × (crashed.latest ≡ set_of number last))
       → (old answered last opened : Machine B) (s committed : ℕ) (turns : List (Turn B)) → IsOf k old (life.Happens (Move s) (Replied (reply.Committed committed))) answered

@@ -234,7 +234,7 @@ module _ {B : Type 0} (k : Keys B) where
         subst Sets (sym h.2) (each_at Is (kept_sets old) (number - old.oldest) [] (kept_are old only) (omega (arith, long, low, high)), tt)
     sets_kept Nothing old new h only = same_sets old new (keeps_sets old new Nothing refl h) only
 
-    -- a step that tells of no change keeps it so
+    -- a step that reports no change keeps it so
     pub only_kept : (step : Step B) (old new : Machine B) → step_changes step ≡ false → IsStep k old step new → HoldsOnly set old → HoldsOnly set new
     only_kept step old new quiet h only =
         let sets = sets_kept step old new h only in

@@ -10,9 +10,6 @@ use Rattle.gx_durable.specs.Area.{area_of}
 use Rattle.gx_durable.specs.Fitting.{AreGood}
 use Rattle.gx_durable.specs.Spelled.{Reading}
 use Rattle.gx_durable.proofs.Legality.{used_fits}
-use Rattle.gx_engine.specs.States.{Parts}
-use Rattle.gx_events.specs.declared.event.Event.{Event}
-use Rattle.gx_events.specs.declared.outcome.Outcome.{Outcome}
 use Rattle.gx_found_log.specs.declared.found.FoundLog.{FoundLog}
 use Rattle.gx_found_log.specs.Found.{HasUndamaged}
 use Rattle.gx_format.specs.Formatting.{sectors_of}

@@ -29,8 +29,8 @@ use Rattle.gx_lives.specs.Lives.{Lies, Stage, Turn, Works}
 use Rattle.gx_lives.specs.Lives as life
 use Rattle.gx_lives.specs.Told.{TellsUpkeep}
 
--- What a turn is of the machine: an event is what it does by its outcome; an opening is a crash of the machine, to a set that it keeps; a reading
--- makes commits durable at most, or meets a fault; nothing else is anything to it.
+-- What a turn is of the machine: an event is what it does by its outcome; an opening is a crash of the machine, to a
+-- set that it keeps; a reading makes commits durable at most, or meets a fault; nothing else changes the machine.
 abbrev pub IsOf : {B : Type 0} → Keys B → Machine B → Turn B → Machine B → Type 0
 IsOf k old (life.Happens event outcome) new = events.Happens k old event outcome new
 IsOf k old life.Crashes new = new ≡ old

@@ -1,4 +1,4 @@
--- What those who call an index do, as turns of its life.
+-- The calls of an index, as turns of its life.
 use Rattle.std.specs.Prelude.{ℕ, ◌≡◌, ◌+◌, ◌⊎◌, Bool, true, false, List, [], ◌∷◌, ◌++◌, Option, Result, Ok, Err}
 use Rattle.std.specs.Io.KnownBytes.{Appends, Consumes, IsAtEnd}
 use Rattle.gx_class.specs.Traits.{Traits}
@@ -37,8 +37,9 @@ IsAnswered s call reply steps = AreDriven s (Run (Ask s call)) steps (Done reply
 abbrev pub IsOneEvent : {B : Type 0} → Event B → List (Event B × Outcome B) → Type 0
 IsOneEvent {B} event steps = (steps ≡ []) ⊎ ((outcome : Outcome B) × (steps ≡ (event, outcome) ∷ []))
 
--- A call of an index is given this reply by these events, by whether the index gave up before it, and after it. Where it hadn't, they are the events
--- of the session's driver, up to that reply; or the call was given up, with one more event due, and is told as damage. Where it had, there are none.
+-- A call of an index gets this reply by these events, by whether the index gave up before it, and after it. If it
+-- hadn't before, they are the events of the session's driver, up to that reply; or the call was given up, with one more
+-- event due, and the reply is `Damaged`. If it had, there are none.
 abbrev pub IsCalled : {B : Type 0} → Bool → ℕ → Call B → Reply B → List (Event B × Outcome B) → Bool → Type 0
 IsCalled true s call reply steps after = (steps ≡ []) × (reply ≡ Refused Failed) × (after ≡ true)
 IsCalled {B} false s call reply steps after =

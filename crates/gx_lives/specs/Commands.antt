@@ -19,15 +19,16 @@ use Rattle.gx_lives.specs.Calling.{AreLines, AreReads, DidSome, IsSettled, turns
 use Rattle.gx_lives.specs.Lives.{Lies, Lives, Turn}
 use Rattle.gx_lives.specs.Lives as life
 
--- The opening was refused, which is all: with frames in range because a call of the device failed or memory was refused.
+-- The opening was refused, and nothing follows: with frames in range, because a call of the device failed or memory was
+-- refused.
 pub record IsTurnedAway {B : Type 0} (frames : ℕ) (turns : List (Turn B)) (status : ℕ) : Type 0 where
   pub why : Refusal
   pub cause : 16 ≤ frames → frames ≤ 4096 → HasFailed why
   pub status_is : status ≡ 1
   pub is : turns ≡ life.Refuses why ∷ []
 
--- A device was opened; these lines were done, and gave this text; what their index did afterwards is as told, by whether it had given up; and then
--- the engine was given up, with its device left behind. No other event of it comes in between.
+-- A device was opened; these lines were done, and gave this text; their index then did what is given here, by whether
+-- it had given up; and then the engine ended, and left its device. No other event comes in between.
 pub record RunsLines {B : Type 0} (grammar : Grammar B) (lines : List (Line B)) (text : List ℕ) (Follows : Bool → List (Event B × Outcome B) → Type 0) (turns : List (Turn B)) : Type 0 where
   pub called : List (Event B × Outcome B)
   pub ended : Bool
@@ -40,7 +41,7 @@ pub record RunsLines {B : Type 0} (grammar : Grammar B) (lines : List (Line B)) 
 abbrev pub IsCutOff : {B : Type 0} → ℕ → Bool → List (Event B × Outcome B) → Type 0
 IsCutOff status ended steps = (steps ≡ []) × (status ≡ 1)
 
--- what follows a script's end: a settling's events, whose result is told; or none, where a reply told of a fault
+-- what follows a script's end: a settling's events, whose result is reported; or none, if a reply reported a fault
 abbrev pub FollowsBy : {B : Type 0} → Bool → Outputs → Outputs → ℕ → Bool → List (Event B × Outcome B) → Type 0
 FollowsBy true from to status ended steps = IsCutOff status ended steps
 FollowsBy false from to status ended steps = (result : Result (Unit {0}) Refusal) × IsSettled ended result steps × TellsSettled result from to status
@@ -73,7 +74,7 @@ abbrev pub AreOfDump : {B : Type 0} → ℕ → ℕ → List (Turn B) → Type 0
 AreOfDump {B} frames status turns =
     IsTurnedAway frames turns status ⊎ ((reads : List (Turn B)) × AreReads reads × (turns ≡ life.Opens ∷ (reads ++ life.GivesUp ∷ [])))
 
--- A command over a device, with what it was given and what came of that.
+-- A command over a device, with what it was given and its outcome.
 pub data Command : Type 0 where
   Runs : (frames : ℕ) (had left : Stream) (from to : Outputs) (status : ℕ) → Command
   Dumps : (frames : ℕ) (from to : Outputs) (status : ℕ) → Command

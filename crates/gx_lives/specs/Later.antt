@@ -19,7 +19,7 @@ use Rattle.gx_lives.specs.Lives.{Lies, Lives, Stage, Turn, Works}
 use Rattle.gx_lives.specs.Lives as life
 use Rattle.gx_lives.specs.OneRun.{IsOneRun}
 
--- a reply that tells of a change
+-- a reply that reports a change
 abbrev pub is_change : {B : Type 0} → Reply B → Bool
 is_change reply.Inserted = true
 is_change reply.Deleted = true

@@ -2,18 +2,17 @@
 -- some off.
 use Rattle.std.specs.Prelude.{ℕ, ◌≡◌, ◌⊎◌, true, List, [], ◌∷◌}
 use Rattle.gx_geom.specs.declared.refusal.Refusal.{Refusal}
-use Rattle.gx_geom.specs.declared.refusal.Refusal.TheVariants.{Damaged}
 use Rattle.gx_class.specs.Traits.{Traits}
 use Rattle.gx_disk.specs.Device.{Device, IsSettled, MayLeave}
 use Rattle.gx_engine.specs.States.{Parts}
 use Rattle.gx_engine.specs.Setting.{LeadsSoAs}
-use Rattle.gx_events.specs.Events as laws
+use Rattle.gx_events.specs.Happenings as laws
 use Rattle.gx_events.specs.declared.event.Event.{Event}
 use Rattle.gx_events.specs.declared.outcome.Outcome.{Outcome}
 use Rattle.gx_machine.specs.Keys.{Members}
 use Rattle.gx_engine.specs.Made.{Makes}
 use Rattle.gx_opening.specs.Formatted.{OnlyRests}
-use Rattle.gx_restart.specs.Beginning.{HasFailed, IsSameDevice}
+use Rattle.gx_restart.specs.Beginning.{IsSameDevice}
 use Rattle.gx_restart.specs.Setting.{IsOpenedAs, KeepsItsSetAs}
 
 -- What there is: an engine at work over its device, or a device alone.
@@ -21,8 +20,8 @@ pub data Stage (B D : Type 0) : Type 0 where
   Works : (engine : Parts B D) → Stage B D
   Lies : (disk : D) → Stage B D
 
--- What comes next: an event of the engine, with its outcome; a crash; the engine is given up, and its device is left as it is; the device is
--- opened; an opening is refused; pages are read, or the device is.
+-- What comes next: an event of the engine, with its outcome; a crash; the engine ends, and leaves its device unchanged;
+-- the device is opened; an opening is refused; pages are read, or the device is.
 pub data Turn (B : Type 0) : Type 0 where
   Happens : (event : Event B) (outcome : Outcome B) → Turn B
   Crashes : Turn B
@@ -32,15 +31,15 @@ pub data Turn (B : Type 0) : Type 0 where
   Reads : Turn B
 
 -- events of an index that no session sees: work, commits that get durable, a fault
-abbrev pub AreUpkeep : {B : Type 0} → List (laws.Event B) → Type 0
+abbrev pub AreUpkeep : {B : Type 0} → List (laws.Happening B) → Type 0
 AreUpkeep [] = Unit {0}
 AreUpkeep (laws.Works ∷ events) = AreUpkeep events
 AreUpkeep (laws.Durable number ∷ events) = AreUpkeep events
 AreUpkeep (laws.Fails ∷ events) = AreUpkeep events
 AreUpkeep (other ∷ events) = ⊥
 
--- A device was read, and perhaps settled: it has as many sectors and is as honest, nothing reads otherwise, and a crash leaves nothing that it
--- couldn't leave before.
+-- A device was read, and perhaps synced: it has as many sectors and is as honest, nothing reads otherwise, and a crash
+-- leaves nothing that it couldn't leave before.
 pub record IsRead (d e : Device) : Type 0 where
   pub same : IsSameDevice d e
   pub only : OnlyRests d e
@@ -53,8 +52,8 @@ pub record ComesUp (many : ℕ) (IsLeft : List ℕ → Type 0) (d : Device) : Ty
   pub settled : IsSettled d
 
 module _ {B : Type 0} (shape : Members B) (traits : Traits B) where
-  -- What any opening does to a device: as `gx_restart::open` promises of whatever comes of it, a crash at each moment leaves what it could leave
-  -- before, or what stands for the set that the log keeps.
+  -- What any opening does to a device, whether it succeeds or not: as `gx_restart::open` promises, a crash at each
+  -- moment leaves what it could leave before, or what stands for the set that the log keeps.
   pub record IsTried (d e : Device) : Type 0 where
     pub same : IsSameDevice d e
     pub keeps : KeepsItsSetAs shape traits d e
@@ -63,8 +62,8 @@ module _ {B D : Type 0} (shape : Members B) (traits : Traits B) (state : D → D
   abbrev pub IsTriedOn : D → D → Type 0
   IsTriedOn old new = IsTried shape traits (state old) (state new)
 
-  -- A page was read, or what gives it a frame was done: whatever index the engine held, it holds what upkeep led to, and at each moment a crash
-  -- leaves what stands for a set that this index keeps.
+  -- A page was read, or an event that frees a frame for it was made: whatever index the engine held, it holds what
+  -- upkeep led to, and at each moment a crash leaves what stands for a set that this index keeps.
   abbrev pub IsReading : Parts B D → Parts B D → Type 0
   IsReading old new = LeadsSoAs shape traits state old new AreUpkeep
 

@@ -45,11 +45,11 @@ pub record IsOneRun {B D : Type 0} (shape : Members B) (traits : Traits B) (stat
   -- it is serial, and each search in it finds exactly what matches in its view
   pub serial : AreSerial (keys_of shape) fresh_machine steps
   pub finds : FindExactly (keys_of shape) fresh_machine steps
-  -- each commit that was answered is among those that every kept set has
+  -- each commit that got its reply is among those that every kept set has
   pub covers : (number : ℕ) → IsAcknowledged number turns → number ≤ machine.oldest
   -- the stage is seen as that machine
   pub bears : Bears shape traits state p machine now
   -- whatever a crash may leave, now or within what begins now, has a set that the machine keeps
   pub left : (image : List ℕ) → MayBeLeft shape traits state now image → HasSet shape traits state p machine image
-  -- an opening is refused only where a call failed or memory was refused
+  -- an opening is refused only if a call failed or memory was refused
   pub opens : (disk new : D) (why : Refusal) → now ≡ Lies disk → IsRefusedAs shape traits state disk new why → HasFailed why

@@ -1,4 +1,4 @@
--- That one run is serial and that its searches find exactly what matches, told of its own steps.
+-- The one run is serial and its searches find exactly what matches, in terms of its own steps.
 use Rattle.std.specs.Prelude.{ℕ, ◌≡◌, Some, List, ◌∷◌, ◌++◌}
 use Rattle.gx_machine.specs.declared.call.Call.{Call}
 use Rattle.gx_machine.specs.declared.call.Call.TheVariants.{Begin}

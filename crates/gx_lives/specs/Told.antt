@@ -23,7 +23,8 @@ TellsWork More steps = (steps ≡ []) ⊎ ((number : ℕ) × (steps ≡ Durable 
 TellsWork (Refused why) steps = (steps ≡ []) ⊎ (steps ≡ Fails ∷ [])
 TellsWork outcome steps = steps ≡ []
 
--- The steps of an event with its outcome: one for each ask and each reply, and one where a commit is sealed; of work as told.
+-- The steps of an event with its outcome: one for each ask and each reply, and one if a commit is sealed; for an event
+-- of no session those given here.
 abbrev pub TellsEvent : {B : Type 0} → Event B → Outcome B → List (Step B) → Type 0
 TellsEvent (Ask s call) (Replied r) steps = (steps ≡ Asks s call (asked.Now r) ∷ []) ⊎ ((why : Refusal) × (r ≡ reply.Refused why) × (steps ≡ RefusesAsk s call why ∷ []))
 TellsEvent (Ask s call) outcome steps = steps ≡ Asks s call asked.Open ∷ []

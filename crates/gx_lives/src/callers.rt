@@ -1,4 +1,4 @@
-//! What those who call an index do to it is turns of its life. Each function is its contract alone.
+//! Laws: the calls of an index are turns of its life. Each function is its contract alone.
 ghost use Rattle.std.specs.Prelude.{ℕ, List, Option, Result};
 ghost use Rattle.gx_engine.specs.Driven.{IsDriven};
 ghost use Rattle.gx_engine.specs.Made.{Makes};
@@ -31,8 +31,8 @@ use gx_disk::SectorDisk;
 use gx_script::Corners;
 
 /// A call of an index (`gx_restart::Index::call`) is turns of its life: events, from its ask to the outcome that gives
-/// its reply. So is one that is given up, which is told as damage; and one that is refused because the index gave up
-/// has none.
+/// its reply. So is a call that is given up, which returns `Damaged`; a call that is refused because the index gave up
+/// before has none.
 pub fn calls_are_turns<D: SectorDisk, K: ReadKeys>()
     ensures answered { (old new : Parts K.Key D) (s : ℕ) (call : Call K.Key) (reply : Reply K.Key)
         → IsDriven (Makes K.Key.Shape K.ReadKeys D.state) s (Ask s call) old reply new
@@ -70,8 +70,8 @@ pub fn scripts_are_turns<D: SectorDisk, B: Corners, K: ReadKeys + KeyClass<Key =
         had left held holds old.ended new.ended old.engine new.engine }
 {}
 
-/// A dump (`gx_restart::Index::dump`) is readings, each of which changes nothing that counts: a page that is brought
-/// (`Engine::bring_page`), or an event that gives one a frame. It is so also where it is stopped.
+/// A dump (`gx_restart::Index::dump`) is readings, none of which changes the machine: a page that is brought
+/// (`Engine::bring_page`), or an event that frees a frame for one. This holds also if it is stopped.
 pub fn dumps_are_turns<D: SectorDisk, K: ReadKeys>()
     ensures page { (page : ℕ) (old new : Parts K.Key D) (result : Result (Unit {0}) (outcome.Outcome K.Key))
         → Brings K.Key.Shape K.ReadKeys D.state page old result new
@@ -81,8 +81,8 @@ pub fn dumps_are_turns<D: SectorDisk, K: ReadKeys>()
         → LivesByReading K.Key.Shape K.ReadKeys D.state old.engine new.engine }
 {}
 
-/// A hold of a book over an engine (`gx_shared::Book::apply_for`) is one turn of its life, or none where an ask is
-/// turned away; and one of work (`gx_shared::Book::apply`) is one turn.
+/// A hold of a book over an engine (`gx_shared::Book::apply_for`) is one turn of its life, or none if an ask is turned
+/// away; a hold for an event of no session (`gx_shared::Book::apply`) is one turn.
 pub fn holds_are_turns<D: SectorDisk, K: ReadKeys>()
     ensures session { (old new : Parts K.Key D × List (Item K.Key)) (e : event.Event K.Key) (o : outcome.Outcome K.Key)
         → IsMade (Makes K.Key.Shape K.ReadKeys D.state) old e o new

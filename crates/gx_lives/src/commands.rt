@@ -1,4 +1,4 @@
-//! What commands do to a device is a life of its index. Each function is its contract alone.
+//! Laws: commands over a device are a life of its index. Each function is its contract alone.
 ghost use Rattle.std.specs.Prelude.{◌≡◌, List, true};
 ghost use Rattle.gx_commands.specs.Endings.{FormatsOver};
 ghost use Rattle.gx_commands.specs.Streams.{Outputs};
@@ -17,14 +17,14 @@ use gx_class::{KeyClass, ReadKeys};
 use gx_disk::SectorDisk;
 use gx_script::Corners;
 
-/// A command over a device that has an index is a life. A script (`gx_commands::run_over`) is an opening; the events
-/// of its lines' calls, one after another, each up to exactly the reply that the text says; those of a settling, whose
-/// result the status tells, unless a reply told of a fault; and the engine given up, which leaves the device that is
-/// handed back. Where its reader or its writer failed it is the lines that were done, of whose text a front was
-/// written, and no settling. A dump (`gx_commands::dump_over`) is an opening, readings, and the engine given up;
-/// verifying (`gx_commands::verify_over`) is a reading of the device. An opening that is refused is all that comes, and
-/// with frames in range only because a call of the device failed or memory was refused: so no device of a life is
-/// examined for damage.
+/// A command over a device that has an index is a life. A script (`gx_commands::run_over`) is an opening; the events of
+/// its lines' calls, one after another, each up to exactly the reply in the text; those of a settling, whose result
+/// decides the status, unless a reply reported a fault; and the end of the engine, which leaves the device that is
+/// returned. If its reader or its writer failed, it is the lines that were done, whose text was written in whole or in
+/// part, and no settling. A dump (`gx_commands::dump_over`) is an opening, readings, and the end of the engine;
+/// verifying (`gx_commands::verify_over`) is a reading of the device. After a refused opening nothing follows; with
+/// frames in range it is refused only because a call of the device failed or memory was refused: so no device of a life
+/// is examined for damage.
 pub fn commands_are_lives<D: SectorDisk, B: Corners, K: ReadKeys + KeyClass<Key = B>>()
     ensures { (p : Parameters) → IsAllowed K.CLASS p → (m : Machine B) (disk after : D) (command : Command)
         → Bears B.Shape K.ReadKeys D.state p m (Lies disk)
@@ -34,8 +34,7 @@ pub fn commands_are_lives<D: SectorDisk, B: Corners, K: ReadKeys + KeyClass<Key 
     an_opening_finds_no_damage::<D, K>();
 }
 
-/// Where a format of an honest device (`gx_commands::format_over`) ended with status 0, the device is new: a life
-/// begins.
+/// If a format of an honest device (`gx_commands::format_over`) ended with status 0, the device is new: a life begins.
 pub fn a_format_begins_a_life<D: SectorDisk, K: ReadKeys>()
     ensures { (p : Parameters) (disk after : D) (from to : Outputs) → (D.state disk).honest ≡ true
         → FormatsOver D.state p (fresh_root K.spelling K.start_key) disk after from to 0
@@ -43,7 +42,7 @@ pub fn a_format_begins_a_life<D: SectorDisk, K: ReadKeys>()
 {}
 
 /// Commands over a device that was formatted, one after another, each over what the one before it left, are one life,
-/// and so one run of the set machine: whatever each of them answered, also where it was refused or cut off.
+/// and so one run of the set machine, whatever each of them returned, also if it was refused or cut off.
 pub fn commands_are_one_life<D: SectorDisk, B: Corners, K: ReadKeys + KeyClass<Key = B>>()
     ensures { (p : Parameters) → p.class ≡ K.CLASS → (disk after : D) (commands : List Command)
         → IsNew K.KeyClass K.start_key D.state p disk

@@ -1,4 +1,4 @@
-//! What holds of lives. Each function is its contract alone.
+//! Laws of lives. Each function is its contract alone.
 ghost use Rattle.std.specs.Prelude.{◌≡◌, ◌≤◌, ◌<◌, ◌^◌, ℕ, List};
 ghost use Rattle.gx_engine.specs.States.{Parts};
 ghost use Rattle.gx_events.specs.declared.event.Event.TheVariants.{Move};
@@ -24,17 +24,17 @@ use gx_disk::SectorDisk;
 use gx_geom::{Refusal, Shape};
 use gx_node::laws::{inners, leaves};
 
-// A class's number is one of its field.
+// A class's number fits its field.
 fn is_class(_class: u16)
     ensures { _class < 2 ^ 16 }
 {}
 
-/// Whatever list of events, crashes and openings an index on a device lives through, it is the set machine's: each
-/// event is what the machine does by that event's outcome, each opening that ends well is one crash of the machine,
-/// to a set that it kept then, and nothing else is anything to it. An engine at work is seen as that machine, and
+/// Any list of events, crashes and openings that an index on a device lives through is a run of the set machine: each
+/// event is what the machine does by that event's outcome, each opening that ends well is one crash of the machine, to
+/// a set that it kept then, and nothing else changes the machine. An engine at work is seen as that machine, and
 /// whatever a crash may leave of a device alone stands for a set that the machine keeps.
 ///
-/// A crash may come at each moment of an event and of an opening, and a device may be left unsettled where an engine
+/// A crash may come at each moment of an event and of an opening, and a device may have unsynced writes when an engine
 /// is given up or an opening is refused.
 pub fn every_life_is_the_machines<D: SectorDisk, K: ReadKeys>()
     ensures { (p : Parameters) → IsAllowed K.CLASS p
@@ -60,9 +60,9 @@ pub fn a_crash_leaves_a_set_of_the_machine<D: SectorDisk, K: ReadKeys>()
     is_class(K::CLASS);
 }
 
-/// An opening in a life finds no damage: whatever came before, it is refused only with `Device` or `Memory`. Whatever
-/// a crash left is a log whose bodies are whole, over pages that are a legal tree for it and that can be read; and
-/// the undo of what it cut off comes to its end.
+/// An opening in a life finds no damage: whatever came before, it is refused only with `Device` or `Memory`. Each crash
+/// leaves a log whose bodies are whole, over pages that can be read and are a legal tree for it; and the undo of what
+/// it cut off ends.
 pub fn an_opening_finds_no_damage<D: SectorDisk, K: ReadKeys>()
     ensures { (p : Parameters) → IsAllowed K.CLASS p → (m : Machine K.Key) (old new : D) (why : Refusal)
         → Bears K.Key.Shape K.ReadKeys D.state p m (Lies old)
@@ -73,13 +73,13 @@ pub fn an_opening_finds_no_damage<D: SectorDisk, K: ReadKeys>()
     is_class(K::CLASS);
 }
 
-/// The headline. An index is formatted on an honest device, which ends well, and then lives through any list of events,
-/// crashes at any moment, and openings. What it lived through is one run of the set machine, from nothing committed: a
-/// step for each ask and each reply, and one crash for each opening that ended well. This run is serial, by the numbers
-/// of its commits, and each search that it answers finds exactly what matches in its view. The engine at work is seen
-/// as the machine that this run led to; whatever a crash may leave has a set that this machine keeps, of the first n
-/// commits; n covers each commit that was answered; and an opening of the device is refused only where a call of the
-/// device failed or memory was refused.
+/// The headline. An index is formatted on an honest device, which succeeds, and then lives through any list of events,
+/// crashes at any moment, and openings. This life is one run of the set machine, from nothing committed: a step for
+/// each ask and each reply, and one crash for each opening that ended well. This run is serial, by the numbers of its
+/// commits, and each search that it answers finds exactly what matches in its view. The engine at work is seen as the
+/// machine that this run led to; whatever a crash may leave has a set that this machine keeps, of the first n commits;
+/// n covers each commit that was replied to; and an opening of the device is refused only if a call of the device
+/// failed or memory was refused.
 pub fn an_index_lives_as_one_run<D: SectorDisk, K: ReadKeys>()
     ensures { (p : Parameters) → p.class ≡ K.CLASS → (disk : D) → IsNew K.KeyClass K.start_key D.state p disk
         → (turns : List (Turn K.Key)) (now : Stage K.Key D)
@@ -99,9 +99,10 @@ pub fn an_index_lives_as_one_run<D: SectorDisk, K: ReadKeys>()
 }
 
 /// A search of a later life finds what was committed. An index lives from its format to a device, and that is opened.
-/// The opening has the set that the one run's machine keeps under a number, none below a commit's that was answered.
-/// From there on, as long as no insert and no delete is answered as done, each search that is answered finds exactly
-/// the entries of that set which match, in order, each once: whatever else comes in between, crashes and openings too.
+/// The opening has the set that the run's machine keeps under a number, which is at least that of each commit that was
+/// replied to. From then on, until an insert or a delete is replied to as done, each search that gets a reply finds
+/// exactly the entries of that set which match, in order, each once: whatever else comes in between, crashes and
+/// openings too.
 pub fn a_later_search_finds_what_was_opened<D: SectorDisk, K: ReadKeys>()
     ensures { (p : Parameters) → p.class ≡ K.CLASS → (disk : D) → IsNew K.KeyClass K.start_key D.state p disk
         → (turns : List (Turn K.Key)) (closed : D) (engine : Parts K.Key D)
@@ -118,7 +119,7 @@ pub fn a_later_search_finds_what_was_opened<D: SectorDisk, K: ReadKeys>()
     gx_machine::laws::only_open_commits_are_sealed::<K::Key>();
 }
 
-/// A run from nothing committed is serial, and each search that it answers finds exactly what matches in its view.
+/// A run from nothing committed is serial, and each search that gets a reply finds exactly what matches in its view.
 pub fn a_run_from_nothing_is_serial<B: Shape>()
     ensures serial { (new : Machine B) (steps : List (Step B)) → IsRun (keys_of B.Shape) fresh_machine steps new
         → AreSerial (keys_of B.Shape) fresh_machine steps }
@@ -132,15 +133,15 @@ pub fn a_run_from_nothing_is_serial<B: Shape>()
     gx_machine::laws::found_is_what_the_view_has::<B>();
 }
 
-/// What a life is of the machine is a run of it: a step for each ask and each reply, and one crash for each opening
-/// that ends well. So all that holds of runs holds of lives.
+/// A life is a run of the machine: a step for each ask and each reply, and one crash for each opening that ends well.
+/// So all that holds of runs holds of lives.
 pub fn every_life_is_a_run<B>()
     ensures { (k : Keys B) (turns : List (Turn B)) (old new : Machine B) → AreOf k old turns new
         → (steps : List (Step B)) × Tells turns steps × IsRun k old steps new }
 {}
 
-/// A commit that was answered is there at each later opening, whatever came in between: the number that is opened is
-/// none below it, and the set is the one which that number had.
+/// A commit that was replied to is kept by each later opening, whatever came in between: the number that is opened is
+/// at least the commit's, and the set is the one which that number had.
 pub fn acknowledged_commits_are_opened<B>()
     ensures { (k : Keys B) (old answered last opened : Machine B) (s committed : ℕ) (turns : List (Turn B))
         → IsOf k old (life.Happens (Move s) (Replied (Committed committed))) answered → AreOf k answered turns last

@@ -1,4 +1,4 @@
-//! The calls whose contracts are the turns of a life: each is the call of its name, with what it is of a life.
+//! The calls that are turns of a life: each makes the call of its name, and its contract says which turn that is.
 ghost use Rattle.std.specs.Prelude.{◌≡◌, ◌≤◌, ◌<◌, true, Err, OnOk, IfErr, IfOk, MatchResult};
 ghost use Rattle.gx_disk.specs.declared.layout.TheConstants.{MIN_SECTORS};
 ghost use Rattle.gx_engine.specs.Made.{Makes};
@@ -31,12 +31,12 @@ use gx_opening::Damage;
 use gx_restart::Report;
 use std::alloc::Global;
 
-// Each number of what a device is formatted for is one of its field.
+// Each number of a device's parameters fits its field.
 fn fits(_pages: u32, _most: u16, _class: u16)
     ensures { Fit (record { pages = _pages; most = _most; class = _class }) }
 {}
 
-/// Formats a device (`gx_format::format`, with its refusals). On an honest one a life may begin then: whatever a
+/// Formats a device (`gx_format::format`, with its refusals). On an honest device a life may begin then: whatever a
 /// crash may leave stands for the set of the machine with nothing committed, and the device is formatted for what was
 /// asked.
 pub fn format<D: SectorDisk, K: ReadKeys>(
@@ -74,9 +74,9 @@ pub fn step<D: SectorDisk, K: ReadKeys + Probing>(
     engine.step(event)
 }
 
-/// Opens a device (`gx_restart::open`, with its refusals). On an honest one that is a turn of its life, an opening or
-/// one that is refused. In a life it is refused, with frames in range, only where a call of the device failed
-/// (`Device`) or memory was refused (`Memory`): never because of what a crash left.
+/// Opens a device (`gx_restart::open`, with its refusals). On an honest device that is a turn of its life, an opening
+/// or a refused one. In a life, with frames in range, it is refused only if a call of the device failed (`Device`) or
+/// memory was refused (`Memory`): never because of what a crash left.
 pub fn open<D: SectorDisk, K: ReadKeys + Probing>(
     alloc: Global,
     disk: D,
@@ -115,7 +115,7 @@ pub fn bring_page<D: SectorDisk, K: ReadKeys>(
     engine.bring_page(page)
 }
 
-/// Verifies a device (`gx_restart::verify`, with its refusals). Of an honest one that is a reading.
+/// Verifies a device (`gx_restart::verify`, with its refusals). Of an honest device that is a reading.
 pub fn verify<D: SectorDisk, K: ReadKeys + Probing>(
     alloc: Global,
     disk: &mut D,
@@ -129,8 +129,8 @@ pub fn verify<D: SectorDisk, K: ReadKeys + Probing>(
     gx_restart::verify::<D, K>(alloc, disk, frames)
 }
 
-/// Examines a device whose opening was refused as damaged (`gx_opening::examine`, with its refusals). Of an honest one
-/// that is a reading.
+/// Examines a device whose opening was refused as damaged (`gx_opening::examine`, with its refusals). Of an honest
+/// device that is a reading.
 pub fn examine<D: SectorDisk, K: ReadKeys>(
     alloc: Global,
     disk: D,

@@ -49,7 +49,7 @@ module _ {B : Type 0} (k : Keys B) (l : IsLawful k) where
     rises e (x ∷ xs) o (suc i) zero d le lt = absurd (omega arith)
     rises e (x ∷ xs) o (suc i) (suc j) d le lt = rises e xs o.1 i j d (omega arith) (omega arith)
 
-    -- an element of this entry is there
+    -- the list has an element of this entry
     pub has_at : (e : Entry B) (xs : List X) (i : ℕ) (d : X) → i < length xs → entry_cmp k (f (get_or xs i d)) e ≡ Equal
         → has k e (map f xs) ≡ true
     has_at e [] i d lt h = absurd (omega arith)

@@ -27,7 +27,7 @@ use Rattle.gx_machine.proofs.Places.{session_there, at_same, at_set, at_idle}
 use Rattle.gx_machine.proofs.StepEffects.{Effect, quiet, moved, sealed, settled, crashed, Began, step_effect, sealed_view, with_set, mapped}
 use Rattle.gx_machine.proofs.StepsKeep.{Invariant, idle_invariant, step_invariant, run_invariant}
 
--- a call sees no difference between two sets: a write whether its entry is there, a search the matching entries
+-- a call sees no difference between two sets: a write sees whether they have its entry, a search their matching entries
 abbrev pub Sees : {B : Type 0} → Keys B → Call B → List (Entry B) → List (Entry B) → Type 0
 Sees k (Insert e) new old = has k e new ≡ has k e old
 Sees k (Delete e) new old = has k e new ≡ has k e old
@@ -283,7 +283,7 @@ module _ {B : Type 0} (k : Keys B) (l : IsLawful k) where
       subst (λ (x : Session B). Still k call old.latest x new.latest) still_open
       (still_run call old.latest s steps old new run none at_old before)
 
-  -- a call that was answered in a transaction that is to be sealed is answered alike where it is sealed
+  -- a call that got its reply in a transaction that is to be sealed is answered alike where it is sealed
   pub answered_at_seal : (s : ℕ) (call : Call B) (locks then_locks seal_locks : Locks B) (changes then_changes seal_changes : Changes B) (reply : Reply B)
       (asked answered sealing : Machine B) (between : List (Step B))
       → Invariant k asked → session_at s asked.sessions ≡ Open locks changes (Some call) → IsStep k asked (Answers s reply) answered

@@ -142,7 +142,7 @@ module _ {B : Type 0} (k : Keys B) (l : IsLawful k) where
   covered_excluding e xs ys covered = λ x h.
       covered x (and_second (not (same_entry k e x)) (has k x xs) (sym (has-filter k l (λ z. not (same_entry k e z)) x xs) ∙ h))
 
-  -- a set without an entry lacks it
+  -- a set without an entry doesn't have it
   excluded : (e x : Entry B) (set : List (Entry B)) → same_entry k x e ≡ true → has k x (excluding k e set) ≡ false
   excluded e x set same =
       has-filter k l (λ z. not (same_entry k e z)) x set

@@ -47,7 +47,7 @@ pub mapped : {X Y : Type 0} (f : X → Y) (o : Option X) (y : Y) → option_map 
 mapped f None y h = let no : ⊥ = cc in absurd no
 mapped f (Some x) y h = (x, refl, value_of h)
 
--- what asking gives where the session is there
+-- what asking gives if the session exists
 abbrev pub asked_session : {B : Type 0} → Keys B → ℕ → Call B → Machine B → Asked B × Session B
 asked_session k s call m = ask_session k call (least_conflicting k call s 1 m.sessions) (claims_held m.sessions) (session_at s m.sessions)
 

@@ -1,4 +1,4 @@
--- What holds of each machine of a run.
+-- Laws of each machine of a run.
 use Rattle.std.specs.Prelude.{ℕ, ◌≡◌, ◌≢◌, Bool, true, false, length, None, Some, List, All, replicate}
 use Rattle.gx_machine.specs.declared.limits.TheConstants.{SESSIONS}
 use Rattle.gx_machine.specs.declared.entry.Entry.{Entry}

@@ -1,4 +1,4 @@
--- What answers and refusals say, in the words of their subject.
+-- What replies and refusals say, in terms of their subject.
 use Rattle.std.specs.Prelude.{ℕ, ◌≡◌, ◌≢◌, ◌<◌, ◌⊎◌, true, false, ◌&&◌, None, Some, List}
 use Rattle.gx_machine.specs.declared.entry.Entry.{Entry}
 use Rattle.gx_machine.specs.declared.query.Query.{Query}
@@ -29,7 +29,7 @@ pub record IsAnswered {B : Type 0} (k : Keys B) (s : ℕ) (m : Machine B) (entri
   pub in_order : InOrder k entries
   pub exact : (e : Entry B) → has k e entries ≡ (matches k query e && has k e (view k m.latest changes))
 
--- The session is as it was, or the call that it had open is gone, and its locks and changes are as they were.
+-- The session is unchanged, or the call that it had open is gone, and its locks and changes are unchanged.
 abbrev pub KeepsTransaction : {B : Type 0} → Session B → Session B → Type 0
 KeepsTransaction {B} old new =
     (new ≡ old)

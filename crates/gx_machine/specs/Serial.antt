@@ -18,9 +18,9 @@ Begins s step = step ≡ Asks s Begin (Now reply.Ok)
 abbrev pub BeginsNone : {B : Type 0} → ℕ → List (Step B) → Type 0
 BeginsNone s steps = All (λ step. ¬ Begins s step) steps
 
--- A call that was answered in a transaction whose commit was sealed. A run from start leads to asked, where the call
--- is open and the transaction has made these changes; the reply is given, and it has then made those; further steps,
--- of any sessions, lead to sealing, and none of them begins another transaction of the session; there its commit is
+-- A call that got its reply in a transaction whose commit was sealed. A run from start leads to asked, where the call
+-- is open and the transaction has made these changes; the reply is given, and it has then made those; further steps, of
+-- any sessions, lead to sealing, and none of them begins another transaction of the session; there its commit is
 -- sealed.
 pub record AnsweredThenSealed {B : Type 0} (k : Keys B) (start : Machine B) (s : ℕ) (call : Call B) (changes : Changes B) (reply : Reply B)
     (then_changes : Changes B) (sealing : Machine B) : Type 0 where

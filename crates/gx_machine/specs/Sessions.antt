@@ -116,7 +116,7 @@ lock_for k call least spent locks = unless_busy least (with_lock k call spent lo
 
 -- Asking, for one session.
 
--- a call refused, with the session as it was
+-- a call refused, with the session unchanged
 abbrev pub refused : {B : Type 0} → Refusal → Session B → Asked B × Session B
 refused why session = (asked.Now (reply.Refused why), session)
 

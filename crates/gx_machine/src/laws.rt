@@ -1,4 +1,4 @@
-//! What holds of every run of the set machine.
+//! Laws of every run of the set machine.
 ghost use Rattle.std.specs.Prelude.{◌≡◌, ◌≢◌, ◌≤◌, ◌<◌, ◌+◌, ◌^◌, ◌&&◌, ◌||◌, ℕ, true, false, not, List, ◌++◌, length};
 ghost use Rattle.gx_machine.specs.declared.limits.TheConstants.{SESSIONS, MAX_CLAIMS, MAX_PREDICATES, LAST_NUMBER};
 ghost use Rattle.gx_geom.specs.declared.refusal.Refusal.{Refusal};
@@ -43,7 +43,7 @@ pub fn refused_ask_changes_nothing<B>()
         → (ask k s call m).0 ≡ asked.Now (Refused why) → (ask k s call m).1 ≡ m }
 {}
 
-/// Where an open call is refused or closed, each session keeps its locks and what its transaction has added and taken
+/// If an open call is refused or closed, each session keeps its locks and what its transaction has added and taken
 /// away: at most that call is gone.
 pub fn refusals_keep_transactions<B>()
     ensures answered { (k : Keys B) (old new : Machine B) (s : ℕ) (why : Refusal) → length old.sessions ≡ SESSIONS
@@ -88,8 +88,8 @@ pub fn kept_sets_stay_in_order<B>()
     ensures fresh { (k : Keys B) → KeptInOrder k fresh_machine }
 {}
 
-/// What is found is in order, each entry once, and holds an entry exactly where it matches and the view has it; the
-/// view has what the transaction added, and what the last committed set has and the transaction didn't take away.
+/// What is found is in order, each entry once, and holds an entry exactly if it matches and the view has it; the view
+/// has what the transaction added, and what the last committed set has and the transaction didn't take away.
 pub fn found_is_what_the_view_has<B>()
     ensures found { (k : Keys B) → IsLawful k → (old new : Machine B) (s : ℕ) (entries : List (Entry B))
         → KeptInOrder k old → IsStep k old (Answers s (Found entries)) new → IsAnswered k s old entries }

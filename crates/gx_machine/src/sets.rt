@@ -67,8 +67,8 @@ fn place<B: Shape>(e: &Entry<B>, set: &[Entry<B>]) -> Option<usize>
     Some(set.len())
 }
 
-/// Puts the entry in its place, unless the set has it. An `Err` changes nothing, and comes only where the vector is
-/// full and doesn't have the entry.
+/// Puts the entry in its place, unless the set has it. An `Err` changes nothing, and comes only if the vector is full
+/// and doesn't have the entry.
 pub fn include<B: Shape>(e: Entry<B>, set: &mut Vec<Entry<B>>) -> Result<(), AllocError>
     ensures ok { OnOk result (set.new.items ≡ including (keys_of B.Shape) e set.old.items) }
     ensures err { OnErr result (set.new.items ≡ set.old.items) }

@@ -183,7 +183,7 @@ module _ {K : Type 0} where
         keys = added.keys;
       }
 
-      -- what stands then
+      -- the pairs of the tree then
       module _ (old new : Tree K) (legal : Legal r old) (added : HasAdded r IsKey old new entry) where
         one_more : (test : Pair K → Bool) → standing test new ≡ standing test added.middle + one_if (test (live entry))
         one_more test =

@@ -30,7 +30,7 @@ pub struct DescentPlace {
 }
 
 impl DescentPlace {
-    /// Where an insert begins: at the root. How many pages are taken is read for its range alone.
+    /// Where an insert begins: at the root. The number of pages in use is read only for its range.
     pub fn top<K: KeyClass, P: Pages<K>>(pages: &P) -> DescentPlace
         ensures top { result ≡ from_top (tree_of (P.store pages.now)) }
         ensures few { length (P.store pages.now).nodes < 2 ^ 32 }
@@ -43,7 +43,7 @@ impl DescentPlace {
     }
 }
 
-/// Splits the full node of a place, below its parent or as the root. Where its parent has no place for that nothing has
+/// Splits the full node of a place, below its parent or as the root. If its parent has no place for that, nothing has
 /// changed.
 ///
 /// Refused as the splits are; nothing has changed then. The node's keys are written over the first of `keys`.
@@ -78,7 +78,7 @@ fn split_place<K: KeyClass, P: PagesMut<K>>(
     Ok(())
 }
 
-/// Makes room at a full leaf: takes its marked pairs out, where it has some, or else splits it. Where the insert goes
+/// Makes room at a full leaf: removes its marked pairs if it has some, else splits it. Returns where the insert goes
 /// on.
 ///
 /// Refused as the splits are; nothing has changed then.
@@ -115,9 +115,9 @@ fn make_room<K: KeyClass, P: PagesMut<K>>(
 /// bound it widens first where that is needed; makes room where a node is full; adds the pair at a leaf that has room.
 /// Returns the place where the insert goes on, or `None` once the pair was added.
 ///
-/// Refused with `Pages` where a page could not be brought or made ready, with `PagesFull` only where fewer than two
-/// pages are left, and with `Damaged` only where the root has the level 65535. Nothing has changed then. Keys of a
-/// node that is split are written over the first of `keys`.
+/// Refused with `Pages` if a page could not be brought or prepared, with `PagesFull` only if fewer than two pages are
+/// left, and with `Damaged` only if the root has the level 65535. Nothing has changed then. Keys of a node that is
+/// split are written over the first of `keys`.
 pub fn insert_step<K: KeyClass, P: PagesMut<K>>(
     pages: &mut P,
     place: DescentPlace,
@@ -166,12 +166,12 @@ pub fn insert_step<K: KeyClass, P: PagesMut<K>>(
 
 /// Inserts a live pair that the tree doesn't have, marked or not, with no steps of others in between, where a node has
 /// at most `most` entries: goes down to a leaf (Guttman 1984), and splits full nodes on the way (Kornacker, Mohan,
-/// Hellerstein 1997). Where a leaf is full its marked pairs go first, since no session claims them.
+/// Hellerstein 1997). If a leaf is full its marked pairs are removed first, since no session claims them.
 ///
-/// Refused with `Pages` where a page could not be brought or made ready, with `PagesFull` only where fewer than two
-/// pages are left, and with `Damaged` only where the root has the level 65535. The pair isn't there then, and the
-/// tree is as the steps so far have left it: legal, with the live pairs that it had. Keys of nodes that are split are
-/// written over the first of `keys`.
+/// Refused with `Pages` if a page could not be brought or prepared, with `PagesFull` only if fewer than two pages are
+/// left, and with `Damaged` only if the root has the level 65535. The tree doesn't have the pair then, and is as the
+/// steps so far have left it: legal, with the live pairs that it had. Keys of nodes that are split are written over the
+/// first of `keys`.
 pub fn insert<K: KeyClass, P: PagesMut<K>>(
     pages: &mut P,
     entry: &Entry<K::Key>,

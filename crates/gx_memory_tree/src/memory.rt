@@ -1,4 +1,4 @@
-//! Pages in memory alone.
+//! Pages in memory.
 ghost use Rattle.std.specs.Prelude.{◌≡◌, ◌<◌, ◌+◌, ◌-◌, ◌^◌, ◌⊎◌, ◌&&◌, true, false, map, length, ◌≤◌, ◌++◌, ◌∷◌, []};
 ghost use Rattle.std.specs.Prelude.{vec_len, vec_capacity, Err, IfOk, IfErr};
 ghost use Rattle.std.specs.List.{list_all};
@@ -14,8 +14,8 @@ use gx_tree::{Edit, Pages, PagesMut};
 use std::convert::Infallible;
 use std::marker::{Model, PhantomData};
 
-/// The pages of a tree in memory, page 1 first, and the pages that aren't taken yet. Bringing a page can't fail, and
-/// a page is taken without memory.
+/// The pages of a tree in memory, page 1 first, and the free pages. Bringing a page can't fail, and taking one needs no
+/// memory.
 #[derive(Drop)]
 pub struct MemoryPages<K: KeyClass> {
     pages: Vec<Page>,
@@ -83,7 +83,7 @@ fn append(pages: &mut Vec<Page>, page: Page)
 impl<K: KeyClass> MemoryPages<K> {
     /// These pages, page 1 first, with so many splits made, and others that can be taken, whatever they hold.
     ///
-    /// Refused with `Damaged` where one of the first isn't a node of the class or has another number than its own, or
+    /// Refused with `Damaged` if one of the first isn't a node of the class or has another number than its own, or
     /// there are more than 2^32 - 1 in all, and with `Memory`.
     pub fn new(mut pages: Vec<Page>, spare: Vec<Page>, counter: u64) -> Result<Self, Refusal>
         ensures pages { IfOk result (λ memory. memory ≡ record {

@@ -17,7 +17,7 @@ use std::alloc::Global;
 /// The live pairs that match a query, each once, in no order: a look from the root to its end, with no steps of others
 /// in between. No page is read twice.
 ///
-/// Refused with `Pages` where a page could not be brought, and with `Memory`.
+/// Refused with `Pages` if a page could not be brought, and with `Memory`.
 pub fn search<K: Probing, P: Pages<K>>(
     alloc: Global,
     pages: &mut P,

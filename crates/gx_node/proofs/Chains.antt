@@ -180,7 +180,7 @@ module _ {K : Type 0} where
         omega (arith, more)
   ]
 
-  -- so no page stands on it twice
+  -- so no page is on it twice
   pub linked_once : (t : Tree K) (n a : ℕ) (xs : List ℕ) → Linked t a xs → times n xs ≤ 1
   linked_once t n a [] l = omega arith
   linked_once t n a (x ∷ xs) l = elim (cases_eq x n) [

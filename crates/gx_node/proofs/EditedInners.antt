@@ -46,7 +46,7 @@ module _ {B : Type 0} (f : Format B) (used : ℕ) where
       (append_pass (is_child f used) page.items item two.1 (ap (is_child f used) bytes ∙ again.0))
       (map-append (child_of f) page.items (item ∷ []) ∙ ap (λ x. map (child_of f) page.items ++ x ∷ []) (ap (child_of f) bytes ∙ again.1))
 
-  -- a child that is read of a page is on a page that is taken
+  -- a child that is read of a page is on a page in use
   pub child_taken : (item : List ℕ) → is_child f used item ≡ true → (1 ≤ (child_of f item).page) × ((child_of f item).page ≤ used)
   child_taken item e =
       let page = number_32_at item f.key in

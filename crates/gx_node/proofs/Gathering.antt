@@ -1,4 +1,4 @@
--- A block's slots as they are gathered.
+-- How a block's slots are gathered.
 use Rattle.std.proofs.Common.{◌≡◌, ℕ, zero, suc, ◌+◌, ◌-◌, ◌*◌, ◌<◌, ◌≤◌, List, [], ◌∷◌, ◌++◌, length, map, drop, take, set, get_or, cond, refl, sym, ap, ◌∙◌, arith, add-one, append_assoc, append-nil, Bool, true, false, Some}
 use Rattle.std.specs.Prelude.{slice_get, slice_index_or}
 use Rattle.std.specs.List.{All, filter, filter_map, cons_option}

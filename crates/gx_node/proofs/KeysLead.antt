@@ -1,4 +1,4 @@
--- Where each key of a tree is a key of its class, what the class says of its keys is so of the tree's.
+-- If each key of a tree is a key of its class, what the class says of its keys holds of the tree's.
 use Rattle.std.proofs.Common.{◌≡◌, ℕ, Bool, true, List, [], ◌∷◌}
 use Rattle.gx_node.specs.Lists.{Each}
 use Rattle.gx_node.specs.Trees.{Pair, Child, Tree, Rules, Used}

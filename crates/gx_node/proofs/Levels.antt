@@ -39,7 +39,7 @@ first_child P [] some e = absurd (omega arith)
 first_child P (c ∷ cs) some e = (c, e.0)
 
 module _ {K : Type 0} (r : Rules K) (t : Tree K) (legal : Legal r t) where
-  -- a page of each level up to that of a page that is taken
+  -- a page of each level up to that of a page in use
   page_of_level : (top : ℕ) → Used t top → (d k : ℕ) → k + d ≡ (t.node top).level → (q : ℕ) × Used t q × ((t.node q).level ≡ k)
   page_of_level top taken zero k e = (top, taken, omega (arith, e))
   page_of_level top taken (suc d) k e =
@@ -86,7 +86,7 @@ module _ {K : Type 0} (r : Rules K) (t : Tree K) (legal : Legal r t) where
       let count : total (λ k. 1) above ≡ above = ones above in
       omega (arith, all, count)
 
-  -- Where the root has two children, two pages stand one level below it, and one at least of each other.
+  -- If the root has two children, two pages are one level below it, and at least one is on each other level.
   pub root_below_used : Used t 1 → 2 ≤ length (t.node 1).children → (t.node 1).level + 2 ≤ t.used
   root_below_used taken two = by (t.node 1).children refl
     where
@@ -143,7 +143,7 @@ module _ {K : Type 0} (r : Rules K) (t : Tree K) (legal : Legal r t) where
           let pick = some_child (ChildFits r t (t.node p).level) q (t.node p).children named (legal.pages p taken).children in
           subst (λ x. suc (t.node x).level ≡ (t.node p).level) pick.2 (pick.1).level
 
-  -- no page stands above the root
+  -- no page is above the root
   below_root : (d q : ℕ) → Used t q → t.used ≤ (t.node q).level + d → (t.node q).level ≤ (t.node 1).level
   below_root zero q u far = let below = level_below_used q u in absurd (omega (arith, below, far))
   below_root (suc d) q u far = elim (cases_eq q 1) [

@@ -15,7 +15,7 @@ mapped_at f [] k d e h = absurd (omega arith)
 mapped_at f (x ∷ xs) zero d e h = refl
 mapped_at f (x ∷ xs) (suc k) d e h = mapped_at f xs k d e (omega arith)
 
--- the node of a page that stands in a list, page 1 first
+-- the node of a page in a list, page 1 first
 pub node_in : {X B : Type 0} (f : X → Node B) (xs : List X) (p : ℕ) (d : X) → 0 < p → p ≤ length xs → f (get_or xs (p - 1) d) ≡ node_at (map f xs) p
 node_in f xs zero d low high = absurd (omega arith)
 node_in f xs (suc p) d low high =
@@ -33,7 +33,7 @@ each_at test [] k d h e = absurd (omega arith)
 each_at test (x ∷ xs) zero d h e = (and_parts (test x) (list_all test xs) e).0
 each_at test (x ∷ xs) (suc k) d h e = each_at test xs k d (omega arith) (and_parts (test x) (list_all test xs) e).1
 
--- where what is read is what stands, a store stays
+-- if what is read is what the store shows, the store doesn't change
 pub same_store : {B : Type 0} (steady : Type 0) (old new : Store B) → Stays steady old new → steady → new ≡ old
 same_store steady old new stays is =
     ap (λ ns. record { nodes = ns; counter = new.counter; room = new.room }) (stays.nodes is)

@@ -128,7 +128,7 @@ module _ {K : Type 0} (wants : Pair K → Bool) (stack : List TraversalItem) (fo
           omega (arith, same, before));
     }
 
--- What leaves alone what is wanted leaves as much of it.
+-- A step that doesn't change the wanted pairs leaves as many of them.
 
 module _ {K : Type 0} (wants : Pair K → Bool) (test : Pair K → Bool) where
   unwanted : (x : Pair K) → wants x ≡ false → one_if (wants x && test x) ≡ 0

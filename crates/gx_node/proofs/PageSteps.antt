@@ -278,7 +278,7 @@ module _ {K : Type 0} (r : Rules K) (row : ℕ) (key : K) (mark : Bool) where
           let here = ap (λ b. one_if (test (if b then record { row = x.row; key = x.key; marked = mark } else x))) other in
           omega (arith, rest, here)
 
-  -- a leaf's pairs are among those that stand
+  -- a leaf's pairs are among the tree's
   leaf_pairs : (t : Tree K) → Legal r t → (a : ℕ) → Used t a → (t.node a).level ≡ 0 → how_many (is_entry r row key) (t.node a).pairs ≤ 1
   leaf_pairs t legal a u leaf =
       let one = legal.single row key in

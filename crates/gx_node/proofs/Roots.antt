@@ -33,7 +33,7 @@ module _ {K : Type 0} (r : Rules K) (old new : Tree K) (sides : List Bool) (left
   pub used_before : (q : ℕ) → Used new q → q ≢ a → q ≢ b → Used old q
   used_before q u na nb = let e = step.used in let h = u.1 in (u.0, omega (arith, e, h, na, nb))
 
-  -- a page that was taken, but for the root, is as it was
+  -- a page that was taken, but for the root, is unchanged
   pub same_node : (q : ℕ) → Used old q → q ≢ 1 → new.node q ≡ old.node q
   same_node q u ne = let h = u.1 in step.others q ne (λ e. (omega (arith, e, h))) (λ e. (omega (arith, e, h)))
 

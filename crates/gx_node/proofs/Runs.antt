@@ -71,7 +71,7 @@ module _ {K : Type 0} (t : Tree K) (seen : ℕ) where
   each_run P always {p = p} (ends u le) = (always p u, tt)
   each_run P always {p = p} (goes u lt rest) = (always p u, each_run P always rest)
 
--- the entries of a page name pages that are taken
+-- the entries of a page name pages in use
 pub each_child_used : {K : Type 0} (r : Rules K) (t : Tree K) → Legal r t → (q : ℕ) → Used t q → Each (λ x. Used t x × (2 ≤ x)) (child_pages (t.node q))
 each_child_used r t legal q u =
     each-map (λ x. Used t x × (2 ≤ x)) (λ c. c.page) (t.node q).children

@@ -91,7 +91,7 @@ module _ {K : Type 0} (r : Rules K) (a row : ℕ) (key : K) where
     pub seek_at_leaf : IsSeek r t a row key → Used t a × ((t.node a).level ≡ 0)
     seek_at_leaf seek = at_leaf_by (walk t t.used a) seek.chain seek.stands
 
-    -- what is sought stands, and no other does
+    -- the tree has the pair that is sought, and no other
     pub sought_stands : Legal r t → IsSeek r t a row key → standing (is_entry r row key) t ≡ 1
     sought_stands legal seek =
         let here = seek_at_leaf seek in

@@ -28,7 +28,7 @@ module _ {X : Type 0} (test : X → Bool) (xs : List X) (d : X) where
       let is : position_or_len test xs ≡ length xs = position_or_len_is test xs (length xs) d (omega arith) fails (λ l. absurd (omega arith)) in
       sym (ap (λ n. cond (nat_lt n (length xs)) (Some n) None) is ∙ ap (λ b. cond b (Some (length xs)) None) (le-ltb (length xs) (length xs) (omega arith)))
 
--- one passes exactly where there is a first
+-- one passes exactly if there is a first
 cases_found : (n m : ℕ) (b : Bool) → nat_lt n m ≡ b → is_some (cond (nat_lt n m) (Some n) None) ≡ b
 cases_found n m true e = ap (λ c. is_some (cond c (Some n) None)) e
 cases_found n m false e = ap (λ c. is_some (cond c (Some n) None)) e
@@ -50,7 +50,7 @@ position_any test xs d = by (nat_lt (position_or_len test xs) (length xs)) refl
         let h = ltb-false (position_or_len test xs) (length xs) e in
         cases_found (position_or_len test xs) (length xs) false e ∙ sym (list_any_none test xs (λ k d' l. fails_before_first test xs k d' (omega arith)))
 
--- the first is there
+-- there is a first
 pub found_at : {X : Type 0} (test : X → Bool) (xs : List X) (slot : ℕ) → Some slot ≡ position test xs → (slot ≡ position_or_len test xs) × (slot < length xs)
 found_at test xs slot e =
     let two = found_there (position_or_len test xs) (length xs) slot (nat_lt (position_or_len test xs) (length xs)) refl e in

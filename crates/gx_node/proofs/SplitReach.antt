@@ -12,7 +12,7 @@ use Rattle.gx_node.proofs.Chains.{one_at, one_off, after, after_at, after_off, s
 use Rattle.gx_node.proofs.Splits.{is_split, is_parent, is_new, is_other, place_of, split_used, split_apart, sum_split, sum_parent, level_same, right_same, used_more, used_new, unnamed}
 use Rattle.gx_node.proofs.Runs.{run_is, length_run, run_once, each_run, each_child_used}
 
--- a sum over pages of which one, that stands there once, has a share more
+-- a sum over pages of which one, that is in the list once, has a share more
 sum_off_each : (f g : ℕ → ℕ) (a : ℕ) (xs : List ℕ) → times a xs ≡ 0 → Each (λ x. x ≢ a → f x ≡ g x) xs → sum_over f xs ≡ sum_over g xs
 sum_off_each f g a [] none same = refl
 sum_off_each f g a (x ∷ xs) none same =

@@ -87,7 +87,7 @@ module _ {K : Type 0} (r : Rules K) (t : Tree K) (legal : Legal r t) (f : ℕ �
         omega (arith, product, away)
   ]
 
-  -- below the root lies each page that is taken, once
+  -- below the root lies each page in use, once
   pub under_root : under t f 1 ≡ total f t.used
   under_root =
       let G : ℕ → ℕ = under t f in
@@ -125,7 +125,7 @@ module _ {K : Type 0} (r : Rules K) (t : Tree K) (legal : Legal r t) (f : ℕ �
           let product = ap (λ z. times x (leaves t) * z) no in
           omega (arith, product, no)
 
--- the pairs that stand lie below the root
+-- the tree's pairs lie below the root
 pub standing_under_root : {K : Type 0} (r : Rules K) (t : Tree K) → Legal r t → (test : Pair K → Bool)
     → under t (λ q. how_many test (t.node q).pairs) 1 ≡ standing test t
 standing_under_root {K} r t legal test =

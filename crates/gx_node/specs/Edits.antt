@@ -1,4 +1,4 @@
--- What an edit leaves of a node: its page's number, level, sequence number and rightlink are as they were.
+-- What an edit leaves of a node: its page's number, level, sequence number and rightlink are unchanged.
 use Rattle.std.specs.Prelude.{Bool, List}
 use Rattle.gx_node.specs.Trees.{Pair, Child, Node}
 use Rattle.gx_node.specs.Steps.{node_with}

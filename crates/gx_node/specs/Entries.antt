@@ -22,7 +22,7 @@ pub record IsPair {B : Type 0} (IsKey : B → Type 0) (p : Pair B) : Type 0 wher
   pub key : IsKey p.key
   pub row : p.row < 2 ^ 64
 
--- a child that can be written, where `used` is the greatest page taken
+-- a child that can be written, where `used` is the greatest page in use
 pub record IsChild {B : Type 0} (IsKey : B → Type 0) (used : ℕ) (c : Child B) : Type 0 where
   pub key : IsKey c.key
   pub some : 1 ≤ c.page

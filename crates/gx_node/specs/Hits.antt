@@ -23,7 +23,7 @@ abbrev pub BlocksAreAFilter : Type 0 → Type 0
 BlocksAreAFilter X = (test : X → Bool) (xs : List X) (from : ℕ) → from ≤ length xs
     → filter test (take (from + BLOCK) xs) ≡ filter test (take from xs) ++ passing_of test xs from
 
--- the first penalty is less: it grows less, or as much from a smaller bound
+-- the first penalty is less: its bound grows less, or the same from a smaller bound
 abbrev pub costs_less : ℕ × ℕ → ℕ × ℕ → Bool
 costs_less a b = nat_lt a.0 b.0 || ((a.0 == b.0) && nat_lt a.1 b.1)
 

@@ -15,7 +15,7 @@ pub record ChildFits {K : Type 0} (r : Rules K) (t : Tree K) (above : ℕ) (c : 
   pub level : suc (t.node c.page).level ≡ above
   pub bounds : Bounds r c.key (t.node c.page)
 
--- what holds of each page that is taken
+-- what holds of each page in use
 pub record NodeFits {K : Type 0} (r : Rules K) (t : Tree K) (node : Node K) : Type 0 where
   pub room : size node ≤ r.most
   pub leaf : node.level ≡ 0 → node.children ≡ []
@@ -37,7 +37,7 @@ pub record Legal {K : Type 0} (r : Rules K) (t : Tree K) : Type 0 where
   -- the chain from page 2 is all leaves, each once
   pub chain : Linked t 2 (leaves t)
   pub once : (q : ℕ) → Used t q → (t.node q).level ≡ 0 → times q (leaves t) ≡ 1
-  -- no pair is there twice
+  -- no pair is in two places
   pub single : (row : ℕ) (key : K) → standing (is_entry r row key) t ≤ 1
   -- each split took a page
   pub counter : t.counter + 2 ≤ t.used

@@ -1,4 +1,4 @@
--- A look at work: a search, or a write that looks whether its pair is there.
+-- A look at work: a search, or a write that looks whether the tree has its pair.
 use Rattle.std.specs.Prelude.{ℕ, ◌≡◌, ◌+◌, ◌≤◌, Bool, true, ◌&&◌, if◌then◌else◌, nat_lt, List, [], ◌∷◌, ◌++◌, map, filter}
 use Rattle.gx_node.specs.Lists.{Each, how_many}
 use Rattle.gx_node.specs.Trees.{Pair, Child, Tree, Rules, Used, standing}
@@ -9,8 +9,8 @@ pub record ItemFits {K : Type 0} (t : Tree K) (item : TraversalItem) : Type 0 wh
   pub seen : item.seen ≤ t.counter
   pub run : Run t item.seen item.page (run t t.used item.seen item.page)
 
--- Of the wanted pairs some are found: for any test, as many of those found and of those ahead pass it as of those that
--- stand in the tree. And no page is ahead twice.
+-- Some of the wanted pairs are found: for any test, as many of those found and those ahead pass it as of those in the
+-- tree. And no page is ahead twice.
 pub record IsLook {K : Type 0} (t : Tree K) (wants : Pair K → Bool) (stack : List TraversalItem) (found : List (Pair K)) : Type 0 where
   pub items : Each (ItemFits t) stack
   pub complete : (test : Pair K → Bool) → how_many test found + pairs_ahead t (λ x. wants x && test x) stack
@@ -37,7 +37,7 @@ stacked t leads item stack = beyond_of t item ++ (below_of t leads (t.node item.
 abbrev pub found_with : {K : Type 0} → Tree K → (Pair K → Bool) → TraversalItem → List (Pair K) → List (Pair K)
 found_with t wants item found = found ++ filter wants (t.node item.page).pairs
 
--- an entry of the tree whose key covers something wanted that stands in it leads to it
+-- an entry of the tree whose key covers something wanted in the tree leads to it
 abbrev pub LeadsTo : {K : Type 0} → Rules K → Tree K → (Pair K → Bool) → (K → Bool) → Type 0
 LeadsTo {K} r t wants leads = (p : ℕ) → Used t p
     → Each (λ c. (q : ℕ) → Used t q → Each (λ x. wants x ≡ true → r.covers c.key x.key ≡ true → leads c.key ≡ true) (t.node q).pairs)

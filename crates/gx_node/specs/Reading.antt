@@ -42,7 +42,7 @@ is_pair f item = (length item == leaf_size f) && (has_key f item && nat_lt (slic
 abbrev pub pair_of : {B : Type 0} → Format B → List ℕ → Pair B
 pair_of f item = record { row = number_64_at item f.key; key = key_of f item; marked = slice_index item (f.key + 8) == 1 }
 
--- the item is an inner node's entry, where `used` is the greatest page taken
+-- the item is an inner node's entry, where `used` is the greatest page in use
 abbrev pub is_child : {B : Type 0} → Format B → ℕ → List ℕ → Bool
 is_child f used item = (length item == inner_size f) && (has_key f item && (nat_le 1 (number_32_at item f.key) && nat_le (number_32_at item f.key) used))
 

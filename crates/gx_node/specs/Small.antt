@@ -1,5 +1,5 @@
--- What a small change makes of a page: which pages it fits, and the items that are there then. An item is its bytes, as
--- a page has it, and keys and rows are sought by their bytes.
+-- What a small change makes of a page: which pages it fits, and the items that the page has then. An item is its bytes
+-- in the page, and keys and rows are sought by their bytes.
 use Rattle.std.specs.Prelude.{ℕ, ◌+◌, ◌==◌, ◌&&◌, Bool, true, false, not, nat_lt, List, [], ◌∷◌, ◌++◌, length, take, drop, replicate, slice_index, slice_index_or, slice_set, is_some, bytes_eq}
 use Rattle.std.specs.List.{list_all, list_any, position_or_len}
 use Rattle.gx_page.specs.Bytes.{spell_64, number_16, number_64_at}

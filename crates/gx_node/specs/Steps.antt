@@ -1,4 +1,4 @@
--- What each step does to a tree: the pages that it changes, all others being as they were.
+-- What each step does to a tree: the pages that it changes; no other changes.
 use Rattle.std.specs.Prelude.{ℕ, suc, ◌≡◌, ◌≢◌, ◌<◌, Bool, true, false, not, ◌||◌, ◌==◌, if◌then◌else◌, List, [], ◌∷◌, ◌++◌, map, filter}
 use Rattle.gx_node.specs.Lists.{Each, staying, going}
 use Rattle.gx_node.specs.Trees.{Pair, Child, Node, Tree, Rules, Used, size, times, child_pages, standing, is_entry}
@@ -43,7 +43,7 @@ pub record IsSplit {K : Type 0} (r : Rules K) (old new : Tree K) (n p : ℕ) (si
   pub right_union : IsUnion r right (new.node (suc old.used))
 
 -- the root's entries move by sides to two new pages of its level, linked to one another; the root rises by a level and
--- names the two; the counter is as it was
+-- names the two; the counter is unchanged
 pub record IsRootSplit {K : Type 0} (r : Rules K) (old new : Tree K) (sides : List Bool) (left right : K) : Type 0 where
   pub used : new.used ≡ suc (suc old.used)
   pub counter : new.counter ≡ old.counter
@@ -62,8 +62,8 @@ pub record IsRootSplit {K : Type 0} (r : Rules K) (old new : Tree K) (sides : Li
   pub left_union : IsUnion r left (new.node (suc old.used))
   pub right_union : IsUnion r right (new.node (suc (suc old.used)))
 
--- one page that is taken gets this node, which has the level, the number and the rightlink of its old one; no page is
--- taken, and the counter is as it was
+-- one page in use gets this node, which has the level, the number and the rightlink of its old one; no page is taken,
+-- and the counter is unchanged
 pub record ChangesOnly {K : Type 0} (old new : Tree K) (a : ℕ) (pairs : List (Pair K)) (children : List (Child K)) : Type 0 where
   pub there : Used old a
   pub used : new.used ≡ old.used

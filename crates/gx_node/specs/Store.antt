@@ -4,8 +4,8 @@ use Rattle.gx_page.specs.Contents.{Contents}
 use Rattle.gx_node.specs.Reading.{Format, leaf_of, inner_of}
 use Rattle.gx_node.specs.Trees.{Node, Tree}
 
--- what the steps see of pages: the node of each page that is taken, page 1 first; the counter of splits; and how many
--- pages there are, taken or not
+-- what the steps see of pages: the node of each page in use, page 1 first; the counter of splits; and how many pages
+-- there are, taken or not
 pub record Store (B : Type 0) : Type 0 where
   pub nodes : List (Node B)
   pub counter : ℕ

@@ -21,7 +21,7 @@ pub record Node (K : Type 0) : Type 0 where
   pub pairs : List (Pair K)
   pub children : List (Child K)
 
--- a tree: each page's node, the greatest page taken, and the counter of splits; page 1 is the root
+-- a tree: each page's node, the greatest page in use, and the counter of splits; page 1 is the root
 pub record Tree (K : Type 0) : Type 0 where
   pub node : ℕ → Node K
   pub used : ℕ
@@ -41,7 +41,7 @@ pub record IsLawful {K : Type 0} (r : Rules K) : Type 0 where
   pub itself : (a : K) → r.same a a ≡ true
   pub two : 2 ≤ r.most
 
--- a page that is taken
+-- a page in use
 abbrev pub Used : {K : Type 0} → Tree K → ℕ → Type 0
 Used t p = (0 < p) × (p ≤ t.used)
 

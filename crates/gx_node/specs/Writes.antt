@@ -1,4 +1,4 @@
--- A write at work: a descent to the leaf for a pair, and the way to a pair that is there.
+-- A write at work: a descent to the leaf for a pair, and the way to a pair of the tree.
 use Rattle.std.specs.Prelude.{ℕ, suc, ◌+◌, ◌-◌, ◌*◌, ◌<◌, ◌≤◌, Bool, not, ◌&&◌, ◌||◌, ◌==◌, nat_lt, if◌then◌else◌, length}
 use Rattle.gx_node.specs.Trees.{Pair, Tree, Rules, Used, size, times, child_pages, walk, passing, standing, is_entry}
 use Rattle.gx_node.specs.Legal.{Linked}

@@ -1,4 +1,4 @@
-//! What the steps that write ask of the store of pages.
+//! The store's calls for the steps that write.
 ghost use Rattle.std.specs.Prelude.{◌≡◌, ◌≤◌, ◌<◌, ◌+◌, ◌-◌, ◌^◌, suc, ℕ, true, [], ◌∷◌, length, IfErr, OnOk};
 ghost use Rattle.gx_node.specs.Reading.{format_of, is_node};
 ghost use Rattle.gx_node.specs.Lists.{Each};
@@ -10,15 +10,15 @@ use crate::pages::Pages;
 use gx_class::KeyClass;
 use gx_page::Page;
 
-/// A change of a node, made where it lies on its page.
+/// A change of a node, made in place on its page.
 pub trait Edit<K: KeyClass> {
     /// The nodes on which it can be made, where there are so many pages.
     ghost fits: { Self → ℕ → Node K.Key → Type 0 };
 
-    /// What may become of a node.
+    /// The nodes that the change may lead to.
     ghost edits: { Self → Node K.Key → Node K.Key → Type 0 };
 
-    /// Makes the change on a page that is a node, where `_room` is how many pages there are.
+    /// Makes the change on a page that is a node; `_room` is how many pages there are.
     fn apply(self, page: &mut Page, _room: u32)
         requires passes { is_node (format_of K.KeyClass) _room page.old ≡ true }
         requires fits { fits self _room (node_of (format_of K.KeyClass) page.old) }
@@ -28,17 +28,18 @@ pub trait Edit<K: KeyClass> {
             (node_of (format_of K.KeyClass) page.new) };
 }
 
-/// Pages that can be changed. A step first makes ready for all its changes, which may fail; from then on none fails.
+/// Pages that can be changed. A step first prepares all its changes, which may fail; from then on none fails.
 pub trait PagesMut<K: KeyClass>: Pages<K> {
     /// How many pages can be taken.
     ghost ready: { Self → ℕ };
 
-    /// Whether a page may be changed: a step has made ready for it.
+    /// Whether a page may be changed: a step has prepared it.
     ghost changing: { Self → ℕ → Type 0 };
 
-    /// Makes ready to change these pages, which are held, and to take so many: whatever that needs is had from here on,
-    /// or the step is refused here, before it has changed anything. A step takes two pages at most. On a device that
-    /// lies too no node is shown otherwise: a page that is let go for this has the node that was last shown of it.
+    /// Prepares to change these pages, which are held, and to take so many new ones: from here on nothing of that can
+    /// fail, or the step is refused here, before it has changed anything. A step takes two pages at most. Even on a
+    /// device that isn't honest no node is shown otherwise: a page that is evicted for this has the node that was last
+    /// shown of it.
     fn prepare(&mut self, changes: &[u32], taken: u32) -> Result<(), Self::Fault>
         requires held { Each (Self.held self.old) changes.now }
         requires few { taken ≤ 2 }
@@ -54,7 +55,7 @@ pub trait PagesMut<K: KeyClass>: Pages<K> {
         ensures later { OnOk result (IsWhyLater Self.why self.old self.new) }
         ensures told { CountsFaults Self.fails (Self.faults self.old) (Self.faults self.new) result };
 
-    /// Changes a page that is held and made ready, and no other, on a device that lies too.
+    /// Changes a held and prepared page, and no other, even on a device that isn't honest.
     fn change<E: Edit<K>>(&mut self, page: u32, edit: E)
         requires held { Self.held self.old page }
         requires changing { changing self.old page }
@@ -72,7 +73,7 @@ pub trait PagesMut<K: KeyClass>: Pages<K> {
         ensures told { Self.faults self.new ≡ Self.faults self.old };
 
     /// Takes the next page: a copy of one that is held, except for the page's own number. It is held and may be
-    /// changed. No other page changes, also on a device that lies.
+    /// changed. No other page changes, even on a device that isn't honest.
     fn take(&mut self, from: u32)
         requires held { Self.held self.old from }
         requires ready { 0 < ready self.old }

@@ -23,7 +23,7 @@ pub(crate) fn are_pairs<K: KeyClass>(page: &Page) -> bool
     true
 }
 
-/// Whether each item is an inner node's entry, where `used` is the greatest page taken.
+/// Whether each item is an inner node's entry, where `used` is the greatest page in use.
 #[tactic(auto, using(crate::proofs::Slots::all_are_children))]
 pub(crate) fn are_children<K: KeyClass>(page: &Page, used: u32) -> bool
     ensures well_formed { IsWellFormed page.now }
@@ -37,9 +37,9 @@ pub(crate) fn are_children<K: KeyClass>(page: &Page, used: u32) -> bool
     true
 }
 
-/// Whether the page holds a node of the class, where `used` is the greatest page taken: each item of a leaf is a key, a
-/// row and a mark, and each item of a page of another level is a key and a page from 1 to `used`. A page for which this
-/// is false is damaged.
+/// Whether the page holds a node of the class, where `used` is the greatest page in use: each item of a leaf is a key,
+/// a row and a mark, and each item of a page of another level is a key and a page from 1 to `used`. A page for which
+/// this is false is damaged.
 pub fn is_node<K: KeyClass>(page: &Page, used: u32) -> bool
     ensures test { result ≡ is_node (format_of K.KeyClass) used page.now }
     ensures exact { IsTrue result ↔ ((node : Node K.Key) × HoldsNode K.is_key K.spelling used page.now node) }

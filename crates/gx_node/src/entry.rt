@@ -48,7 +48,7 @@ pub(crate) fn is_pair<K: KeyClass>(item: &[u8]) -> bool
     read_key::<K>(key).is_some() && tail[8] < 2
 }
 
-/// Whether the bytes are an inner node's entry, where `used` is the greatest page taken.
+/// Whether the bytes are an inner node's entry, where `used` is the greatest page in use.
 pub(crate) fn is_child<K: KeyClass>(item: &[u8], used: u32) -> bool
     ensures { result ≡ is_child (format_of K.KeyClass) used item.now }
 {

@@ -4,8 +4,8 @@ use std::alloc::AllocError;
 /// Why a step of the tree wasn't made that takes neither memory nor pages.
 #[derive(Clone, Copy, Debug, PartialEq, Eq)]
 pub enum StepFault<F> {
-    /// What is on the pages isn't a tree: a page is named that isn't taken, or has another level.
-    /// It never is so in a legal tree.
+    /// The pages aren't a tree: one names a page that isn't in use, or that has another level. This never happens in a
+    /// legal tree.
     Damaged,
     /// A page could not be brought, or what a change needs could not be had.
     Pages(F),

@@ -37,7 +37,7 @@ impl<'a, K: KeyClass> Model for Inner<'a, K> {
 }
 
 impl<'a, K: KeyClass> Inner<'a, K> {
-    /// The inner node on a page that is known to be one, where `used` is the greatest page taken. That number isn't
+    /// The inner node on a page that is known to be one, where `used` is the greatest page in use. That number isn't
     /// read: it says which test the page passed.
     #[tactic(auto, using(crate::proofs::Slots::inner_is_keyed))]
     pub fn of(page: &'a Page, _used: u32) -> Self
@@ -50,8 +50,8 @@ impl<'a, K: KeyClass> Inner<'a, K> {
         }
     }
 
-    /// The inner node on a page, which is tested here, where `used` is the greatest page taken.
-    /// `Damaged` where the page isn't one.
+    /// The inner node on a page, which is tested here, where `used` is the greatest page in use. `Damaged` if the page
+    /// isn't one.
     pub fn read(page: &'a Page, used: u32) -> Result<Self, Refusal>
         ensures exact { IsOk result ↔ (is_inner (format_of K.KeyClass) used page.now ≡ true) }
         ensures inner { IfOk result (λ inner. inner ≡ inner_of (format_of K.KeyClass) page.now) }

@@ -1,5 +1,5 @@
 //! Edits of an inner node in place. None takes memory, and each leaves an inner node of the same page number, level,
-//! sequence number and rightlink. The greatest page taken, `used`, isn't read: it says which test the page passed.
+//! sequence number and rightlink. The greatest page in use, `used`, isn't read: it says which test the page passed.
 ghost use Rattle.std.specs.Prelude.{◌≡◌, ◌<◌, ◌≤◌, ◌∷◌, ◌++◌, [], true, length, Some, slice_get, slice_set};
 ghost use Rattle.gx_node.specs.Lists.{staying};
 ghost use Rattle.gx_node.specs.Trees.{Child};

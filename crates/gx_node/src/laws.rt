@@ -10,13 +10,13 @@ ghost use Rattle.gx_node.specs.Laws.{BlanksAreNodes, NodesFollowLinks, MoreAreTa
 
 use gx_class::KeyClass;
 
-/// A page is a leaf exactly where it has pairs, which are those that are read, and no others.
+/// A page is a leaf exactly if it has pairs, which are those that are read, and no others.
 pub fn leaves<K: KeyClass>()
     ensures hold { LeavesHold K.is_key K.spelling (format_of K.KeyClass) }
     ensures read { HeldPairsAreRead K.is_key K.spelling (format_of K.KeyClass) }
 {}
 
-/// A page is an inner node exactly where it has children, which are those that are read, and no others.
+/// A page is an inner node exactly if it has children, which are those that are read, and no others.
 pub fn inners<K: KeyClass>()
     ensures hold { InnersHold K.is_key K.spelling (format_of K.KeyClass) }
     ensures read { HeldChildrenAreRead K.is_key K.spelling (format_of K.KeyClass) }
@@ -27,7 +27,7 @@ pub fn blanks<K: KeyClass>()
     ensures { BlanksAreNodes (format_of K.KeyClass) }
 {}
 
-/// Where a page's sequence number, rightlink or own number is set, it is the same node with these.
+/// If a page's sequence number, rightlink or own number is set, it is the same node with these.
 pub fn links<K: KeyClass>()
     ensures { NodesFollowLinks (format_of K.KeyClass) }
 {}
@@ -37,7 +37,7 @@ pub fn more_taken<K: KeyClass>()
     ensures { MoreAreTaken (format_of K.KeyClass) }
 {}
 
-/// A mark set by slot, or a bound, is the tree's step where the slot's entry is the only one of its kind in the node.
+/// A mark set by slot, or a bound, is the tree's step if the slot's entry is the only one of its kind in the node.
 pub fn one_changed<K: KeyClass>()
     ensures mark { OneMark K.Key }
     ensures bound { OneBound K.Key }
@@ -79,8 +79,8 @@ pub fn small_bounds<K: KeyClass>()
     ensures { BoundsMean (format_of K.KeyClass) }
 {}
 
-/// Slots fit the leaves in which each has a marked pair, and these pairs go. Nothing else of the leaf changes.
-/// Where the slots are those of the pairs that pass a test, the others stay.
+/// Slots fit the leaves in which each has a marked pair, and these pairs go. Nothing else of the leaf changes. If the
+/// slots are those of the pairs that pass a test, the others stay.
 pub fn small_removals<K: KeyClass>()
     ensures removed { RemovalsMean (format_of K.KeyClass) }
     ensures filter { RemovalsAreAFilter (Pair K.Key) }

@@ -49,7 +49,7 @@ impl<'a, K: KeyClass> Leaf<'a, K> {
         }
     }
 
-    /// The leaf on a page, which is tested here. `Damaged` where the page isn't one.
+    /// The leaf on a page, which is tested here. `Damaged` if the page isn't one.
     pub fn read(page: &'a Page) -> Result<Self, Refusal>
         ensures exact { IsOk result ↔ (is_leaf (format_of K.KeyClass) page.now ≡ true) }
         ensures leaf { IfOk result (λ leaf. leaf ≡ leaf_of (format_of K.KeyClass) page.now) }

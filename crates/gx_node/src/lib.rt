@@ -1,8 +1,9 @@
 //! The laws of the tree; its nodes, read and written in place on their pages, and the scan of their keys; and what the
 //! steps of the tree ask of the store of its pages.
 //!
-//! What a tree of pages is, when it is legal, what each step changes, and what a search or a write that is at work may
-//! rely on while others work, functions with empty bodies say, whose contracts are the laws (`tree_laws`, `alike`).
+//! The laws say what a tree of pages is, when it is legal, what each step changes, and what a search or a write that is
+//! at work may rely on while others work. They are functions with empty bodies, whose contracts are the laws
+//! (`tree_laws`, `alike`).
 #![tactic(auto)]
 
 pub mod alike;

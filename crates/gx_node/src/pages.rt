@@ -1,4 +1,4 @@
-//! What the steps ask of the store of pages.
+//! The store's calls for the steps that read.
 ghost use Rattle.std.specs.Prelude.{◌≡◌, ◌≤◌, ℕ, true, List, [], ◌∷◌, length, IfErr, OnOk};
 ghost use Rattle.gx_node.specs.Reading.{format_of, is_node};
 ghost use Rattle.gx_node.specs.Lists.{Each};
@@ -12,11 +12,10 @@ use gx_page::Page;
 /// The pages of a tree. A step first brings the pages that it uses, which may fail; from then on they are held, and
 /// reading them doesn't fail. Each page that is lent is a node of the class and has its own number.
 pub trait Pages<K: KeyClass> {
-    /// Why pages could not be brought.
+    /// Why the store refused pages.
     type Fault;
 
-    /// The nodes of all pages that are taken, as each was last shown, the counter of splits,
-    /// and how many pages there are.
+    /// The nodes of all pages in use, as each was last shown, the counter of splits, and how many pages there are.
     ghost store: { Self → Store K.Key };
 
     /// Whether a page is held.
@@ -25,11 +24,11 @@ pub trait Pages<K: KeyClass> {
     /// Reading a page gives what the store shows of it, so that bringing it changes nothing.
     ghost steady: { Self → Type 0 };
 
-    /// What became of a page, and of all that is no page, since a moment. A step keeps it for each page that it doesn't
-    /// change, so the layer above learns what a step left alone.
+    /// What happened to a page, and to everything that isn't a page, since a moment. A step keeps it for each page that
+    /// it doesn't change, so the layer above knows what a step didn't change.
     ghost since: { Self → Self → ℕ → Type 0 };
 
-    /// What was asked since a moment, the last first.
+    /// The calls since a moment, the last first.
     ghost asked: { Self → Self → List Asking → Type 0 };
 
     /// Why pages were refused between two moments.
@@ -38,14 +37,14 @@ pub trait Pages<K: KeyClass> {
     /// How many calls have failed that read or write pages.
     ghost faults: { Self → ℕ };
 
-    /// How many calls failed where pages are refused so.
+    /// How many calls have failed if pages are refused so.
     ghost fails: { Self.Fault → ℕ };
 
-    /// The greatest page that is taken.
+    /// The greatest page in use.
     fn used(&self) -> u32
         ensures { result ≡ length (store self.now).nodes };
 
-    /// How many pages there are, taken or not.
+    /// How many pages there are, in use or not.
     fn room(&self) -> u32
         ensures { result ≡ (store self.now).room };
 
@@ -53,8 +52,8 @@ pub trait Pages<K: KeyClass> {
     fn counter(&self) -> u64
         ensures { result ≡ (store self.now).counter };
 
-    /// Holds these pages, four at most, and lets go what was held. On a device that lies this call, and no other, may
-    /// show other nodes than before, of as many pages.
+    /// Holds these pages, four at most, and releases those that were held. On a device that isn't honest this call, and
+    /// no other, may show other nodes than before, of as many pages.
     fn bring(&mut self, pages: &[u32]) -> Result<(), Self::Fault>
         requires few { length pages.now ≤ 4 }
         requires used { Each (Used (tree_of (store self.old))) pages.now }
@@ -67,13 +66,13 @@ pub trait Pages<K: KeyClass> {
         ensures later { OnOk result (IsWhyLater why self.old self.new) }
         ensures told { CountsFaults fails (faults self.old) (faults self.new) result };
 
-    /// A page that is held.
+    /// Lends a held page.
     fn page(&self, page: u32) -> &Page
         requires { held self.now page }
         ensures number { result.now.number ≡ page }
         ensures node { node_of (format_of K.KeyClass) result.now ≡ node_at (store self.now).nodes page }
         ensures passes { is_node (format_of K.KeyClass) (store self.now).room result.now ≡ true };
 
-    /// Between a moment and itself nothing was asked.
+    /// Between a moment and itself there was no call.
     ghost asked_nothing: { (a : Self) → asked a a [] };
 }

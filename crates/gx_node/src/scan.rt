@@ -85,7 +85,7 @@ pub(crate) fn passing<K: Probing>(
     Passing::of(slots, found)
 }
 
-/// Whether a penalty is less than another: the bound grows less, or as much and is smaller.
+/// Whether a penalty is less than another: the bound grows less, or it grows the same and is smaller.
 pub(crate) fn costs_less(a: (u128, u128), b: (u128, u128)) -> bool
     ensures { result ≡ costs_less a b }
 {

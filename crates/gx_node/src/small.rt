@@ -51,7 +51,7 @@ fn slot_of<K: KeyClass>(page: &Page, row: u64, key: &[u8]) -> Option<usize>
 }
 
 /// Sets or clears the mark of a leaf's pair, of which the key's bytes are given: of the first, should there be several.
-/// False, and the page stays as it was, where the page is no leaf of the class or doesn't have the pair.
+/// Returns false, and leaves the page unchanged, if the page is no leaf of the class or doesn't have the pair.
 pub fn mark_pair<K: KeyClass>(page: &mut Page, row: u64, key: &[u8], marked: bool) -> bool
     ensures fits { result ≡ mark_fits (format_of K.KeyClass) row key.now page.old }
     ensures made { OnTrue result (page.new ≡ with_items page.old
@@ -68,9 +68,9 @@ pub fn mark_pair<K: KeyClass>(page: &mut Page, row: u64, key: &[u8], marked: boo
     true
 }
 
-/// Puts a live pair behind the last of a leaf that has fewer than `most` and doesn't have this one.
-/// False, and the page stays as it was, where the page is no leaf of the class, has `most` pairs or has the pair, live
-/// or marked, or where the bytes spell no key of the class.
+/// Puts a live pair behind the last of a leaf that has fewer than `most` and doesn't have this one. Returns false, and
+/// leaves the page unchanged, if the page is no leaf of the class, has `most` pairs or has the pair, live or marked, or
+/// if the bytes spell no key of the class.
 pub fn add_pair<K: KeyClass>(page: &mut Page, most: usize, row: u64, key: &[u8]) -> bool
     requires { most ≤ MAX_ENTRIES }
     ensures fits { result ≡ pair_fits (format_of K.KeyClass) most row key.now page.old }
@@ -127,9 +127,9 @@ fn write_bound<K: KeyClass>(key: &[u8], item: &[u8], out: &mut [u8])
     tail.copy_from_slice(item.split_at(K::KEY).1);
 }
 
-/// Puts a key's bytes in the place of the key of a slot's bound. The slot names the page that it named.
-/// False, and the page stays as it was, where the page is of level 0, has an item that is no bound of the class or
-/// doesn't have the slot, or where the bytes spell no key of the class. Which pages the bounds name isn't tested.
+/// Puts a key's bytes in the place of the key of a slot's bound. The slot names the page that it named. Returns false,
+/// and leaves the page unchanged, if the page is of level 0, has an item that is no bound of the class or doesn't have
+/// the slot, or if the bytes spell no key of the class. Which pages the bounds name isn't tested.
 pub fn set_key<K: KeyClass>(page: &mut Page, slot: usize, key: &[u8]) -> bool
     ensures fits { result ≡ bound_fits (format_of K.KeyClass) slot key.now page.old }
     ensures made { OnTrue result (page.new ≡ with_items page.old
@@ -179,7 +179,7 @@ fn set_sides(slots: &[u8], sides: &mut [bool])
     }
 }
 
-/// Takes the items of the slots that the bytes spell out of a page.
+/// Removes from a page the items of the slots that the bytes spell.
 fn take_out(page: &mut Page, slots: &[u8])
     ensures { page.new ≡ with_items page.old (slots_made (slots_in slots.now) page.old.items) }
 {
@@ -189,10 +189,10 @@ fn take_out(page: &mut Page, slots: &[u8])
     keep_staying(page, &sides[..count]);
 }
 
-/// Takes the pairs in some slots out of a leaf. The slots are spelled in two bytes each, the greater first, and a last
-/// byte alone isn't read. Each is the slot that a pair has before any goes, so their order makes no difference.
-/// False, and the page stays as it was, where the page is no leaf of the class, doesn't have one of the slots, or has
-/// a live pair in one.
+/// Removes the pairs in some slots from a leaf. The slots are spelled in two bytes each, the greater first, and a last
+/// byte alone isn't read. Each is the slot that a pair has before any goes, so their order makes no difference. Returns
+/// false, and leaves the page unchanged, if the page is no leaf of the class, doesn't have one of the slots, or has a
+/// live pair in one.
 pub fn remove_slots<K: KeyClass>(page: &mut Page, slots: &[u8]) -> bool
     ensures fits { result ≡ slots_fit (format_of K.KeyClass) (slots_in slots.now) page.old }
     ensures made { OnTrue result (page.new ≡ with_items page.old (slots_made (slots_in slots.now) page.old.items)) }

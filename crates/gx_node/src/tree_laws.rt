@@ -1,4 +1,4 @@
-//! What holds of every tree, whatever steps are made.
+//! Laws of every tree, whatever steps are made.
 ghost use Rattle.std.specs.Prelude.{◌≡◌, ◌≢◌, ◌≤◌, ◌<◌, ◌+◌, ◌^◌, ◌++◌, ◌∷◌, []};
 ghost use Rattle.std.specs.Prelude.{ℕ, suc, Bool, true, not, ◌&&◌, List, flat_map};
 ghost use Rattle.gx_node.specs.Lists.{one_if, how_many, Each, SomeOf};
@@ -18,7 +18,7 @@ pub fn fresh_tree_is_legal<K>()
     ensures empty { (start : K) (test : Pair K → Bool) → standing test (fresh_tree start) ≡ 0 }
 {}
 
-/// The pairs that stand are those of the leaves on the chain, in order.
+/// The tree's pairs are those of the leaves on the chain, in order.
 pub fn standing_pairs_are_those_of_the_chain<K>()
     ensures { (t : Tree K) (test : Pair K → Bool)
         → standing test t ≡ how_many test (flat_map (λ q. (t.node q).pairs) (leaves t)) }
@@ -98,8 +98,8 @@ pub fn sweep_takes_unclaimed_marked_pairs<K>()
         + how_many (λ x. test x && (x.marked && not (claimed x))) (old.node a).pairs ≡ standing test old }
 {}
 
-/// A look that begins with the root misses nothing: all that is wanted lies ahead, and no page lies ahead twice. As
-/// many pages lie ahead as are taken.
+/// A look that begins with the root misses nothing: all wanted pairs lie ahead, and no page lies ahead twice. All pages
+/// in use lie ahead.
 pub fn look_begins_with_the_root<K>()
     ensures look { (r : Rules K) (t : Tree K) → Legal r t → (wants : Pair K → Bool)
         → IsLook t wants (from_root t ∷ []) [] }
@@ -126,8 +126,8 @@ pub fn look_goes_on<K>()
         → IsLook t wants (item ∷ stack) found → Used t item.page }
 {}
 
-/// A look with nothing stacked has found exactly the wanted pairs that stand: for any test, as many of its pairs pass
-/// it as of those. So it found each pair once.
+/// A look with nothing stacked has found exactly the tree's wanted pairs: for any test, as many of its pairs pass it as
+/// of those. So it found each pair once.
 pub fn look_ends_with_all_that_is_wanted<K>()
     ensures all { (t : Tree K) (wants : Pair K → Bool) (found : List (Pair K)) → IsLook t wants [] found
         → (test : Pair K → Bool) → how_many test found ≡ standing (λ x. wants x && test x) t }
@@ -136,7 +136,7 @@ pub fn look_ends_with_all_that_is_wanted<K>()
         → (row : ℕ) (key : K) → how_many (is_entry r row key) found ≤ 1 }
 {}
 
-/// While a look is at work, each wanted pair that stands and isn't found is in the reach of an item of its stack: in a
+/// While a look is at work, each wanted pair of the tree that isn't found is in the reach of an item of its stack: in a
 /// leaf under a page that is near the item (Lehman, Yao 1981; Kornacker, Mohan, Hellerstein 1997).
 pub fn what_is_not_found_is_in_reach<K>()
     ensures { (t : Tree K) (wants test : Pair K → Bool) (stack : List TraversalItem) (found : List (Pair K))
@@ -160,9 +160,9 @@ pub fn steps_of_others_keep_what_is_at_work<K>()
 {}
 
 /// While a search runs, rightlinks go on, those of inner nodes too: a page that was split since it began has a
-/// rightlink to a taken page of its own level, which isn't the root, and the root itself is no such page. That holds at
-/// the beginning, where no number is above the counter, and steps of others, in any order and number, keep it (Lehman,
-/// Yao 1981).
+/// rightlink to a page in use of its own level, which isn't the root, and the root itself is no such page. That holds
+/// at the beginning, where no number is above the counter, and steps of others, in any order and number, keep it
+/// (Lehman, Yao 1981).
 pub fn rightlinks_go_on<K>()
     ensures begins { (r : Rules K) (t : Tree K) → Legal r t → GoesOn t t.counter }
     ensures one { (r : Rules K) → IsLawful r → (floor : ℕ) (old new : Tree K) (step : Step K)
@@ -185,10 +185,10 @@ pub fn descent_goes_down<K>()
 {}
 
 /// A descent that runs alone ends: each of its steps but the last lowers what it has left, which is below 2^40. It
-/// begins again where its page was split since, and where it would split its page and the page that it came from no
-/// longer names it or is full; it goes down from a page that isn't full, where the child's entry covers the key or is
-/// widened for it; at a full leaf it sweeps what it can; else it splits and begins again. A split takes a page that
-/// isn't taken yet, of the `room` pages of the device.
+/// begins again if its page was split since, and if it would split its page but the page that it came from no longer
+/// names it or is full; it goes down from a page that isn't full, once the child's entry covers the key or is widened
+/// for it; at a full leaf it sweeps what it can; else it splits and begins again. A split takes a free page, of the
+/// `room` pages of the device.
 pub fn descent_comes_to_an_end<K>()
     ensures restarts { (r : Rules K) (room : ℕ) (claimed : Pair K → Bool) (t : Tree K) → Legal r t
         → (parent : ℕ) (item : TraversalItem) → must_restart r t parent item ≡ true
@@ -231,8 +231,8 @@ pub fn descent_comes_to_an_end<K>()
         → descent_left r t room claimed parent item < 2 ^ 40 }
 {}
 
-/// A seek begins with a leaf that has the pair. It is always at a leaf; where that doesn't have the pair, it goes on
-/// with the leaf's rightlink, and has fewer leaves left. It never has more of them left than pages are in use.
+/// A seek begins with a leaf that has the pair. It is always at a leaf; if that doesn't have the pair, it goes on with
+/// the leaf's rightlink, and has fewer leaves left. It never has more of them left than pages are in use.
 pub fn seek_goes_right<K>()
     ensures begins { (r : Rules K) (a row : ℕ) (key : K) (t : Tree K) → Legal r t → Used t a → (t.node a).level ≡ 0
         → 0 < how_many (is_entry r row key) (t.node a).pairs → IsSeek r t a row key }

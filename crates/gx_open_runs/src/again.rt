@@ -1,4 +1,4 @@
-//! A device is opened again behind a crash, and what it has is compared.
+//! Opens a device again after a crash, and compares what it has.
 ghost use Rattle.std.specs.Prelude.{◌≡◌, ◌%◌, length, IfOk};
 
 use crate::fault::RunFault;
@@ -29,7 +29,8 @@ pub(crate) fn copy_of(alloc: Global, disk: &mut MemDisk) -> Result<MemDisk, RunF
     }
 }
 
-/// Opens a device. It is to have the set of its number, which is one from the first to the last. Returns the number.
+/// Opens a device, which must have the set of its number, and the number must be from the first to the last. Returns
+/// the number.
 pub(crate) fn stands(
     alloc: Global,
     disk: MemDisk,

@@ -1,7 +1,7 @@
-//! Scripts on a device in memory that fails at one of its calls. It is then opened again, and is to have the set and
-//! the number of as many commits as the plain index has behind one of the script's, none before the last that was
-//! acknowledged. Up to the call that fails the script is answered as by the plain index; that call's failure is
-//! reported once, and all that is asked behind it is refused.
+//! Runs scripts on a device in memory that fails at one of its calls. The device is then opened again, and must have
+//! the set and the number that the plain index has after one of the script's commits, not before the last that was
+//! acknowledged. Up to the call that fails the script gets the replies of the plain index; that call's failure is
+//! reported once, and each later call is refused.
 //!
 //! A line of `stdin` that begins with a digit is one of the script. `new` begins another script. The others make runs:
 //!

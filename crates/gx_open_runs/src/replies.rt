@@ -33,7 +33,7 @@ pub(crate) fn replies_of(alloc: Global, script: &[u8]) -> Result<Vec<Vec<u8>>, R
     Ok(all)
 }
 
-// What follows a front of a text. `None` where that isn't its front.
+// What follows a front of a text. `None` if that isn't its front.
 fn behind<'a>(text: &'a [u8], front: &[u8]) -> Option<&'a [u8]> {
     if text.starts_with(front) {
         text.get(front.len()..)

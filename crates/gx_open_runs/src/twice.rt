@@ -101,8 +101,8 @@ fn stop_second(
     Ok(())
 }
 
-/// Runs a script to its end, and then the opening of what it left stops at each write and sync, and the next opening at
-/// each of its own.
+/// Runs a script to its end; then the opening of the device that it left stops at each write and sync, and the next
+/// opening at each of its own.
 pub(crate) fn stop_twice(alloc: Global, setting: Setting<'_>) -> Result<Twice, RunFault> {
     let Setting { frames, script, .. } = setting;
     let ran = run_whole(alloc, new_device(alloc)?, frames, script, true)?;

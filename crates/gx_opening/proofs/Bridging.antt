@@ -29,7 +29,7 @@ use Rattle.gx_node.proofs.AlikeTrees.{agree_back, legal_too, seek_too}
 use Rattle.gx_opening.specs.Sound.{AllInPlace, AreSound, CanAllBeRead, IsShownSound, IsSoundStore, IsSteadyStore, AreClean, Tells, shown_tree, tree_read}
 use Rattle.gx_opening.proofs.Sounding.{tells_so}
 
--- a page that isn't kept stands as the device has it
+-- a page that isn't kept is as the device has it
 stands_read : (frames : Frames) (seen : List ℕ) (page : ℕ) → kept frames page ≡ None → standing frames seen page ≡ read_of (bytes_of seen page)
 unfolding standing
 stands_read frames seen page none = rw none refl

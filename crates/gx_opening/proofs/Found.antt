@@ -84,7 +84,7 @@ module _ {E P : Type 0} (k : Known E P) (l : IsLawful k) (r : Reading E P) (read
   placed_too (x ∷ touched) all = (reads.placed as_read as_told agree x.entry x.leaf all.0, placed_too touched all.1)
 
   module _ (fits : (page : ℕ) (bytes : List ℕ) → IsPassing passes page bytes → r.fits page (r.content bytes)) (sound : AreSound k r passes log.analysis.told e.seen) where
-    -- a page in use can be read as it is after the log
+    -- a page in use can be read as the log leaves it
     page_fits : (page : ℕ) → 1 ≤ page → page ≤ as_told.used → r.fits page (as_told.page page)
     page_fits page low high =
         let in_use : page ≤ log.analysis.told.used = (let same = agree.used in omega (arith, high, same)) in

@@ -1,4 +1,4 @@
--- In which order what stands on a device was found: a sync, what is laid, and reads.
+-- In which order the index on a device was found: a sync, what is laid, and reads.
 use Rattle.std.proofs.Common.{◌≡◌, ◌∙◌, inl, inr, ℕ, ◌+◌, ◌≤◌, Bool, true, List, Result, Ok, Err, sym, subst}
 use Rattle.std.specs.Prelude.{IfErr}
 use Rattle.gx_disk.specs.Device.{Device, MayLeave}

@@ -1,4 +1,4 @@
--- What an undamaged log tells of touches: no two are of one entry.
+-- No two touches in an undamaged log are of one entry.
 use Rattle.std.proofs.Common.{◌≡◌, ℕ, zero, suc, ◌<◌, ◌==◌, Bool, true, List, [], ◌∷◌, Some, refl, ap, subst, arith}
 use Rattle.std.specs.Prelude.{slice_get, ◌&&◌, ◌||◌}
 use Rattle.std.specs.Ordering.{is_eq}

@@ -23,7 +23,7 @@ use Rattle.gx_legality.specs.declared.fault.LegalityFault.TheVariants as fault
 use Rattle.gx_legality.specs.declared.notes.NotedPair.{NotedPair}
 use Rattle.gx_legality.proofs.Slots.{each_slot, slot_of, some_against}
 use Rattle.gx_store.specs.Faults as faults
-use Rattle.gx_store.specs.Faults.{CanBeRead, is_taken}
+use Rattle.gx_store.specs.Faults.{CanBeRead}
 use Rattle.gx_store.specs.Since.{IsSince}
 use Rattle.gx_store.specs.Standing.{standing_node, store_of}
 use Rattle.gx_store.specs.State.{IsHeld, IsInOrder, IsSteady, Shelf}
@@ -147,7 +147,7 @@ module _ {B D : Type 0} (f : Format B) (passes : ℕ → Contents → Bool) (sta
   never_sound r touched cmp notes s so illegal page rule (inl broken) sound = illegal page rule broken sound.shown.legal
   never_sound r touched cmp notes s so illegal page rule (inr out) sound = one_out_of_place r (shown_tree f passes state s) cmp touched notes so page rule out.1 sound.shown.placed
 
--- what is said of one thing is said of another that holds just where it does
+-- what is said of one thing is said of another that holds exactly if it does
 pub tells_so : {T : Type 0} (P Q : Type 0) (result : Result T Refusal) → (P → Q) → (Q → P) → Tells {T = T} P result → Tells {T = T} Q result
 tells_so P Q (Ok done) there back told = there told
 tells_so P Q (Err why) there back told = λ is q. told is (back q)

@@ -1,4 +1,4 @@
--- Sectors that calls on a settled device don't write.
+-- Sectors that calls on a synced device don't write.
 use Rattle.std.proofs.Common.{◌≡◌, ◌∙◌, ℕ, List, length, refl, ap}
 use Rattle.gx_disk.specs.Device.{Device, Elapses, IsSettled, MayLeave, Rests}
 use Rattle.gx_disk.specs.Looks.{Looks}

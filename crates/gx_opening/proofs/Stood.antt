@@ -1,4 +1,4 @@
--- An index that stands on a device, from its calls.
+-- An index that was found on a device, from its calls.
 use Rattle.std.proofs.Common.{◌≡◌, inl, inr, ℕ, Bool, true, List, Result, Ok, Err, ◌≤◌, refl, sym, subst, ap, ◌∙◌, ⊎_elim, arith}
 use Rattle.gx_disk.specs.declared.layout.TheConstants.{MIN_SECTORS}
 use Rattle.gx_disk.specs.Device.{Device, MayLeave, Rests, SamePending}
@@ -187,7 +187,7 @@ module _ {B : Type 0} (shape : Members B) (is_key : B → Bool) (said : List ℕ
       stays = subst (λ (x : List ℕ). StaysBehind known_there reading_there a.seen x laid.is.log.bodies) (sym rests.seen) laid.stays;
     }
 
-    -- the log that is found there tells the same
+    -- the log that is found there gives the same
     same_told : (found : FoundLog (Entry B)) → IsFound known_there reading_there c.seen found → found.analysis.told ≡ s.log.analysis.told
     same_told found is =
         let bytes : open_bodies c.seen ≡ open_bodies a.seen = laid_read.same.bodies in

@@ -1,4 +1,4 @@
--- What is told of damage, step by step.
+-- How damage is reported, step by step.
 use Rattle.std.proofs.Common.{◌≡◌, ◌⊎◌, inl, inr, ℕ, ◌<◌, ◌≤◌, Bool, List, [], ◌∷◌, Option, Some, None, Result, Ok, Err, length, refl, sym, subst, ⊎_elim, arith}
 use Rattle.std.specs.declared.cmp.Ordering.{Ordering}
 use Rattle.gx_disk.specs.Device.{Device}
@@ -85,7 +85,7 @@ module _ {B D : Type 0} (f : Format B) (passes : ℕ → Contents → Bool) (sta
   fault_told (fault.Broken page rule) noted told found steady can = one_broken r (shown_tree f passes state old) cmp touched (length touched) page rule notes noted found
   fault_told fault.Unsteady noted told found steady can = absurd found
 
--- that a call failed is told only where one did
+-- a failed call is reported only if one failed
 module _ {D : Type 0} (passes : ℕ → Contents → Bool) (state : D → Device) (old new : Shelf D) where
   pub fault_failed : (why : LegalityFault StoreFault) → IsWhyBehind old new (faults.IsWhy passes (state old.disk) (state new.disk) old new) why → tree_told_of why ≡ Err refusal.Device
       → (state old.disk).faults < (state new.disk).faults
@@ -139,7 +139,7 @@ module _ {B : Type 0} (shape : Members B) (is_key : B → Bool) (said : List ℕ
   index_by (Unreadable page) seen found shows = (found, shows)
   index_by (Broken page rule) seen found shows = (found, shows)
 
-  -- what an undamaged log tells is of others
+  -- the touches of an undamaged log are of different entries
   pub found_of_others : IsLawful k → (seen : List ℕ) (found : FoundLog (Entry B)) → IsFound k r seen found → AreOfOthers k.cmp found.analysis.told.touched
   found_of_others lawful seen found is =
       subst (λ (x : Analysis (Entry B)). AreOfOthers k.cmp x.touched) (sym is.kept.told) (log_of_others k lawful is.log.bodies is.log.undamaged)

@@ -44,12 +44,13 @@ AreRead image (Err NotFormatted) = HasMagic image → ⊥
 AreRead image (Err Device) = Unit {0}
 AreRead image (Err refusal) = ⊥
 
--- no call has failed where a result is well, and else as many as its refusal says
+-- no call has failed if the result is Ok, and else as many as its refusal says
 abbrev pub FaultsAre : {T : Type 0} → (before now : ℕ) → Result T Refusal → Type 0
 FaultsAre before now (Ok x) = now ≡ before
 FaultsAre before now (Err why) = now ≡ before + refusal_fails why
 
--- The device has as many sectors and is as honest, and no write is made: so many syncs at most. A call that failed is told.
+-- The device has as many sectors and is as honest, and no write is made: so many syncs at most. A call that failed is
+-- reported.
 pub record Counted {T : Type 0} (syncs : ℕ) (old new : disk.Device) (result : Result T Refusal) : Type 0 where
   pub sectors : new.sectors ≡ old.sectors
   pub honest : new.honest ≡ old.honest

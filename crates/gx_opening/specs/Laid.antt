@@ -57,7 +57,7 @@ module _ {E P : Type 0} (k : Known E P) (r : Reading E P) where
   abbrev pub IsSpared : List ℕ → ℕ → Type 0
   IsSpared seen s = (log : HasUndamaged k r seen) → IsUngiven (records_of log.bodies) s
 
-  -- What finding and laying the log leaves of a settled device, also where it is refused.
+  -- What finding and laying the log leaves of a synced device, also where it is refused.
   pub record LaysLog (d e : Device) (result : Result (FoundLog E) Refusal) : Type 0 where
     pub leaves : Leaves (IsKeptOrFound d) d e
     pub spares : Spares (IsSpared d.seen) d e

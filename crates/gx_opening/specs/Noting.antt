@@ -47,7 +47,7 @@ module _ {E : Type 0} (cmp : E → E → Ordering) where
     pub there : slice_get touched at ≡ Some touch
     pub same : x ≡ note_of touch
 
-  -- The first n touches are noted, each of them and nothing else; and in order, exactly where no two are of one entry.
+  -- The first n touches are noted, each of them and nothing else; and in order, exactly if no two are of one entry.
   pub record AreNoted (touched : List (Touch E)) (n : ℕ) (notes : List (NotedPair E)) : Type 0 where
     pub all : (i : ℕ) (t : Touch E) → i < n → slice_get touched i ≡ Some t → SomeOf (λ x. x ≡ note_of t) notes
     pub only : Each (IsOfOne touched n) notes

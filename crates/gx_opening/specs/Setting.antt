@@ -25,14 +25,14 @@ abbrev pub IsSoundStoreAs : {C B D : Type 0} → Members B → Ghosts C B → (D
 IsSoundStoreAs shape class state most touched s =
     IsSoundStore (format_of class) (is_node (format_of class)) state (rules_of shape most) touched s
 
--- what comes of a test of the tree that a store shows, whose pages can be read
+-- the outcome of a test of the tree that a store shows, whose pages can be read
 abbrev pub TreeFindsAs : {C B D : Type 0} → Members B → Ghosts C B → (D → Device) → ℕ → List (Touch (Entry B)) → Shelf D → Result (Option Damage) Refusal → Type 0
 TreeFindsAs shape class state most touched s result =
     IsSteadyStore (format_of class) (is_node (format_of class)) state s → CanAllBeRead (is_node (format_of class) s.pages) s.used (state s.disk).seen
     → Finds (IsShownSound (rules_of shape most) touched (shown_tree (format_of class) (is_node (format_of class)) state s))
     (TreeShows (format_of class) (rules_of shape most) touched (state s.disk).seen s) IsLack result
 
--- what may be told of the pages of a device that reads so
+-- what may be reported of the pages of a device that reads so
 abbrev pub PagesShowAs : {C B : Type 0} → Type 0 → Members B → Ghosts C B → ℕ → ℕ → Analysis (Entry B) → List ℕ → Damage → Type 0
 PagesShowAs D shape class pages most told seen damage =
     PagesShow D (format_of class) (is_node (format_of class) pages) (rules_of shape most) pages told seen damage
@@ -42,12 +42,12 @@ module _ {B : Type 0} (shape : Members B) (traits : Traits B) where
   abbrev pub AreSoundAs : Limits → ℕ → Analysis (Entry B) → List ℕ → Type 0
   AreSoundAs l pages told seen = AreSound (known_at shape traits.is_proper l) (reading_by traits.said (own traits)) (is_node (format_of (own traits)) pages) told seen
 
-  -- what comes of examining the pages of a device that reads so, by what its log tells
+  -- the outcome of examining the pages of a device that reads so, by what its log gives
   abbrev pub PagesFindAs : Type 0 → Limits → ℕ → ℕ → Analysis (Entry B) → List ℕ → Result (Option Damage) Refusal → Type 0
   PagesFindAs D l pages most told seen result =
       Finds (AreSoundAs l pages told seen) (PagesShowAs D shape (own traits) pages most told seen) (λ why. IsLack why × (told.used ≤ pages)) result
 
-  -- what comes of examining a device that is formatted for an index of the class, and any device
+  -- the outcome of examining a device that is formatted for an index of the class, and any device
   abbrev pub IndexFindsAs : Type 0 → Parameters → List ℕ → Result (Option Damage) Refusal → Type 0
   IndexFindsAs D parameters seen result = IndexFinds shape traits.is_proper traits.said (format_of (own traits)) D parameters seen result
 
@@ -67,7 +67,7 @@ module _ {B : Type 0} (shape : Members B) (traits : Traits B) where
   abbrev pub SoundIsGoodAs : {D : Type 0} → (D → Device) → Parameters → Type 0
   SoundIsGoodAs state p = SoundIsGood shape traits.is_proper traits.said (format_of (own traits)) state p
 
-  -- a device is formatted for an index of the class; an index stands on it; one refused as damaged is left so
+  -- a device is formatted for an index of the class; it has a sound index; one refused as damaged is left so
   abbrev pub IsFormattedAs : Device → Parameters → Type 0
   IsFormattedAs d p = IsFormatted shape traits.is_proper traits.said (format_of (own traits)) traits.CLASS d p
 
@@ -90,7 +90,7 @@ module _ {B D : Type 0} (shape : Members B) (traits : Traits B) (state : D → D
   abbrev pub LeavesDamagedAs : D → Result (Standing B) Refusal → Type 0
   LeavesDamagedAs new result = IfErr result (LeavesDamaged shape traits.is_proper traits.said (format_of (own traits)) traits.CLASS (state new))
 
-  -- what stands is laid, and its pages are sound
+  -- the index that was found is laid, and its pages are sound
   abbrev pub IsStoodAs : D → D → Result (Standing B) Refusal → Type 0
   IsStoodAs old new result = IsStood shape traits.is_proper traits.said (format_of (own traits)) traits.CLASS (state old) (state new) result
 

@@ -1,4 +1,4 @@
--- That what is told of damage is true of a device's bytes.
+-- That what is reported of damage is true of a device's bytes.
 use Rattle.std.specs.Prelude.{◌≡◌, ◌⊎◌, ℕ, ◌<◌, ◌≤◌, Bool, Option, Some, None, List, Result, Ok, Err}
 use Rattle.gx_geom.specs.declared.refusal.Refusal.{Refusal}
 use Rattle.gx_geom.specs.declared.refusal.Refusal.TheVariants as refusal
@@ -37,7 +37,8 @@ use Rattle.gx_node.specs.Writes.{IsSeek}
 use Rattle.gx_opening.specs.declared.damage.Damage.{Damage}
 use Rattle.gx_opening.specs.declared.damage.Damage.TheVariants.{Log, TooManyPages, Unreadable, Broken}
 
--- What an examination comes to: nothing is damaged, which says this; or that is; or it ends before it knows, for this.
+-- How an examination ends: nothing is damaged, and this holds; or that is damaged; or it ends before it knows, for this
+-- reason.
 abbrev pub Finds : (sound : Type 0) → (Damage → Type 0) → (Refusal → Type 0) → Result (Option Damage) Refusal → Type 0
 Finds sound shows Lacks (Ok None) = sound
 Finds sound shows Lacks (Ok (Some damage)) = shows damage
@@ -47,7 +48,7 @@ Finds sound shows Lacks (Err why) = Lacks why
 abbrev pub IsLack : Refusal → Type 0
 IsLack why = (why ≡ refusal.Device) ⊎ (why ≡ refusal.Memory)
 
--- what is told of a log that isn't read back
+-- what is reported of a log that isn't read back
 abbrev pub log_told_of : LogFault → Result (Option Damage) Refusal
 log_told_of Memory = Err refusal.Memory
 log_told_of Device = Err refusal.Device
@@ -73,20 +74,20 @@ IsLeftOut r touched t page = SomeOf (λ x. (x.leaf ≡ page) × ¬ IsSeek r t x.
 abbrev pub IsBroken : {B : Type 0} → Rules B → List (Touch (Entry B)) → Tree B → ℕ → Rule → Type 0
 IsBroken r touched t page rule = Breaks r t page rule ⊎ (Legal r t × ((rule ≡ PairOutOfPlace) × IsLeftOut r touched t page))
 
--- what a test of a store's tree may tell
+-- what a test of a store's tree may report
 abbrev pub TreeShows : {B D : Type 0} → Format B → Rules B → List (Touch (Entry B)) → List ℕ → Shelf D → Damage → Type 0
 TreeShows f r touched seen s (Broken page rule) = IsBroken r touched (tree_of (store_of f seen s)) page rule
 TreeShows f r touched seen s damage = ⊥
 
--- A store of so many pages, none of them in a frame, with the numbers that a log tells.
+-- A store of so many pages, none of them in a frame, with the numbers that a log gives.
 pub record Starts {B D : Type 0} (pages : ℕ) (told : Analysis (Entry B)) (s : Shelf D) : Type 0 where
   pub pages_are : s.pages ≡ pages
   pub used : s.used ≡ told.used
   pub counter : s.counter ≡ told.counter
   pub none : (page : ℕ) → kept s.frames page ≡ None
 
--- What may be told of the pages of a device that reads so, by what its log tells, and in this order: that more are in use than there are, that
--- one in use can't be read, or that one breaks a rule in the tree of them.
+-- What may be reported of the pages of a device that reads so, by what its log gives, and in this order: more are in
+-- use than the device has, one in use can't be read, or one breaks a rule in the tree of them.
 abbrev pub PagesShow : {B : Type 0} → (D : Type 0) → Format B → (Contents → Bool) → Rules B → ℕ → Analysis (Entry B) → List ℕ → Damage → Type 0
 PagesShow D f passes r pages told seen (Log damage) = ⊥
 PagesShow D f passes r pages told seen (TooManyPages used) = (used ≡ told.used) × (pages < used)
@@ -95,29 +96,29 @@ PagesShow D f passes r pages told seen (Broken page rule) =
     (told.used ≤ pages) × (CanAllBeRead passes told.used seen × ((s : Shelf D) × Starts pages told s × IsBroken r told.touched (tree_of (store_of f seen s)) page rule))
 
 module _ {B : Type 0} (shape : Members B) (is_key : B → Bool) (said : List ℕ → B) (f : Format B) where
-  -- what may be told of the pages of a device that is formatted for this and whose log is found
+  -- what may be reported of the pages of a device that is formatted for this and whose log is found
   abbrev pub FoundShows : (D : Type 0) → Parameters → List ℕ → Damage → FoundLog (Entry B) → Type 0
   FoundShows D p seen damage found =
       IsFound (known_for shape is_key said f p) (reading shape is_key said f) seen found × PagesShow D f (is_node f p.pages) (rules_of shape p.most) p.pages found.analysis.told seen damage
 
-  -- what may be told of a device that is formatted for this
+  -- what may be reported of a device that is formatted for this
   abbrev pub IndexShows : (D : Type 0) → Parameters → List ℕ → Damage → Type 0
   IndexShows D p seen (Log damage) = LogShows (known_for shape is_key said f p) (reading shape is_key said f) seen (Damaged damage)
   IndexShows D p seen damage = (found : FoundLog (Entry B)) × FoundShows D p seen damage found
 
-  -- The log of a device that is formatted for this is found, and its pages are sound by what that tells.
+  -- The log of a device that is formatted for this is found, and its pages are sound by what that gives.
   pub record IsSoundIndex (p : Parameters) (seen : List ℕ) : Type 0 where
     pub found : FoundLog (Entry B)
     pub is : IsFound (known_for shape is_key said f p) (reading shape is_key said f) seen found
     pub sound : AreSound (known_for shape is_key said f p) (reading shape is_key said f) (is_node f p.pages) found.analysis.told seen
 
-  -- Its log is found, and no more pages are in use than there are.
+  -- Its log is found, and no more pages are in use than the device has.
   pub record HasFittingLog (p : Parameters) (seen : List ℕ) : Type 0 where
     pub found : FoundLog (Entry B)
     pub is : IsFound (known_for shape is_key said f p) (reading shape is_key said f) seen found
     pub fits : found.analysis.told.used ≤ p.pages
 
-  -- what comes of examining it; memory is refused behind its log alone
+  -- the outcome of examining it; memory is refused behind its log alone
   abbrev pub IndexFinds : (D : Type 0) → Parameters → List ℕ → Result (Option Damage) Refusal → Type 0
   IndexFinds D p seen result =
       Finds (IsSoundIndex p seen) (IndexShows D p seen) (λ why. (why ≡ refusal.Device) ⊎ ((why ≡ refusal.Memory) × HasFittingLog p seen)) result
@@ -145,7 +146,7 @@ module _ {B : Type 0} (shape : Members B) (is_key : B → Bool) (said : List ℕ
   abbrev pub IsUnexamined : (class : ℕ) (same : Type 0) → disk.Device → Refusal → Type 0
   IsUnexamined class same d why = MaySettle class d.sectors d.seen (Err why) ⊎ ((why ≡ refusal.Memory) × (same ⊎ HoldsLog class d))
 
-  -- what comes of examining a device
+  -- the outcome of examining a device
   abbrev pub Examines : (D : Type 0) (class : ℕ) (same : Type 0) → disk.Device → Result (Option Damage) Refusal → Type 0
   Examines D class same d result = Finds (HoldsSound class d) (Shows D class d) (IsUnexamined class same d) result
 
@@ -159,7 +160,7 @@ module _ {B : Type 0} (shape : Members B) (is_key : B → Bool) (said : List ℕ
   abbrev pub LeavesDamaged : (class : ℕ) → disk.Device → Refusal → Type 0
   LeavesDamaged class d why = why ≡ refusal.Damaged → HoldsDamaged class d
 
-  -- what comes of examining it then: damage, unless a call failed, or memory was refused as said
+  -- the outcome of examining it then: damage, unless a call failed, or memory was refused as said
   abbrev pub FindsDamage : (D : Type 0) (class : ℕ) (same : Type 0) → disk.Device → Result (Option Damage) Refusal → Type 0
   FindsDamage D class same d result =
       Finds ⊥ (Shows D class d) (λ why. (why ≡ refusal.Device) ⊎ ((why ≡ refusal.Memory) × (same ⊎ HoldsLog class d))) result

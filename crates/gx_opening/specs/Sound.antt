@@ -38,12 +38,12 @@ CanAllBeRead passes used seen = (page : ℕ) → 1 ≤ page → page ≤ used �
 abbrev pub AreClean : Frames → Type 0
 AreClean frames = (page : ℕ) → stamp_of (kept frames page) ≡ None
 
--- what a test says of itself where it passes, and what it isn't refused as damaged for
+-- a test that passes shows that this holds; one that is refused as damaged shows that it doesn't
 abbrev pub Tells : {T : Type 0} → (holds : Type 0) → Result T Refusal → Type 0
 Tells holds (Ok done) = holds
 Tells holds (Err why) = why ≡ Damaged → holds → ⊥
 
--- why what stands on a device may be refused: a call failed, memory was refused, or it is damaged
+-- why the index on a device may be refused: a call failed, memory was refused, or it is damaged
 abbrev pub IsCause : Refusal → Type 0
 IsCause why = (why ≡ DeviceFailed) ⊎ ((why ≡ Memory) ⊎ (why ≡ Damaged))
 
@@ -51,14 +51,14 @@ IsCause why = (why ≡ DeviceFailed) ⊎ ((why ≡ Memory) ⊎ (why ≡ Damaged)
 abbrev pub IsFaultOrDamage : Refusal → Type 0
 IsFaultOrDamage why = (why ≡ DeviceFailed) ⊎ (why ≡ Damaged)
 
--- what a store's refusal is told as
+-- a store's refusal as a test's fault
 abbrev pub store_refusal_of : StoreFault → Refusal
 store_refusal_of store_fault.Device = DeviceFailed
 store_refusal_of store_fault.Damaged = Damaged
 store_refusal_of store_fault.NoRoom = Memory
 store_refusal_of (store_fault.TooFewFrames n) = Memory
 
--- what a refused test of pages is told as: want of memory as nothing else, and a broken tree as damage
+-- an opening's refusal by that of its test of pages: a lack of memory is `Memory` alone, a broken tree is damage
 abbrev pub refusal_of : LegalityFault StoreFault → Refusal
 refusal_of fault.Memory = Memory
 refusal_of (fault.Pages refusal) = store_refusal_of refusal
@@ -109,7 +109,7 @@ module _ {B D : Type 0} (f : Format B) (passes : ℕ → Contents → Bool) (sta
     pub shown : IsShownSound r touched (shown_tree s)
 
 module _ {E P : Type 0} (k : Known E P) (r : Reading E P) (passes : Contents → Bool) where
-  -- the tree that the pages are, with the numbers that were told
+  -- the tree of the pages, with the numbers that were given
   abbrev pub tree_read : Analysis E → List ℕ → Tree P
   tree_read a seen = record { page = area_of r k.pages seen; counter = a.counter; used = a.used }
 

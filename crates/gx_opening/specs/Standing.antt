@@ -1,4 +1,4 @@
--- What stands on a device: an index that it is formatted for, its log, and pages that are good for it.
+-- The index on a device: its parameters, its log, and pages that are good for the log.
 use Rattle.std.specs.Prelude.{◌≡◌, ◌⊎◌, ℕ, ◌≤◌, Bool, List, Result, Ok, Err}
 use Rattle.gx_geom.specs.declared.refusal.Refusal.{Refusal}
 use Rattle.gx_geom.specs.declared.refusal.Refusal.TheVariants.{Damaged, Memory}
@@ -38,7 +38,8 @@ told_with (Err why) x = Err why
 abbrev pub limits_of : Parameters → Limits
 limits_of p = record { most = p.most; pages = p.pages; head = head_of p }
 
--- An engine may start with these numbers: the log has a body and no more than an extent has, and no more pages are in use than there are.
+-- An engine may start with these numbers: the log has a body and no more than an extent has, and no more pages are in
+-- use than the device has.
 pub record MayStart {B : Type 0} (s : Standing B) : Type 0 where
   pub some : 1 ≤ s.log.bodies
   pub few : s.log.bodies ≤ PLACES
@@ -56,7 +57,7 @@ module _ {B : Type 0} (shape : Members B) (is_key : B → Bool) (said : List ℕ
   abbrev pub StaysSafe : Device → Device → Type 0
   StaysSafe d e = (p : Parameters) → Says d.seen p → Leaves (IsKeptOrFound (known_for p) reading d) d e
 
-  -- So it is; and of the sectors of the device, which was settled, only those of pages that its log gives are written.
+  -- This holds; and of the sectors of the device, which was synced, only those of pages that its log gives are written.
   pub record LaysSafely (d e : Device) : Type 0 where
     pub safe : StaysSafe d e
     pub spares : (p : Parameters) → Says d.seen p → Spares (IsSpared (known_for p) reading d.seen) d e
@@ -98,7 +99,8 @@ module _ {B : Type 0} (shape : Members B) (is_key : B → Bool) (said : List ℕ
   IsStood class d e (Ok s) = IsFormatted class d s.parameters × IsLaid (known_for s.parameters) reading d.seen e s.log
   IsStood class d e (Err why) = MaySettle class d.sectors d.seen (Err why) ⊎ IsUnlaid class d why
 
-  -- Its log is laid, and its pages weren't found sound: a call failed; memory was refused, and no more are in use than there are; or they aren't.
+  -- Its log is laid, and its pages weren't found sound: a call failed; memory was refused, and no more are in use than
+  -- the device has; or they aren't sound.
   pub record IsUnsound (class : ℕ) (d e : Device) (why : Refusal) : Type 0 where
     pub parameters : Parameters
     pub formatted : IsFormatted class d parameters
@@ -108,13 +110,14 @@ module _ {B : Type 0} (shape : Members B) (is_key : B → Bool) (said : List ℕ
     pub fits : why ≡ Memory → log.analysis.told.used ≤ parameters.pages
     pub unsound : why ≡ Damaged → AreSound (known_for parameters) reading (is_node f parameters.pages) log.analysis.told e.seen → ⊥
 
-  -- An index stands on a device: it is formatted for it, its log is laid, and its pages are sound.
+  -- A device has an index: it is formatted for it, its log is laid, and its pages are sound.
   pub record Stands (class : ℕ) (d e : Device) (s : Standing B) : Type 0 where
     pub formatted : IsFormatted class d s.parameters
     pub laid : IsLaid (known_for s.parameters) reading d.seen e s.log
     pub sound : AreSound (known_for s.parameters) reading (is_node f s.parameters.pages) s.log.analysis.told e.seen
 
-  -- So it was found; or it wasn't, by the first test that wasn't passed; or memory was refused before any call, and the device is the same.
+  -- The index was found so; or it wasn't, by the first test that failed; or memory was refused before any call, and the
+  -- device is the same.
   abbrev pub IsTested : (class : ℕ) (same : Type 0) → Device → Device → Result (Standing B) Refusal → Type 0
   IsTested class same d e (Ok s) = Stands class d e s
   IsTested class same d e (Err why) =

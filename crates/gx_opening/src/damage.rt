@@ -1,4 +1,4 @@
-//! What is damaged on a device whose opening was refused: where it is, and which rule is broken there.
+//! What is damaged on a device whose opening was refused: the place, and the rule that is broken there.
 mod device;
 mod pages;
 
@@ -14,7 +14,7 @@ pub enum Damage {
     Log(LogDamage),
     /// Its log counts so many pages in use, which are more than there are.
     TooManyPages(u32),
-    /// This page: what stands there is no page of its number, or no node of the class.
+    /// This page: its place doesn't hold a page of its number, or a node of the class.
     Unreadable(u32),
     /// This page, which doesn't keep this rule of a legal tree.
     Broken(u32, Rule),
@@ -26,7 +26,7 @@ impl fmt::Display for Damage {
 
     ghost output = { λ damage. Some (damage_text damage) };
 
-    /// A line for a person, without its end.
+    /// A line for the user, without its end.
     fn fmt<W: fmt::Write>(&self, f: &mut fmt::Formatter<W>) -> fmt::Result {
         match self {
             Damage::Log(damage) => write!(f, "{damage}"),

@@ -1,4 +1,4 @@
-//! A device is settled, and read for what it is formatted for.
+//! Syncs a device, and reads what it is formatted for.
 ghost use Rattle.std.specs.Prelude.{◌≡◌, ◌⊎◌, ◌↔◌, ◌+◌, ◌<◌, ◌≤◌, true, take, IfOk, IfErr, IsTrue, OnOk, Err};
 ghost use Rattle.gx_disk.specs.Device.{Counts, Syncs};
 ghost use Rattle.gx_disk.specs.Looks.{Looks};
@@ -12,7 +12,7 @@ use gx_format::{MAGIC, is_in_range, sectors_for};
 use gx_geom::Refusal;
 use gx_glog::{PARAMETERS, Parameters};
 
-// Settles what was written.
+// Makes all writes durable.
 fn settle<D: SectorDisk>(disk: &mut D) -> Result<(), Refusal>
     ensures counts { Counts 1 (D.state disk.old) (D.state disk.new) result }
     ensures syncs { (D.state disk.old).honest ≡ true → Syncs (D.state disk.old) (D.state disk.new) result }
@@ -43,9 +43,9 @@ fn has_magic(sector: &[u8; SECTOR_SIZE]) -> bool
     sector[..8] == MAGIC[..]
 }
 
-/// Reads what a device says that it is formatted for, and tests none of it. No write and no sync is made.
+/// Reads what a device says that it is formatted for, without a test of that. It makes no write and no sync.
 ///
-/// Refused where a read fails (`Device`), and where its first eight bytes aren't the magic (`NotFormatted`).
+/// Refused if a read fails (`Device`), and if the first eight bytes aren't the magic (`NotFormatted`).
 pub fn told_parameters<D: SectorDisk>(disk: &mut D) -> Result<Parameters, Refusal>
     requires { MIN_SECTORS ≤ (D.state disk.old).sectors }
     ensures counted { Counted 0 (D.state disk.old) (D.state disk.new) result }
@@ -61,7 +61,7 @@ pub fn told_parameters<D: SectorDisk>(disk: &mut D) -> Result<Parameters, Refusa
     Ok(Parameters::decode(&second))
 }
 
-// Tests that an index of a class may be so on a device of so many sectors.
+// Tests that an index of a class may have these parameters on a device of so many sectors.
 fn test_parameters(parameters: &Parameters, class: u16, sectors: u64) -> Result<(), Refusal>
     ensures ok { IfOk result (λ _. IsAllowed class parameters.now × IsLarge sectors parameters.now) }
     ensures err { IfErr result (WhyNotAllowed class sectors parameters.now) }
@@ -75,8 +75,8 @@ fn test_parameters(parameters: &Parameters, class: u16, sectors: u64) -> Result<
     Ok(())
 }
 
-/// Reads what a device is formatted for that has the sectors of the smallest index, as [`formatted_for`], and doesn't
-/// settle it: no write and no sync is made.
+/// Reads what a device with the sectors of the smallest index is formatted for, as [`formatted_for`] does, but without
+/// a sync.
 pub fn read_parameters<D: SectorDisk, K: KeyClass>(disk: &mut D) -> Result<Parameters, Refusal>
     requires { MIN_SECTORS ≤ (D.state disk.old).sectors }
     ensures counted { Counted 0 (D.state disk.old) (D.state disk.new) result }
@@ -91,8 +91,8 @@ pub fn read_parameters<D: SectorDisk, K: KeyClass>(disk: &mut D) -> Result<Param
     Ok(parameters)
 }
 
-/// Settles a device that has the sectors of the smallest index, and reads what it is formatted for, as
-/// [`formatted_for`].
+/// Syncs a device that has the sectors of the smallest index, and reads what it is formatted for, as [`formatted_for`]
+/// does.
 pub(crate) fn formatted_behind<D: SectorDisk, K: KeyClass>(
     disk: &mut D,
 ) -> Result<Parameters, Refusal>
@@ -107,13 +107,13 @@ pub(crate) fn formatted_behind<D: SectorDisk, K: KeyClass>(
     read_parameters::<D, K>(disk)
 }
 
-/// Settles a device, and reads what it is formatted for:
-/// an index of this class, with numbers in range, for which it has the sectors.
+/// Syncs a device, and reads what it is formatted for: an index of this class, with numbers in range, for which it has
+/// the sectors.
 ///
-/// Refused, by the first that holds, where it has fewer sectors than the smallest index takes (`TooSmall`), where a
-/// call fails (`Device`), where its first eight bytes aren't the magic (`NotFormatted`), where the numbers are out of
-/// range or of another class (`BadParameter`), and where it has fewer sectors than that index takes (`TooSmall`). At Ok
-/// one sync was made, and all is settled. Nothing reads otherwise than before.
+/// Refused for the first of these that holds: it has fewer sectors than the smallest index takes (`TooSmall`), a call
+/// fails (`Device`), its first eight bytes aren't the magic (`NotFormatted`), the numbers are out of range or of
+/// another class (`BadParameter`), it has fewer sectors than that index takes (`TooSmall`). At Ok one sync was made,
+/// and everything is durable. No sector reads otherwise than before.
 pub fn formatted_for<D: SectorDisk, K: KeyClass>(disk: &mut D) -> Result<Parameters, Refusal>
     ensures counted { Counted 1 (D.state disk.old) (D.state disk.new) result }
     ensures synced { OnOk result ((D.state disk.new).calls ≡ (D.state disk.old).calls + 1) }

@@ -6,8 +6,8 @@ use gx_class::ReadKeys;
 use gx_disk::SectorDisk;
 use gx_durable::class_laws::what_stands_is_legal;
 
-/// Pages that are found sound are good for the log that was laid on them. So at each moment of that, whatever a crash
-/// may leave that wasn't there before stands for what the log keeps, as it was found.
+/// Pages that are found sound are good for the log that was laid on them. So at each moment of the laying, whatever a
+/// crash may leave that it couldn't leave before stands for what the log keeps, as it was found.
 pub fn what_is_found_stands<D: SectorDisk, K: ReadKeys>()
     ensures stands { (p : Parameters) → FoundStandsAs K.Key.Shape K.ReadKeys p }
     ensures good { (p : Parameters) → SoundIsGoodAs K.Key.Shape K.ReadKeys D.state p }

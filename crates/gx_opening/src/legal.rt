@@ -1,5 +1,5 @@
-//! The pages of a device whose log is laid are tested: that each can be read, that they are a legal tree, and that what
-//! open transactions have touched is in its place.
+//! Tests the pages of a device whose log is laid: that each can be read, that they are a legal tree, and that what open
+//! transactions have touched is in its place.
 ghost use Rattle.std.specs.Prelude.{◌≡◌, ◌≤◌, ◌<◌, ◌+◌, ◌*◌, ◌/◌, true, min, OnOk, IfErr, IfOk, Err};
 ghost use Rattle.gx_store.specs.Faults.{refusal_fails, store_fails};
 ghost use Rattle.gx_store.specs.State.{IsSteady};
@@ -36,7 +36,7 @@ const TEST_FRAMES: usize = 16;
 /// Half of how many pairs are kept at once at most: with 24 bytes each, 64 MiB in all.
 const MOST_HALF: usize = 1_398_101;
 
-// Half of how many pairs a test has to keep at once: no more than stand in so many pages.
+// Half of how many pairs a test has to keep at once: no more than so many pages hold.
 fn half_of(used: u32, most: u16) -> usize
     ensures exact { result ≡ min (used * most / 2 + 1) MOST_HALF }
     ensures some { 0 < result }
@@ -46,7 +46,7 @@ fn half_of(used: u32, most: u16) -> usize
     (pairs / 2 + 1).min(MOST_HALF as u64) as usize
 }
 
-// What a store's refusal is, of a test that only reads.
+// A store's refusal as the fault of a test that only reads.
 fn store_refusal(fault: StoreFault) -> Refusal
     ensures told { result ≡ store_refusal_of fault }
     ensures damaged { result ≡ Refusal.Damaged → fault ≡ StoreFault.Damaged }
@@ -61,7 +61,7 @@ fn store_refusal(fault: StoreFault) -> Refusal
     }
 }
 
-// What a refusal of a test is.
+// The refusal of an opening, by that of its test.
 pub(crate) fn test_refusal(fault: LegalityFault<StoreFault>) -> Refusal
     ensures told { result ≡ refusal_of fault }
     ensures damaged { result ≡ Refusal.Damaged → IsDamage fault }
@@ -75,8 +75,8 @@ pub(crate) fn test_refusal(fault: LegalityFault<StoreFault>) -> Refusal
     }
 }
 
-// Tests pages over a store that starts: that each in use can be read, that they are a legal tree,
-// and that what was touched is in its place.
+// Tests pages over a new store: that each in use can be read, that they are a legal tree, and that what was touched is
+// in its place.
 fn test_store<D: SectorDisk, K: ReadKeys>(
     alloc: Global,
     store: &mut StoreReader<D, K>,
@@ -106,7 +106,7 @@ fn test_store<D: SectorDisk, K: ReadKeys>(
     }
 }
 
-// Tests pages over a store that starts, and hands its device back.
+// Tests pages over a new store, and returns its device.
 fn test_over<D: SectorDisk, K: ReadKeys>(
     alloc: Global,
     store: StoreReader<D, K>,
@@ -127,12 +127,12 @@ fn test_over<D: SectorDisk, K: ReadKeys>(
     (store.into_disk(), tested)
 }
 
-/// Tests the pages of a device of so many, with so many entries a node at most,
-/// by what its log tells. The device is handed back.
+/// Tests the pages of a device of so many, with so many entries in a node at most, by what its log gives. Returns the
+/// device.
 ///
-/// Refused as `Damaged` where more pages are in use than there are, where one of them can't be read, where they aren't
-/// a legal tree, or where an entry that an open transaction touched is neither in its leaf nor to the right of it; by
-/// the device's fault (`Device`), and for want of memory (`Memory`). The device is only read.
+/// Refused as `Damaged` if more pages are in use than the device has, if one of them can't be read, if they aren't a
+/// legal tree, or if an entry that an open transaction touched is neither in its leaf nor to the right of it; with
+/// `Device` if a read fails, and with `Memory`. The device is only read.
 pub(crate) fn test_pages<D: SectorDisk, K: ReadKeys>(
     alloc: Global,
     disk: D,

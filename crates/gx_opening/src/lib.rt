@@ -1,5 +1,5 @@
-//! What an opening finds on a device: it is settled and read for what it is formatted for, its log is read and laid,
-//! and its pages are tested; and where it is refused, what is damaged there.
+//! The reading part of an opening: syncs a device, reads what it is formatted for, reads and lays its log, and tests
+//! its pages; and if that is refused, examines what is damaged.
 #![tactic(auto)]
 
 mod damage;

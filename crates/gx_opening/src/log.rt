@@ -1,4 +1,4 @@
-//! The log of a device is read, and its pages are laid.
+//! Reads the log of a device, and lays its pages.
 ghost use Rattle.std.specs.Prelude.{◌≡◌, ◌≢◌, ◌≤◌, IfErr, IfOk};
 ghost use Rattle.gx_disk.specs.Device.{SameDevice};
 ghost use Rattle.gx_durable.specs.Area.{HasPages};
@@ -16,7 +16,7 @@ use gx_geom::Refusal;
 use gx_glog::PLACES;
 use gx_machine::Entry;
 
-// Lays the pages of a log that was found.
+// Writes the pages that a log gives to their places.
 fn lay_found<D: SectorDisk, K: ReadKeys>(
     disk: &mut D,
     found: FoundLog<Entry<K::Key>>,
@@ -38,12 +38,12 @@ fn lay_found<D: SectorDisk, K: ReadKeys>(
     Ok(found)
 }
 
-/// Reads the log of a device of so many pages, and entries in a node, which is settled, and lays its pages: each is as
-/// the log leaves it then, and all is settled again.
+/// Reads the log of a synced device of so many pages and entries in a node, and lays its pages: each is then as the log
+/// leaves it, and everything is durable again.
 ///
-/// Refused as `Damaged` exactly where the log is, before anything is written, and by the device's fault (`Device`); it
-/// takes no memory. At each moment, also where it is refused, what a crash may leave is as at the start, or
-/// has the log that was found and after it the same pages.
+/// Refused as `Damaged` exactly if the log is damaged, before anything is written, and with `Device` if a call fails.
+/// It takes no memory. At each moment, also if it is refused, what a crash may leave is as at the start, or has the log
+/// that was found and after it the same pages.
 pub(crate) fn lay_log<D: SectorDisk, K: ReadKeys>(
     room: LogRoom<Entry<K::Key>>,
     disk: &mut D,

@@ -1,5 +1,5 @@
 //! What open transactions have touched, in the order of entries.
-ghost use Rattle.std.specs.Prelude.{◌≡◌, ◌≤◌, length, take, drop, IfOk};
+ghost use Rattle.std.specs.Prelude.{◌≤◌, length, take, drop, IfOk};
 ghost use Rattle.gx_opening.specs.Noting.{AreLess, AreNoted, IsNoLess, IsPut};
 
 use gx_legality::NotedPair;
@@ -7,7 +7,7 @@ use gx_recovery::Touch;
 use std::alloc::{AllocError, Global};
 use std::cmp::Ordering;
 
-// How many of these notes at the front are of lesser entries.
+// How many notes at the front of these are of lesser entries.
 fn place_of<E: Copy + Ord>(notes: &[NotedPair<E>], entry: &E) -> usize
     ensures inside { result ≤ length notes.now }
     ensures before { AreLess E.cmp entry.now (take result notes.now) }
@@ -33,7 +33,7 @@ fn insert_note<E: Copy + Ord>(
     Ok(())
 }
 
-/// A note of each touch, in the order of entries where no two are of one entry.
+/// Returns a note of each touch, in the order of entries, if no two are of the same entry.
 pub fn notes_of<E: Copy + Ord>(
     alloc: Global,
     touched: &[Touch<E>],

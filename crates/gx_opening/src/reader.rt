@@ -1,4 +1,4 @@
-//! A store as the tests of its tree read it.
+//! A store as the tests of a tree read it.
 ghost use Rattle.std.specs.Prelude.{◌≡◌};
 
 use gx_class::KeyClass;
@@ -8,7 +8,7 @@ use gx_page::Page;
 use gx_store::{PageStore, StoreFault};
 use std::marker::Model;
 
-/// A store of pages, of which it is known that each that is held was read right.
+/// A store of pages in which each held page was read right.
 #[derive(Drop)]
 pub(crate) struct StoreReader<D: SectorDisk, K: KeyClass> {
     store: PageStore<D, K>,
@@ -23,14 +23,14 @@ impl<D: SectorDisk, K: KeyClass> Model for StoreReader<D, K> {
 }
 
 impl<D: SectorDisk, K: KeyClass> StoreReader<D, K> {
-    /// A store, to be read.
+    /// Wraps a store for reading.
     pub(crate) fn new(store: PageStore<D, K>) -> StoreReader<D, K>
         ensures { result ≡ store }
     {
         StoreReader { store }
     }
 
-    /// Its device, as the calls left it.
+    /// Returns the store's device, as the calls left it.
     pub(crate) fn into_disk(self) -> D
         ensures { result ≡ self.disk }
     {

@@ -1,4 +1,4 @@
-//! What stands on a device.
+//! Finds the index on a device.
 ghost use Rattle.std.specs.Prelude.{◌≡◌, ◌+◌, ◌*◌, ◌<◌, ◌≤◌, true, IfOk, IfErr, Err};
 ghost use Rattle.gx_glog.specs.declared.extent.TheConstants.{PLACES};
 ghost use Rattle.gx_disk.specs.declared.layout.TheConstants.{MAX_PAGES, MIN_SECTORS, PAGES_AT, PAGE_SECTORS};
@@ -24,7 +24,7 @@ use gx_glog::Parameters;
 use gx_machine::Entry;
 use std::alloc::Global;
 
-/// An index that stands on a device.
+/// An index that was found on a device.
 #[derive(Drop)]
 pub struct Standing<B> {
     /// What the device is formatted for.
@@ -33,7 +33,7 @@ pub struct Standing<B> {
     pub log: FoundLog<Entry<B>>,
 }
 
-// Settles a device, reads what it is formatted for, and lays its log.
+// Syncs a device, reads what it is formatted for, and lays its log.
 fn stand<D: SectorDisk, K: ReadKeys>(
     room: LogRoom<Entry<K::Key>>,
     disk: &mut D,
@@ -58,7 +58,7 @@ fn stand<D: SectorDisk, K: ReadKeys>(
     Ok(Standing { parameters, log })
 }
 
-// What was found, where its test passed.
+// Returns what was found, if its test passed.
 fn with_standing<B: Copy>(
     sound: Result<(), Refusal>,
     standing: Standing<B>,
@@ -69,7 +69,7 @@ fn with_standing<B: Copy>(
     Ok(standing)
 }
 
-// Tests the pages of an index that stands on a device.
+// Tests the pages of an index that was found on a device.
 fn tested<D: SectorDisk, K: ReadKeys>(
     alloc: Global,
     disk: D,
@@ -95,7 +95,7 @@ fn tested<D: SectorDisk, K: ReadKeys>(
     (disk, with_standing(sound, standing))
 }
 
-// Finds what stands on a device that has the sectors of the smallest index.
+// Finds the index on a device that has the sectors of the smallest index.
 fn find_in<D: SectorDisk, K: ReadKeys>(
     alloc: Global,
     room: LogRoom<Entry<K::Key>>,
@@ -122,18 +122,18 @@ fn find_in<D: SectorDisk, K: ReadKeys>(
     }
 }
 
-/// Settles a device, reads what it is formatted for, lays its log, and tests its pages. The device is handed back.
+/// Syncs a device, reads what it is formatted for, lays its log, and tests its pages. Returns the device.
 ///
-/// Refused, by the first that holds: with fewer sectors than the smallest index takes (`TooSmall`, and no call is
-/// made), without the magic (`NotFormatted`), with numbers out of range or of another class (`BadParameter`), with
-/// fewer sectors than that index takes (`TooSmall`), with a damaged log, or pages that can't be read, aren't a legal
-/// tree, or haven't what open transactions touched in its place (`Damaged`); and where a call fails (`Device`), or
-/// memory is refused (`Memory`). All memory that the log takes is taken before the first call, and a damaged log is
-/// never refused as `Memory` behind it, nor are more pages in use than there are. What is refused as damaged is left so
-/// that [`crate::examine`] finds damage there. At each moment a crash may leave what it could at the start, or an image
-/// with the log that was found and after it the same pages. A sync comes before the first write, and of the sectors
-/// only those of pages that the log gives are written. What is found has the numbers that an engine may start with, and
-/// its open transactions have touched no entry twice, whatever the device is.
+/// Refused for the first of these that holds: the device has fewer sectors than the smallest index takes (`TooSmall`,
+/// and no call is made), the magic is missing (`NotFormatted`), the numbers are out of range or of another class
+/// (`BadParameter`), the device has fewer sectors than that index takes (`TooSmall`), its log is damaged, or its pages
+/// can't be read, aren't a legal tree, or don't have what open transactions touched in its place (`Damaged`); also if a
+/// call fails (`Device`), or memory is refused (`Memory`). All memory that the log takes is allocated before the first
+/// call; after it neither a damaged log nor more pages in use than the device has is refused as `Memory`. A device that
+/// is refused as damaged is left so that [`crate::examine`] finds damage there. At each moment a crash may leave what
+/// it could leave at the start, or an image with the log that was found and after it the same pages. A sync comes
+/// before the first write, and only sectors of pages that the log gives are written. Whatever the device is, an engine
+/// may start with the numbers that are found, and open transactions have touched no entry twice.
 pub fn find<D: SectorDisk, K: ReadKeys>(
     alloc: Global,
     disk: D,

@@ -77,7 +77,7 @@ box_row = box.the_row the_bytes heap.the_row ghosts
 abbrev handle_laws : FLaws (row_field heap.the_row)
 handle_laws = row_laws heap.the_row heap_laws.the_row_laws (record { val = λ _. heap_val; tells = heap_Tells })
 
--- a box and a block tell their word
+-- a box and a block determine their word
 pub box_tells : Tells box_row (Is box_row) (λ v. word v.ptr ∷ [])
 box_tells = tells (box.the_type the_bytes heap.the_row ghosts) (RawPtr-laws, (handle_laws, tt))
 

@@ -1,4 +1,4 @@
--- Where the items' bytes stand, in the heap and in the image.
+-- Where the items' bytes lie, in the heap and in the image.
 use Rattle.std.proofs.Common.{◌≡◌, ℕ, zero, suc, ◌+◌, ◌-◌, ◌*◌, ◌<◌, ◌≤◌, List, [], ◌∷◌, ◌++◌, length, take, drop, get_or, refl, sym, ap, ◌∙◌, arith, add-one, append_assoc, append-nil, length-append, length-take, length-drop}
 use lib.Seq.{split_at}
 use Rattle.std.specs.Prelude.{slice_range}

@@ -17,7 +17,7 @@ ImagesTell = (v w : Contents) → IsWellFormed v → IsWellFormed w → image_of
 abbrev pub ImagesReadBack : Type 0
 ImagesReadBack = (v : Contents) → IsWellFormed v → read_of (image_of v) ≡ v
 
--- bytes have no fault exactly where some well-formed contents have them as their image
+-- bytes have no fault exactly if some well-formed contents have them as their image
 abbrev pub FaultlessAreImages : Type 0
 FaultlessAreImages = (bytes : List ℕ) → AreBytes bytes → ((fault_of bytes ≡ None) ↔ ((v : Contents) × (IsWellFormed v × (image_of v ≡ bytes))))
 

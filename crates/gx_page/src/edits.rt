@@ -35,7 +35,7 @@ pub(crate) fn reset(block: &mut Block, level: u16, number: u32)
     write_blank(block, level, number);
 }
 
-/// Becomes the image that bytes are, or refuses them with their first fault and stays as it was.
+/// Becomes the image that bytes are, or refuses them with their first fault and stays unchanged.
 pub(crate) fn load(block: &mut Block, bytes: &[u8]) -> Result<(), PageFault>
     ensures loaded { IfOk result (λ _. (fault_of bytes.now ≡ None) × (block.new.bytes ≡ bytes.now)) }
     ensures fault { IfErr result (λ fault. (fault_of bytes.now ≡ Some fault) × (block.new.bytes ≡ block.old.bytes)) }

@@ -9,7 +9,7 @@ ghost use Rattle.gx_page.specs.Laws.{HeapGoesOn, TotalOfOneLength, PlaceInHeap, 
 use crate::Page;
 
 /// Contents have one image and an image has one reading: equal images of well-formed contents are equal contents, and
-/// bytes have no fault exactly where they are the image of well-formed contents.
+/// bytes have no fault exactly if they are the image of well-formed contents.
 pub fn format()
     ensures images_tell { ImagesTell }
     ensures read_back { ImagesReadBack }

@@ -35,7 +35,7 @@ impl Model for Page {
     ghost invariant = { λ p. IsImage p.block.bytes };
 }
 
-// This holds only where a page may be sent.
+// This holds only if a page may be sent.
 fn sent<T: Send>() {}
 
 /// A page may be sent to another thread: without the promise that its block makes this doesn't compile.
@@ -44,8 +44,8 @@ fn may_be_sent() {
 }
 
 impl Page {
-    /// A page of a level and a number with no items, with sequence number 0 and no page to the right.
-    /// Refused with `Memory` where there is none for the block.
+    /// A page of a level and a number with no items, with sequence number 0 and no page to the right. Refused with
+    /// `Memory` if there is none for the block.
     pub fn fresh(alloc: Global, level: u16, number: u32) -> Result<Page, PageFault>
         ensures page { IfOk result (λ page. page ≡ blank level number) }
         ensures fault { IfErr result (λ fault. fault ≡ PageFault.Memory) }
@@ -65,8 +65,8 @@ impl Page {
         edits::reset(&mut self.block, level, number);
     }
 
-    /// The page whose image the bytes are.
-    /// Refused with the first fault of the bytes, and after all tests with `Memory` where there is none for the block.
+    /// The page whose image the bytes are. Refused with the first fault of the bytes, and after all tests with `Memory`
+    /// if there is none for the block.
     pub fn from_image(alloc: Global, bytes: &[u8]) -> Result<Page, PageFault>
         ensures page { IfOk result (λ page. (fault_of bytes.now ≡ None) × IsImage bytes.now
             × (page ≡ read_of bytes.now)) }
@@ -148,8 +148,8 @@ impl Page {
         self.block.slice(from, from + size)
     }
 
-    /// Puts an item of 1 to 4,060 bytes in front of a slot, or behind the last.
-    /// False where the page has no room for it and its slot, and the page is then as it was.
+    /// Puts an item of 1 to 4,060 bytes in front of a slot, or behind the last. False if the page has no room for it
+    /// and its slot, and the page is then as it was.
     pub fn insert(&mut self, slot: usize, bytes: &[u8]) -> bool
         requires slot { slot ≤ length self.old.items }
         requires item { (1 ≤ length bytes.now) × (length bytes.now ≤ 4060) }

@@ -19,7 +19,7 @@ use Rattle.gx_events.specs.Slots as slots
 use Rattle.gx_events.specs.Slots.{Slot, with_slot}
 use Rattle.gx_events.specs.Engines.{Engine, IsSame, session_of, sessions_of}
 use Rattle.gx_events.specs.Asking.{least_barring, claims_held, asked_with, ask_slot, ask_in, ask}
-use Rattle.gx_events.specs.Events.{IsEvent, Asks}
+use Rattle.gx_events.specs.Happenings.{IsHappening, Asks}
 use Rattle.gx_events.proofs.Places.{session_of_slot}
 use Rattle.gx_events.proofs.Asks.{same_least, same_held}
 use Rattle.gx_phases.specs.declared.phase.Phase.{Phase}
@@ -133,7 +133,7 @@ module _ {B W : Type 0} (k : Keys B) (l : IsLawful k) (live : Entry B → Bool) 
 
     -- the event, where it is asked
     asks_event : (call : Call B) → old.failed ≡ false → Alike (ask_slot k call (least call) (claims_held all) (slot_of p h))
-        → IsEvent k E (Asks s call given) (engine_of live older new)
+        → IsHappening k E (Asks s call given) (engine_of live older new)
     asks_event call works alike =
         let at : Alike (ask_in k s call all) =
         subst (λ (x : Slot B). Alike (ask_slot k call (least call) (claims_held all) x)) (sym (slot_here s old.phases old.table is same)) alike in
@@ -162,7 +162,7 @@ module _ {B W : Type 0} (k : Keys B) (l : IsLawful k) (live : Entry B → Bool) 
         (slot_here s old.phases old.table is same ∙ ap (λ (q : Phase B W). slot_of q h) at)
 
     begun_event : (full : Bool) → old.failed ≡ false → p ≡ phase.Free → h ≡ nothing_held → Begun full s old given new
-        → IsEvent k E (event_by false full s Begin given) (engine_of live older new)
+        → IsHappening k E (event_by false full s Begin given) (engine_of live older new)
     begun_event true works at nothing_is a = (works, begin_gives at, same_engine a.1)
     begun_event false works at nothing_is a =
         asks_event Begin works
@@ -178,14 +178,14 @@ module _ {B W : Type 0} (k : Keys B) (l : IsLawful k) (live : Entry B → Bool) 
 
     refused_event : (call : Call B) (why : Refusal) (q : Phase B W) → old.failed ≡ false → p ≡ q
         → ask_slot k call (least call) (claims_held all) (slot_of q h) ≡ (asked.Now (reply.Refused why), slot_of q h) → IsRefused why old given new
-        → IsEvent k E (Asks s call given) (engine_of live older new)
+        → IsHappening k E (Asks s call given) (engine_of live older new)
     refused_event call why q works at gives a =
         asks_event call works
         (subst (λ (x : Phase B W). Alike (ask_slot k call (least call) (claims_held all) (slot_of x h))) (sym at)
         (subst (λ (r : Asked B × Slot B). Alike r) (sym gives) (refused_alike why (slot_of q h) (ap (λ (x : Phase B W). slot_of x h) (sym at)) a)))
 
     free_event : (call : Call B) → old.failed ≡ false → p ≡ phase.Free → h ≡ nothing_held → AskedFree s call old given new
-        → IsEvent k E (event_by false (is_begin call && is_full old) s call given) (engine_of live older new)
+        → IsHappening k E (event_by false (is_begin call && is_full old) s call given) (engine_of live older new)
     free_event Begin works at nothing_is a = begun_event (is_full old) works at nothing_is a
     free_event (Insert e) works at nothing_is a = refused_event (Insert e) NoTransaction phase.Free works at refl a
     free_event (Delete e) works at nothing_is a = refused_event (Delete e) NoTransaction phase.Free works at refl a
@@ -194,7 +194,7 @@ module _ {B W : Type 0} (k : Keys B) (l : IsLawful k) (live : Entry B → Bool) 
     free_event Abort works at nothing_is a = refused_event Abort NoTransaction phase.Free works at refl a
 
     at_event : (call : Call B) (work : W) (q : Phase B W) → old.failed ≡ false → p ≡ q → HoldsNothing q h → AskedAt k s call work q old given new
-        → IsEvent k E (event_by false (begins call q && is_full old) s call given) (engine_of live older new)
+        → IsHappening k E (event_by false (begins call q && is_full old) s call given) (engine_of live older new)
     at_event call work phase.Free works at nothing_is a = free_event call works at nothing_is a
     at_event call work phase.Working works at nothing_is a =
         asks_event call works (subst (λ (x : Phase B W). Alike (ask_slot k call (least call) (claims_held all) (slot_of x h))) (sym at) (working_alike call work at a))
@@ -204,7 +204,7 @@ module _ {B W : Type 0} (k : Keys B) (l : IsLawful k) (live : Entry B → Bool) 
 
   -- by the first two tests
   by_event : (call : Call B) (work : W) (failed there : Bool) → old.failed ≡ failed → is_session s ≡ there → AskedBy k s call work failed there old given new
-      → IsEvent k E (event_by failed (there && (begins call p && is_full old)) s call given) (engine_of live older new)
+      → IsHappening k E (event_by failed (there && (begins call p && is_full old)) s call given) (engine_of live older new)
   by_event call work true there is_failed is a = record {
     live = λ e. refl;
     slots = ap (λ (st : State B W). slots_of st.phases st.table) a.1;
@@ -230,5 +230,5 @@ module _ {B W : Type 0} (k : Keys B) (l : IsLawful k) (live : Entry B → Bool) 
 -- an ask is an event
 pub ask_is_event : {B W : Type 0} (k : Keys B) → IsLawful k → (s : ℕ) (call : Call B) (work : W) (old : State B W) (given : Asked B) (new : State B W) → IsKept k old
     → IsAsked k s call work old given new → (live : Entry B → Bool) (older : List (List (Entry B)))
-    → IsEvent k (engine_of live older old) (asked_event s call old given) (engine_of live older new)
+    → IsHappening k (engine_of live older old) (asked_event s call old given) (engine_of live older new)
 ask_is_event k l s call work old given new kept a live older = by_event k l live older s old kept given new call work old.failed (is_session s) refl refl a

@@ -13,7 +13,7 @@ use Rattle.gx_txn.specs.Tables.{Held, nothing_held, with_notes}
 use Rattle.gx_events.specs.Slots as slots
 use Rattle.gx_events.specs.Slots.{Slot, slot_at, with_slot}
 use Rattle.gx_events.specs.Engines.{stood}
-use Rattle.gx_events.specs.Events.{IsWritten, IsClosed, IsSealed, IsDurable, IsAcknowledged, IsUndone, IsRestored, marked}
+use Rattle.gx_events.specs.Happenings.{IsWritten, IsClosed, IsSealed, IsDurable, IsAcknowledged, IsUndone, IsRestored, marked}
 use Rattle.gx_phases.specs.declared.phase.Phase.{Phase}
 use Rattle.gx_phases.specs.declared.phase.Phase.TheVariants as phase
 use Rattle.gx_phases.specs.States.{State, slot_of, slots_of, note_of, phase_at, held_at, with_phase, with_phase_of, engine_of, IsKept}

@@ -21,8 +21,8 @@ use Rattle.gx_events.specs.Slots as slots
 use Rattle.gx_events.specs.Slots.{Slot, slot_at, with_slot}
 use Rattle.gx_events.specs.Engines.{Engine}
 use Rattle.gx_events.specs.Asking.{ask_in, ask}
-use Rattle.gx_events.specs.Events as events
-use Rattle.gx_events.specs.Events.{Event, IsEvent}
+use Rattle.gx_events.specs.Happenings as events
+use Rattle.gx_events.specs.Happenings.{Happening, IsHappening}
 use Rattle.gx_index_laws.specs.Classes.{Class, IsLawful, is_live}
 use Rattle.gx_index_laws.specs.States as index
 use Rattle.gx_index_laws.specs.Whole.{IsWhole}
@@ -58,20 +58,20 @@ module _ {B W : Type 0} (c : Class B) (l : IsLawful c) (i : index.State B) (w : 
   its_engine : index.engine_of c i ≡ E
   its_engine = λ j. record { live = live; slots = of.slots j; older = i.older; oldest = of.oldest j; failed = of.failed j }
 
-  event : IsEvent c.keys E (asked_event s call old given) (engine_of live i.older new)
+  event : IsHappening c.keys E (asked_event s call old given) (engine_of live i.older new)
   event = ask_is_event c.keys l.keys s call work old given new kept asks live i.older
 
-  -- what comes of the ask
-  abbrev Comes : Event B → Asked B → State B W → Type 0
+  -- the outcome of the ask
+  abbrev Comes : Happening B → Asked B → State B W → Type 0
   Comes ev g n = Happens c i ev (asked_index c s call g i) × AreOf n (asked_index c s call g i)
 
-  refused_comes : (ev : Asked B → Event B) (why : Refusal) → IsRefused why old given new → Happens c i (ev (asked.Now (reply.Refused why))) i → Comes (ev given) given new
+  refused_comes : (ev : Asked B → Happening B) (why : Refusal) → IsRefused why old given new → Happens c i (ev (asked.Now (reply.Refused why))) i → Comes (ev given) given new
   refused_comes ev why a happens =
       subst (λ (n : State B W). Comes (ev given) given n) (sym a.1)
       (subst (λ (g : Asked B). Comes (ev g) g old) (sym a.0) (happens, of))
 
   -- a refusal for a cause that locks and sessions' numbers decide
-  locks_refuse : old.failed ≡ false → (why : Refusal) → IsEvent c.keys E (events.Asks s call given) (engine_of live i.older new) → IsRefused why old given new
+  locks_refuse : old.failed ≡ false → (why : Refusal) → IsHappening c.keys E (events.Asks s call given) (engine_of live i.older new) → IsRefused why old given new
       → Comes (events.Asks s call given) given new
   locks_refuse works why is_event a =
       refused_comes (λ g. events.Asks s call g) why a
@@ -86,7 +86,7 @@ module _ {B W : Type 0} (c : Class B) (l : IsLawful c) (i : index.State B) (w : 
 
   module _ (works : old.failed ≡ false) (is : is_session s ≡ true) where
     -- a call opens
-    opens : IsEvent c.keys E (events.Asks s call given) (engine_of live i.older new) → given ≡ asked.Open → new.transactions ≡ old.transactions → new.next ≡ old.next
+    opens : IsHappening c.keys E (events.Asks s call given) (engine_of live i.older new) → given ≡ asked.Open → new.transactions ≡ old.transactions → new.next ≡ old.next
         → new.durable ≡ old.durable → new.failed ≡ old.failed → Comes (events.Asks s call given) given new
     opens is_event is_open numbers next durable failed =
         let there : ask c.keys s call E ≡ ask_there c.keys s call true E = ap (λ (t : Bool). ask_there c.keys s call t E) is in
@@ -154,7 +154,7 @@ module _ {B W : Type 0} (c : Class B) (l : IsLawful c) (i : index.State B) (w : 
         ))
 
     begun_comes : (full : Bool) → is_full old ≡ full → call ≡ Begin → phase_at (s - 1) old.phases ≡ phase.Free → Begun full s old given new
-        → IsEvent c.keys E (event_by false full s call given) (engine_of live i.older new) → Comes (event_by false full s call given) given new
+        → IsHappening c.keys E (event_by false full s call given) (engine_of live i.older new) → Comes (event_by false full s call given) given new
     begun_comes true is_so begin at a is_event =
         refused_comes (λ g. events.RefusesAsk s call HistoryFull) HistoryFull a
         (history_is_full c l i w (of.failed ∙ works) s call (ap (λ (e : Engine B). (ask c.keys s call e).0) its_engine ∙ is_event.1))
@@ -162,18 +162,18 @@ module _ {B W : Type 0} (c : Class B) (l : IsLawful c) (i : index.State B) (w : 
 
     -- a call whose state is this one with other phases and locks
     opens_as : (phases' : List (Phase B W)) (table' : List (Held B)) → (given ≡ asked.Open) × (new ≡ record old { phases = phases'; table = table' })
-        → IsEvent c.keys E (events.Asks s call given) (engine_of live i.older new) → Comes (events.Asks s call given) given new
+        → IsHappening c.keys E (events.Asks s call given) (engine_of live i.older new) → Comes (events.Asks s call given) given new
     opens_as phases' table' a is_event =
         opens is_event a.0 (ap (λ (x : State B W). x.transactions) a.1) (ap (λ (x : State B W). x.next) a.1) (ap (λ (x : State B W). x.durable) a.1)
         (ap (λ (x : State B W). x.failed) a.1)
 
     lock_comes : (x : Call B) (r : Result (Locks B) Refusal) → LockTaken r s x work old given new
-        → IsEvent c.keys E (events.Asks s call given) (engine_of live i.older new) → Comes (events.Asks s call given) given new
+        → IsHappening c.keys E (events.Asks s call given) (engine_of live i.older new) → Comes (events.Asks s call given) given new
     lock_comes x (Ok locks) a is_event =
         opens_as (with_phase s (phase.Open x work) old.phases) (with_held s (with_locks locks (held_by s old.table)) old.table) a is_event
     lock_comes x (Err why) a is_event = locks_refuse works why is_event a
 
-    working_comes : (x : Call B) → AskedWorking c.keys s x work old given new → IsEvent c.keys E (events.Asks s call given) (engine_of live i.older new)
+    working_comes : (x : Call B) → AskedWorking c.keys s x work old given new → IsHappening c.keys E (events.Asks s call given) (engine_of live i.older new)
         → Comes (events.Asks s call given) given new
     working_comes Begin a is_event = locks_refuse works InTransaction is_event a
     working_comes (Insert e) a is_event = lock_comes (Insert e) (locks_for c.keys (Insert e) s old.table) a is_event
@@ -183,7 +183,7 @@ module _ {B W : Type 0} (c : Class B) (l : IsLawful c) (i : index.State B) (w : 
     working_comes Abort a is_event = opens_as (with_phase s (phase.Undoing 0 work) old.phases) old.table a is_event
 
     free_comes : (x : Call B) → call ≡ x → phase_at (s - 1) old.phases ≡ phase.Free → AskedFree s x old given new
-        → IsEvent c.keys E (event_by false (is_begin x && is_full old) s call given) (engine_of live i.older new)
+        → IsHappening c.keys E (event_by false (is_begin x && is_full old) s call given) (engine_of live i.older new)
         → Comes (event_by false (is_begin x && is_full old) s call given) given new
     free_comes Begin is_so at a is_event = begun_comes (is_full old) refl is_so at a is_event
     free_comes (Insert e) is_so at a is_event = locks_refuse works NoTransaction is_event a
@@ -193,7 +193,7 @@ module _ {B W : Type 0} (c : Class B) (l : IsLawful c) (i : index.State B) (w : 
     free_comes Abort is_so at a is_event = locks_refuse works NoTransaction is_event a
 
     at_comes : (q : Phase B W) → phase_at (s - 1) old.phases ≡ q → AskedAt c.keys s call work q old given new
-        → IsEvent c.keys E (event_by false (begins call q && is_full old) s call given) (engine_of live i.older new)
+        → IsHappening c.keys E (event_by false (begins call q && is_full old) s call given) (engine_of live i.older new)
         → Comes (event_by false (begins call q && is_full old) s call given) given new
     at_comes phase.Free at a is_event = free_comes call refl at a is_event
     at_comes phase.Working at a is_event = working_comes call a is_event
@@ -202,7 +202,7 @@ module _ {B W : Type 0} (c : Class B) (l : IsLawful c) (i : index.State B) (w : 
     at_comes (phase.Waiting number) at a is_event = locks_refuse works CallOpen is_event a
 
   by_comes : (failed there : Bool) → old.failed ≡ failed → is_session s ≡ there → AskedBy c.keys s call work failed there old given new
-      → IsEvent c.keys E (event_by failed (there && (begins call (phase_at (s - 1) old.phases) && is_full old)) s call given) (engine_of live i.older new)
+      → IsHappening c.keys E (event_by failed (there && (begins call (phase_at (s - 1) old.phases) && is_full old)) s call given) (engine_of live i.older new)
       → Comes (event_by failed (there && (begins call (phase_at (s - 1) old.phases) && is_full old)) s call given) given new
   by_comes true there has is a is_event = failed_refuses has a
   by_comes false false works is a is_event = locks_refuse works BadSession is_event a

@@ -11,7 +11,7 @@ use Rattle.gx_machine.proofs.SetsByTests.{comes_before_each}
 use Rattle.gx_machine.proofs.SessionMoves.{same_itself, value_of, or_second}
 use Rattle.gx_txn.specs.declared.note.Note as txn
 use Rattle.gx_txn.specs.Notes.{entries_of}
-use Rattle.gx_events.specs.Events.{marked}
+use Rattle.gx_events.specs.Happenings.{marked}
 use Rattle.gx_events.specs.Slots.{noted}
 use Rattle.gx_phases.specs.States.{note_of}
 use Rattle.gx_phases.specs.Restoring.{AreRestored}

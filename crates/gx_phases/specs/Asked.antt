@@ -12,7 +12,7 @@ use Rattle.gx_machine.specs.Keys.{Keys}
 use Rattle.gx_machine.specs.Machine.{is_session}
 use Rattle.gx_machine.specs.Sessions.{Locks}
 use Rattle.gx_txn.specs.Tables.{held_by, with_locks, locks_for}
-use Rattle.gx_events.specs.Events.{Event, Asks, RefusesAsk}
+use Rattle.gx_events.specs.Happenings.{Happening, Asks, RefusesAsk}
 use Rattle.gx_phases.specs.declared.phase.Phase.{Phase}
 use Rattle.gx_phases.specs.declared.phase.Phase.TheVariants as phase
 use Rattle.gx_phases.specs.States.{State, phase_at, with_phase_of, with_session, with_transaction}
@@ -96,10 +96,10 @@ abbrev pub finds_full : {B W : Type 0} → ℕ → Call B → State B W → Bool
 finds_full s call state = is_session s && (begins call (phase_at (s - 1) state.phases) && is_full state)
 
 -- the event of an ask
-abbrev pub event_by : {B : Type 0} → (failed full : Bool) → ℕ → Call B → Asked B → Event B
+abbrev pub event_by : {B : Type 0} → (failed full : Bool) → ℕ → Call B → Asked B → Happening B
 event_by true full s call given = RefusesAsk s call Failed
 event_by false true s call given = RefusesAsk s call HistoryFull
 event_by false false s call given = Asks s call given
 
-abbrev pub asked_event : {B W : Type 0} → ℕ → Call B → State B W → Asked B → Event B
+abbrev pub asked_event : {B W : Type 0} → ℕ → Call B → State B W → Asked B → Happening B
 asked_event s call old given = event_by old.failed (finds_full s call old) s call given

@@ -78,8 +78,8 @@ waits_for (phase.Open call work) = None
 waits_for (phase.Undoing restored work) = None
 waits_for (phase.Waiting number) = Some number
 
--- the work of an open call or of an undo, and the phase with this work in its place; another phase keeps none, and this one is
--- handed back
+-- the work of an open call or of an undo, and the phase with this work in its place; another phase keeps none, and this
+-- one is returned
 abbrev pub with_work : {B W : Type 0} → W → Phase B W → W × Phase B W
 with_work work phase.Free = (work, phase.Free)
 with_work work phase.Working = (work, phase.Working)

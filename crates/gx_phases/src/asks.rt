@@ -1,4 +1,4 @@
-//! Asking, by how far a session is and by what it holds.
+//! Asks, by a session's phase and by what it holds.
 ghost use Rattle.std.specs.Prelude.{◌≡◌, ◌<◌, ◌-◌, true, length};
 ghost use Rattle.gx_machine.specs.declared.limits.TheConstants.{SESSIONS};
 ghost use Rattle.gx_machine.specs.Keys.{keys_of};
@@ -42,14 +42,14 @@ pub fn is_begin<B>(call: &Call<B>) -> bool
     matches!(call, Call::Begin)
 }
 
-/// Whether a session that is this far has no transaction.
+/// Whether a session in this phase has no transaction.
 pub fn is_free<B: Shape, W>(phase: &Phase<B, W>) -> bool
     ensures { result ≡ is_free phase.now }
 {
     matches!(phase, Phase::Free)
 }
 
-/// Makes a session this far.
+/// Sets a session's phase.
 pub fn set_phase<B: Shape, W: Drop>(phases: &mut Vec<Phase<B, W>>, session: u8, phase: Phase<B, W>)
     requires session { is_session session ≡ true }
     requires eight { length phases.old.items ≡ SESSIONS }
@@ -79,7 +79,7 @@ fn settle<B: Shape, W: Drop>(
     }
 }
 
-/// A call of a session that has a transaction, and none open.
+/// Asks a call of a session that has a transaction and no open call.
 fn ask_working<B: Shape, W: Drop>(
     phases: &mut Vec<Phase<B, W>>,
     table: &mut Transactions<B>,
@@ -117,7 +117,7 @@ fn ask_working<B: Shape, W: Drop>(
     }
 }
 
-/// A call of a session, except for a Begin of one that has no transaction.
+/// Asks a call of a session, except for a Begin of one that has no transaction.
 pub fn ask_at<B: Shape, W: Drop>(
     phases: &mut Vec<Phase<B, W>>,
     table: &mut Transactions<B>,

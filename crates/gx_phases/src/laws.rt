@@ -1,5 +1,4 @@
-//! What the sessions' calls are to the engine's laws:
-//! whichever entries are live and whichever sets are kept, each is its event.
+//! Laws: the sessions' calls are events of the engine's laws, whichever entries are live and whichever sets are kept.
 ghost use Rattle.std.specs.Prelude.{◌≡◌, ◌≤◌, ◌<◌, ◌+◌, ◌-◌, ℕ, Bool, true, false};
 ghost use Rattle.std.specs.Prelude.{not, ◌&&◌, length, List, [], ◌∷◌, ◌++◌, drop};
 ghost use Rattle.std.specs.List.{slice_index_or};
@@ -15,8 +14,8 @@ ghost use Rattle.gx_machine.specs.Runs.{may_close};
 ghost use Rattle.gx_txn.specs.declared.note.Note.{Note};
 ghost use Rattle.gx_txn.specs.Tables.{held_by};
 ghost use Rattle.gx_events.specs.Engines.{stood};
-ghost use Rattle.gx_events.specs.Events.{IsEvent, Inserts, Deletes, FindsPresent, FindsAbsent, Finds, Closes};
-ghost use Rattle.gx_events.specs.Events.{Seals, Durable, Acknowledges, Undoes, EndsUndo, Fails, marked};
+ghost use Rattle.gx_events.specs.Happenings.{IsHappening, Inserts, Deletes, FindsPresent, FindsAbsent, Finds, Closes};
+ghost use Rattle.gx_events.specs.Happenings.{Seals, Durable, Acknowledges, Undoes, EndsUndo, Fails, marked};
 ghost use Rattle.gx_machine.specs.declared.reply.Asked.{Asked};
 ghost use Rattle.gx_index_laws.specs.Classes.{Class, IsLawful as IsLawfulClass};
 ghost use Rattle.gx_index_laws.specs.States as index;
@@ -37,69 +36,70 @@ pub fn an_answered_call_is_closed<B, W>()
         → IsKept k old → old.failed ≡ false
         → (s : ℕ) → is_session s ≡ true → (e : Entry B) (work : W)
         → phase_at (s - 1) old.phases ≡ phase.Open (Insert e) work → live e ≡ true
-        → IsEvent k (engine_of live older old) (FindsPresent s e) (engine_of live older (answered_state s old)) }
+        → IsHappening k (engine_of live older old) (FindsPresent s e) (engine_of live older (answered_state s old)) }
     ensures absent { (k : Keys B) (live : Entry B → Bool) (older : List (List (Entry B))) (old : State B W)
         → IsKept k old → old.failed ≡ false
         → (s : ℕ) → is_session s ≡ true → (e : Entry B) (work : W)
         → phase_at (s - 1) old.phases ≡ phase.Open (Delete e) work → live e ≡ false
-        → IsEvent k (engine_of live older old) (FindsAbsent s e) (engine_of live older (answered_state s old)) }
+        → IsHappening k (engine_of live older old) (FindsAbsent s e) (engine_of live older (answered_state s old)) }
     ensures found { (k : Keys B) (live : Entry B → Bool) (older : List (List (Entry B))) (old : State B W)
         → IsKept k old → old.failed ≡ false
         → (s : ℕ) → is_session s ≡ true → (query : Query B) (work : W)
         → phase_at (s - 1) old.phases ≡ phase.Open (Search query) work
         → (entries : List (Entry B)) → IsSetOf k (λ e. matches k query e && live e) entries
-        → IsEvent k (engine_of live older old) (Finds s query entries) (engine_of live older (answered_state s old)) }
+        → IsHappening k (engine_of live older old) (Finds s query entries)
+        (engine_of live older (answered_state s old)) }
     ensures closed { (k : Keys B) (live : Entry B → Bool) (older : List (List (Entry B))) (old : State B W)
         → IsKept k old → old.failed ≡ false
         → (s : ℕ) → is_session s ≡ true → (call : Call B) (work : W)
         → phase_at (s - 1) old.phases ≡ phase.Open call work
         → (why : Refusal) → may_close why ≡ true
-        → IsEvent k (engine_of live older old) (Closes s call why) (engine_of live older (answered_state s old)) }
+        → IsHappening k (engine_of live older old) (Closes s call why) (engine_of live older (answered_state s old)) }
 {}
 
-/// A write that is noted, with its entry live from then on or not: the note's mark is set where the entry wasn't live.
+/// A write that is noted, with its entry live from then on or not: the note's mark is set if the entry wasn't live.
 pub fn a_noted_write_is_answered<B, W>()
     ensures inserts { (k : Keys B) → IsLawful k → (live later : Entry B → Bool) (older : List (List (Entry B)))
         (old : State B W) → IsKept k old → old.failed ≡ false
         → (s : ℕ) → is_session s ≡ true → (e : Entry B) (leaf : ℕ) (work : W)
         → phase_at (s - 1) old.phases ≡ phase.Open (Insert e) work → live e ≡ false
         → ((x : Entry B) → later x ≡ marked k e true live x)
-        → IsEvent k (engine_of live older old) (Inserts s e)
+        → IsHappening k (engine_of live older old) (Inserts s e)
         (engine_of later older (written_state k s (record { entry = e; before = true; leaf = leaf }) old)) }
     ensures deletes { (k : Keys B) → IsLawful k → (live later : Entry B → Bool) (older : List (List (Entry B)))
         (old : State B W) → IsKept k old → old.failed ≡ false
         → (s : ℕ) → is_session s ≡ true → (e : Entry B) (leaf : ℕ) (work : W)
         → phase_at (s - 1) old.phases ≡ phase.Open (Delete e) work → live e ≡ true
         → ((x : Entry B) → later x ≡ marked k e false live x)
-        → IsEvent k (engine_of live older old) (Deletes s e)
+        → IsHappening k (engine_of live older old) (Deletes s e)
         (engine_of later older (written_state k s (record { entry = e; before = false; leaf = leaf }) old)) }
 {}
 
-/// A commit that was asked is sealed, where what stood is this set, and the kept sets but the last are as many as there
-/// are sealed commits that aren't durable; commits get durable; and a durable one is acknowledged.
+/// A commit that was asked is sealed, if the committed set is this one, and the kept sets but the last are as many as
+/// there are sealed commits that aren't durable; commits get durable; and a durable one is acknowledged.
 pub fn a_commit_goes_its_way<B, W>()
     ensures seals { (k : Keys B) (live : Entry B → Bool) (older : List (List (Entry B))) (old : State B W)
         → IsKept k old → old.failed ≡ false
         → (s : ℕ) → is_session s ≡ true → (work : W) → phase_at (s - 1) old.phases ≡ phase.Open Commit work
         → old.durable + length older ≡ old.latest → (set : List (Entry B))
         → IsSetOf k (stood k (engine_of live older old)) set
-        → IsEvent k (engine_of live older old) (Seals s set (old.latest + 1))
+        → IsHappening k (engine_of live older old) (Seals s set (old.latest + 1))
         (engine_of live (older ++ set ∷ []) (sealed_state s old)) }
     ensures durable { (k : Keys B) (live : Entry B → Bool) (older : List (List (Entry B))) (old : State B W)
         → old.failed ≡ false
         → old.durable + length older ≡ old.latest → (number : ℕ) → old.durable ≤ number → number ≤ old.latest
-        → IsEvent k (engine_of live older old) (Durable number)
+        → IsHappening k (engine_of live older old) (Durable number)
         (engine_of live (drop (number - old.durable) older) (synced_state number old)) }
     ensures acknowledges { (k : Keys B) (live : Entry B → Bool) (older : List (List (Entry B))) (old : State B W)
         → IsKept k old → old.failed ≡ false
         → (s : ℕ) → is_session s ≡ true → (number : ℕ) → phase_at (s - 1) old.phases ≡ phase.Waiting number
         → number ≤ old.durable
-        → IsEvent k (engine_of live older old) (Acknowledges s number)
+        → IsHappening k (engine_of live older old) (Acknowledges s number)
         (engine_of live older (with_phase_of s phase.Free old)) }
 {}
 
-/// An undo restores the entry of the next note: then one note more is restored. Where none is left, it ends.
-/// Before it begins, none is restored.
+/// An undo restores the entry of the next note: then one more note is restored. If none is left, it ends. Before it
+/// begins, none is restored.
 pub fn an_undo_restores_note_by_note<B, W>()
     ensures none { (k : Keys B) (live : Entry B → Bool) (notes : List (Note B)) → AreRestored k live 0 notes }
     ensures undoes { (k : Keys B) → IsLawful k → (live later : Entry B → Bool) (older : List (List (Entry B)))
@@ -109,7 +109,7 @@ pub fn an_undo_restores_note_by_note<B, W>()
         → restored < length (held_by s old.table).notes → (n : Note B)
         → n ≡ slice_index_or (held_by s old.table).notes restored n
         → ((x : Entry B) → later x ≡ marked k n.entry (not n.before) live x)
-        → IsEvent k (engine_of live older old) (Undoes s n.entry)
+        → IsHappening k (engine_of live older old) (Undoes s n.entry)
         (engine_of later older (with_phase_of s (phase.Undoing (restored + 1) then_work) old)) }
     ensures restored { (k : Keys B) → IsLawful k → (live later : Entry B → Bool) (old : State B W) → IsKept k old
         → (s : ℕ) → is_session s ≡ true
@@ -123,13 +123,13 @@ pub fn an_undo_restores_note_by_note<B, W>()
         → (s : ℕ) → is_session s ≡ true → (restored : ℕ) (work : W)
         → phase_at (s - 1) old.phases ≡ phase.Undoing restored work
         → length (held_by s old.table).notes ≤ restored → AreRestored k live restored (held_by s old.table).notes
-        → IsEvent k (engine_of live older old) (EndsUndo s) (engine_of live older (ended_state s old)) }
+        → IsHappening k (engine_of live older old) (EndsUndo s) (engine_of live older (ended_state s old)) }
 {}
 
-/// A fault is seen by no session.
+/// No session sees a fault.
 pub fn a_fault_is_seen_by_no_session<B, W>()
     ensures { (k : Keys B) (live : Entry B → Bool) (older : List (List (Entry B))) (old : State B W)
-        → IsEvent k (engine_of live older old) Fails (engine_of live older (failed_state old)) }
+        → IsHappening k (engine_of live older old) Fails (engine_of live older (failed_state old)) }
 {}
 
 /// An ask is an event of the whole index, whose sessions these are: its new sessions are those of the index that the

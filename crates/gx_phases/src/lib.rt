@@ -1,7 +1,7 @@
-//! What an engine keeps of its sessions: how far each one is, its transaction's number, its locks and its notes.
+//! What an engine keeps of its sessions: each one's phase, its transaction's number, its locks and its notes.
 //!
-//! There is no page and no log in it. An ask is decided by it alone; the engine reports what comes of a session's call
-//! over the tree and the log by small steps.
+//! It has no pages and no log. It decides asks by itself; the engine reports the progress of a session's call over the
+//! tree and the log by small steps.
 #![tactic(auto)]
 
 mod asks;

@@ -23,7 +23,7 @@ fn free_phases<B: Shape, W: Drop>(alloc: Global) -> Result<Vec<Phase<B, W>>, All
     Ok(phases)
 }
 
-/// How far each of eight sessions is, its transaction's number, its locks and its notes; and the numbers of the next
+/// The phase of each of eight sessions, its transaction's number, its locks and its notes; and the numbers of the next
 /// transaction, of the last commit and of the last one that is durable.
 ///
 /// A session is a number from 1 to 8. Only `new` takes memory.
@@ -71,7 +71,7 @@ impl<B: Shape, W: Drop> Sessions<B, W> {
     ghost use Rattle.gx_machine.specs.declared.entry.Entry.{Entry};
     ghost use Rattle.gx_machine.specs.declared.call.Call.TheVariants.{Insert};
     ghost use Rattle.gx_machine.specs.declared.limits.TheConstants.{LAST_NUMBER};
-    ghost use Rattle.gx_events.specs.Events.{IsEvent};
+    ghost use Rattle.gx_events.specs.Happenings.{IsHappening};
     ghost use Rattle.gx_txn.specs.Tables.{held_by, claimed_in, locks_for, IsKept as HeldIsKept};
     ghost use Rattle.gx_phases.specs.States.{fresh_state, engine_of, phase_at, with_phase_of, IsKept};
     ghost use Rattle.gx_phases.specs.Moves.{is_open, asks_commit, HasWrite, is_undoing, waits_for};
@@ -80,8 +80,9 @@ impl<B: Shape, W: Drop> Sessions<B, W> {
     ghost use Rattle.gx_phases.specs.Moves.{sealed_state, ended_state, synced_state, failed_state};
     ghost use Rattle.gx_phases.specs.Asked.{Begun, IsAsked, asked_event, begins, is_full};
 
-    /// Sessions without a transaction, where the last commit has the number `latest`, that of `durable` is durable, and
-    /// the next transaction gets the number `next`. It takes all places for claims, notes and predicates.
+    /// Makes sessions without a transaction. The last commit has the number `latest`, commits are durable up to
+    /// `durable`, and the next transaction gets the number `next`. It allocates all places for claims, notes and
+    /// predicates.
     pub fn new(alloc: Global, latest: u64, durable: u64, next: u64) -> Result<Self, AllocError>
         requires sealed { durable ≤ latest }
         ensures { IfOk result (λ sessions. sessions ≡ fresh_state W latest durable next) }
@@ -112,7 +113,7 @@ impl<B: Shape, W: Drop> Sessions<B, W> {
         asks::is_free(&self.phases[asks::place_of(session)]) && asks::is_begin(call)
     }
 
-    /// A Begin of a session without a transaction.
+    /// Begins a transaction of a session without one.
     fn begin_transaction(&mut self, session: u8) -> Asked<B>
         requires session { is_session session ≡ true }
         ensures { Begun (is_full self.old) session self.old result self.new }
@@ -126,19 +127,19 @@ impl<B: Shape, W: Drop> Sessions<B, W> {
         Asked::Now(Reply::Ok)
     }
 
-    /// Asks a call of a session, from 1 to 8, whose work over the tree begins so. It takes no memory.
+    /// Asks a call of a session, from 1 to 8, whose work over the tree begins in this state. It takes no memory.
     ///
-    /// The reply comes at once where the call is refused and for a Begin, which gives the session the next
-    /// transaction's number; else the call is open. Refusals, the first that holds: `Failed` once a fault has made the
-    /// engine fail; `BadSession` for another number; `CallOpen` where the session has a call open, undoes or waits for
-    /// its commit; `InTransaction` for a Begin in a transaction, `NoTransaction` for another call outside of one;
-    /// `HistoryFull` for a Begin where the number of the last commit or of the next transaction is 2^64 - 9 or more;
-    /// `Busy` with the least other session that conflicts; `ClaimsFull` and `PredicatesFull` where the places are
-    /// taken. A refused call changes nothing.
+    /// The reply comes at once if the call is refused, and for a Begin, which gives the session the next transaction's
+    /// number; else the call is open. Refused for the first that holds: `Failed` once a fault has made the engine fail;
+    /// `BadSession` for another number; `CallOpen` if the session has a call open, undoes or waits for its commit;
+    /// `InTransaction` for a Begin in a transaction, `NoTransaction` for another call outside of one; `HistoryFull` for
+    /// a Begin if the number of the last commit or of the next transaction is 2^64 - 9 or more; `Busy` with the least
+    /// other session that conflicts; `ClaimsFull` and `PredicatesFull` if the places are taken. A refused call changes
+    /// nothing.
     pub fn ask(&mut self, session: u8, call: Call<B>, work: W) -> Asked<B>
         ensures asked { IsAsked (keys_of B.Shape) session call work self.old result self.new }
         ensures event { (live : Entry B → Bool) (older : List (List (Entry B)))
-            → IsEvent (keys_of B.Shape) (engine_of live older self.old) (asked_event session call self.old result)
+            → IsHappening (keys_of B.Shape) (engine_of live older self.old) (asked_event session call self.old result)
             (engine_of live older self.new) }
     {
         if self.failed {
@@ -153,7 +154,7 @@ impl<B: Shape, W: Drop> Sessions<B, W> {
         asks::ask_at(&mut self.phases, &mut self.table, session, call, work)
     }
 
-    /// How far a session is.
+    /// A session's phase.
     pub fn phase(&self, session: u8) -> &Phase<B, W>
         requires { is_session session ≡ true }
         ensures { result.now ≡ phase_at (session - 1) self.now.phases }
@@ -190,7 +191,7 @@ impl<B: Shape, W: Drop> Sessions<B, W> {
         self.durable
     }
 
-    /// What is kept of sessions, on any device.
+    /// The invariant of sessions, on any device.
     pub fn stands(&self)
         ensures { IsKept (keys_of B.Shape) self.now }
     {
@@ -221,8 +222,8 @@ impl<B: Shape, W: Drop> Sessions<B, W> {
         self.table.notes(session)
     }
 
-    /// Gives an open call or an undo this work, and hands back the work that it had.
-    /// A session with neither hands this back.
+    /// Gives an open call or an undo this work, and returns the work that it had. A session with neither returns this
+    /// work.
     pub fn replace_work(&mut self, session: u8, work: W) -> W
         requires { is_session session ≡ true }
         ensures given { result ≡ (with_work work (phase_at (session - 1) self.old.phases)).0 }
@@ -232,7 +233,7 @@ impl<B: Shape, W: Drop> Sessions<B, W> {
         steps::replace_work(&mut self.phases, session, work)
     }
 
-    /// Closes a session's open call, which is answered. What it took stays.
+    /// Closes a session's open call, which gets its reply. Its locks stay.
     pub fn answer(&mut self, session: u8)
         requires session { is_session session ≡ true }
         requires open { is_open (phase_at (session - 1) self.old.phases) ≡ true }
@@ -242,8 +243,8 @@ impl<B: Shape, W: Drop> Sessions<B, W> {
     }
 
     /// Notes what a session's open insert or delete of this entry wrote in a leaf, and closes the call: `before` is the
-    /// entry's mark from before this write, set where it was marked or absent. Of all writes of an entry, the first
-    /// one's `before` and the last one's leaf are kept.
+    /// entry's mark from before this write, set if it was marked or absent. Of all writes of an entry, the first one's
+    /// `before` and the last one's leaf are kept.
     pub fn note(&mut self, session: u8, entry: Entry<B>, before: bool, leaf: u32)
         requires session { is_session session ≡ true }
         requires write { HasWrite entry (phase_at (session - 1) self.old.phases) }
@@ -254,8 +255,8 @@ impl<B: Shape, W: Drop> Sessions<B, W> {
         steps::close(&mut self.phases, session);
     }
 
-    /// Seals the commit that a session has asked: it gets the next number, which is the answer, and the session waits
-    /// for that to be durable. Its locks and notes are free.
+    /// Seals the commit that a session has asked: gives it the next number, which is returned, and the session waits
+    /// until that is durable. Its locks and notes are free.
     pub fn seal(&mut self, session: u8) -> u64
         requires session { is_session session ≡ true }
         requires commit { asks_commit (phase_at (session - 1) self.old.phases) ≡ true }
@@ -269,7 +270,7 @@ impl<B: Shape, W: Drop> Sessions<B, W> {
         number
     }
 
-    /// The number of a session's commit, where it waits for one that is durable.
+    /// The number of a session's commit, if the session waits for it and it is durable.
     fn covered(&self, session: u8) -> Option<u64>
         requires { is_session session ≡ true }
         ensures { result ≡ covered self.now.durable (waits_for (phase_at (session - 1) self.now.phases)) }
@@ -284,8 +285,8 @@ impl<B: Shape, W: Drop> Sessions<B, W> {
         }
     }
 
-    /// Acknowledges a session's commit exactly where its number is durable: the answer is that number, and the session
-    /// is free. Else nothing changes.
+    /// Acknowledges a session's commit exactly if its number is durable: returns that number, and the session is free.
+    /// Else nothing changes.
     pub fn acknowledge(&mut self, session: u8) -> Option<u64>
         requires { is_session session ≡ true }
         ensures number { result ≡ covered self.old.durable (waits_for (phase_at (session - 1) self.old.phases)) }
@@ -300,7 +301,7 @@ impl<B: Shape, W: Drop> Sessions<B, W> {
         }
     }
 
-    /// How many notes an undo of a session has restored, where one is left: the place of the note to be restored next.
+    /// How many notes an undo of a session has restored, if one is left: the place of the note to be restored next.
     pub fn next_restored(&self, session: u8) -> Option<usize>
         requires { is_session session ≡ true }
         ensures next { result ≡ next_of session self.now }
@@ -316,8 +317,8 @@ impl<B: Shape, W: Drop> Sessions<B, W> {
         }
     }
 
-    /// Counts one note more as restored, by a write in this leaf, and takes the work on the next. The note keeps its
-    /// mark from before, and has this leaf from now on. Where none is left, nothing changes.
+    /// Counts one more note as restored, by a write in this leaf, and takes the state of the work on the next. The note
+    /// keeps its mark from before, and has this leaf from now on. If none is left, nothing changes.
     pub fn restored(&mut self, session: u8, leaf: u32, work: W)
         requires { is_session session ≡ true }
         ensures { RestoredOne (next_of session self.old) session leaf work self.old self.new }
@@ -332,7 +333,7 @@ impl<B: Shape, W: Drop> Sessions<B, W> {
         }
     }
 
-    /// Ends a session's undo: its locks and notes are free, and so is it.
+    /// Ends a session's undo: frees its locks and notes, and the session.
     pub fn end_undo(&mut self, session: u8)
         requires session { is_session session ≡ true }
         requires undoes { is_undoing (phase_at (session - 1) self.old.phases) ≡ true }
@@ -342,7 +343,7 @@ impl<B: Shape, W: Drop> Sessions<B, W> {
         steps::free(&mut self.phases, session);
     }
 
-    /// Commits are durable up to this number, which is sealed.
+    /// Notes that commits are durable up to this number, which is sealed.
     pub fn synced(&mut self, number: u64)
         requires rises { self.old.durable ≤ number }
         requires sealed { number ≤ self.old.latest }
@@ -351,7 +352,7 @@ impl<B: Shape, W: Drop> Sessions<B, W> {
         self.durable = number;
     }
 
-    /// A fault has made the engine fail: from now on it only refuses.
+    /// Notes that a fault has made the engine fail: from now on it only refuses.
     pub fn fail(&mut self)
         ensures { self.new ≡ failed_state self.old }
     {
@@ -361,8 +362,8 @@ impl<B: Shape, W: Drop> Sessions<B, W> {
     /// Takes up one note of a transaction that a crash has left to be undone: the session, which has no transaction or
     /// undoes one, claims the note's entry, has noted it, and undoes this transaction from its first note on.
     ///
-    /// Refusals, as of a claim: `Busy` with the least other session that claims the entry, `ClaimsFull` where 512
-    /// claims are held in all and the session lacks this one. Then nothing changes.
+    /// Refused as a claim is: `Busy` with the least other session that claims the entry, `ClaimsFull` if 512 claims are
+    /// held in all and the session doesn't have this one. Then nothing changes.
     pub fn hold_loser(
         &mut self,
         session: u8,

@@ -1,4 +1,4 @@
-//! What is read of a session that is so far, and how its work is changed.
+//! What is read of a session by its phase, and how its work is changed.
 ghost use Rattle.std.specs.Prelude.{◌≡◌, ◌-◌, ◌<◌, true, length};
 ghost use Rattle.gx_machine.specs.declared.limits.TheConstants.{SESSIONS};
 ghost use Rattle.gx_machine.specs.Machine.{is_session};
@@ -41,7 +41,7 @@ pub fn release<B: Shape>(table: &mut Transactions<B>, session: u8)
     table.end(session);
 }
 
-/// Claims a note's entry for a session, and notes it; or says why it can't be claimed.
+/// Claims a note's entry for a session, and notes it; or returns why it can't be claimed.
 pub fn hold<B: Shape>(
     table: &mut Transactions<B>,
     session: u8,
@@ -93,7 +93,7 @@ pub fn restored_by<B: Shape, W>(phase: &Phase<B, W>) -> Option<usize>
     }
 }
 
-/// Gives a phase this work, and hands back what it had; or hands this back.
+/// Gives a phase this work, and returns what it had; or returns this work.
 fn put_work<B: Shape, W: Drop>(phase: &mut Phase<B, W>, work: W) -> W
     ensures given { result ≡ (with_work work phase.old).0 }
     ensures phase { phase.new ≡ (with_work work phase.old).1 }
@@ -105,7 +105,7 @@ fn put_work<B: Shape, W: Drop>(phase: &mut Phase<B, W>, work: W) -> W
     }
 }
 
-/// Gives a session this work, and hands back what it had; or hands this back.
+/// Gives a session this work, and returns what it had; or returns this work.
 pub fn replace_work<B: Shape, W: Drop>(phases: &mut Vec<Phase<B, W>>, session: u8, work: W) -> W
     requires session { is_session session ≡ true }
     requires eight { length phases.old.items ≡ SESSIONS }

@@ -28,7 +28,7 @@ place_within (y ∷ ys) zero x at = omega arith
 place_within (y ∷ ys) (suc i) x at = let less : i < length ys = place_within ys i x at in omega arith
 
 module _ {B : Type 0} (k : Keys B) (l : IsLawful k) where
-  -- an entry that comes before all of a tail is put in what stands in front of it
+  -- an entry that comes before all of a tail is put in the part in front of it
   behind_by : (a z : Entry B) (zs ys : List (Entry B)) (o : Ordering) → entry_cmp k a z ≡ o → including k a (zs ++ ys) ≡ including k a zs ++ ys
       → including k a (z ∷ (zs ++ ys)) ≡ including k a (z ∷ zs) ++ ys
   behind_by a z zs ys Less h rest = including_by k l Less a z (zs ++ ys) h ∙ sym (ap (λ s. s ++ ys) (including_by k l Less a z zs h))
@@ -44,7 +44,7 @@ module _ {B : Type 0} (k : Keys B) (l : IsLawful k) where
   before_all_through a e [] h b = tt
   before_all_through a e (y ∷ ys) h b = ((entry_total k l).trans a e y h b.0, before_all_through a e ys h b.1)
 
-  -- entries that come before all of a tail are put in what stands in front of it
+  -- entries that come before all of a tail are put in the part in front of it
   pub all_behind : (e : Entry B) (more zs ys : List (Entry B)) → Below k e more → Before k e ys → including_all k more (zs ++ ys) ≡ including_all k more zs ++ ys
   all_behind e [] zs ys b c = refl
   all_behind e (a ∷ more) zs ys b c =
@@ -86,7 +86,7 @@ module _ {B : Type 0} (k : Keys B) (l : IsLawful k) where
   before_here x [] e tail b = b.0
   before_here x (y ∷ front) e tail b = before_here x front e tail b.1
 
-  -- in a list in order, what stands before an entry comes before it
+  -- in a list in order, the items in front of an entry come before it
   pub below_in_order : (front : List (Entry B)) (e : Entry B) (tail : List (Entry B)) → InOrder k (front ++ e ∷ tail) → Below k e front
   below_in_order [] e tail o = tt
   below_in_order (x ∷ front) e tail o = (before_here x front e tail o.0, below_in_order front e tail o.1)
@@ -156,7 +156,7 @@ module _ {B : Type 0} (k : Keys B) (l : IsLawful k) where
   front_lacks first old more count end j e le same none at =
       ap (has k e) (same_front first old count end le same) ∙ lacks_take e end (take count first) (lacks_here (take count first) more j e none at)
 
-  -- the same of a turn whose entry is told by its place
+  -- the same of a turn whose entry is given by its place
   pub last_put : (more old new : List (Entry B)) (j end at : ℕ) (e : Entry B) → InOrder k more → slice_get more j ≡ Some e
       → at ≤ end → Below k e (take at (take end old)) → Before k e (drop at (take end old))
       → drop (at + j) new ≡ e ∷ (drop at (take end old) ++ drop (end + j + 1) old)

@@ -4,11 +4,10 @@ use Rattle.std.specs.Prelude.{Option, None, Some, option_map, MatchOption, sum_b
 use Rattle.std.specs.List.{slice_index_or}
 use Rattle.std.proofs.lemmas.List.{set-get_or, length-append, length-set, drop_all}
 use Rattle.gx_machine.specs.declared.entry.Entry.{Entry}
-use Rattle.gx_machine.specs.declared.call.Call.{Call}
 use Rattle.gx_machine.specs.Keys.{Keys}
 use Rattle.gx_machine.specs.Sets.{InOrder}
 use Rattle.gx_machine.specs.Sessions.{Session, Idle, Open, Aborting, Committing, claims_of, sealed_set, closed_session}
-use Rattle.gx_machine.specs.Machine.{Machine, newest, kept_sets, is_session, session_at, with_session, seal, durable, close}
+use Rattle.gx_machine.specs.Machine.{Machine, newest, kept_sets, is_session, session_at, with_session, seal, durable}
 use Rattle.gx_machine.specs.Runs.{Seals, Durable, IsRun}
 use Rattle.gx_machine.proofs.StepEffects.{mapped}
 use Rattle.gx_plain.specs.Index.{Index, SealsIndex, DropsIndex}
@@ -53,7 +52,7 @@ module _ {B : Type 0} (k : Keys B) where
     found_at =
         ap (λ (t : Bool). cond t (slice_index_or sessions (s - 1) Idle) Idle) session ∙ ap (λ (p : ℕ). slice_index_or sessions p Idle) (sym at)
 
-    -- the sessions, where the one at the place is as it was
+    -- the sessions, where the one at the place is unchanged
     same_sessions : x' ≡ slice_index_or sessions place Idle → sessions' ≡ sessions
     same_sessions same = changed ∙ ap (slice_set sessions place) same ∙ set-get_or sessions place Idle
 

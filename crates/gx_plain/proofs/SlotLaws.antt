@@ -43,7 +43,7 @@ module _ {B : Type 0} (k : Keys B) where
   claims_given locks (Ok g) = length g.claims
   claims_given locks (Err why) = length locks.claims
 
-  -- claims are taken only where places are left
+  -- claims are taken only if places are left
   claim_few : (e : Entry B) (spent : ℕ) (claimed room : Bool) (locks : Locks B) → (room ≡ true → spent + 1 ≤ 512) → spent ≤ 512
       → claims_given locks (claim_given k e claimed room locks) + spent ≤ length locks.claims + 512
   claim_few e spent true room locks left places = omega arith

@@ -32,7 +32,7 @@ abbrev pub is_decided : {B : Type 0} → Reply B → Bool
 is_decided (reply.Refused why) = is_decided_refusal why
 is_decided other = true
 
--- a call that was answered, with such a reply
+-- a call that got such a reply
 abbrev pub AnswersDecided : {I B : Type 0} → (I → ℕ → Call B → Reply B → I → Type 0) → I → ℕ → Call B → Reply B → I → Type 0
 AnswersDecided answered old s call r new = answered old s call r new × (is_decided r ≡ true)
 

@@ -2,6 +2,5 @@ pub mod Slots
 pub mod Index
 pub mod Kept
 pub mod Runs
-pub mod Boxes
 pub mod OneRun
 pub mod Decided

@@ -104,7 +104,7 @@ IsFree (Open locks changes (Some call)) = ⊥
 IsFree (Aborting locks) = ⊥
 IsFree (Committing number) = ⊥
 
--- an answer that takes memory: an entry is kept, or entries are handed out
+-- a reply that takes memory: an entry is kept, or entries are returned
 abbrev pub takes_memory : {B : Type 0} → Reply B → Bool
 takes_memory replies.Ok = false
 takes_memory replies.Inserted = true
@@ -121,7 +121,7 @@ Closes given old reply new =
     ((reply ≡ given.0) × (new ≡ Open (locks_of old) given.1 None))
     ⊎ ((takes_memory given.0 ≡ true) × (reply ≡ replies.Refused Memory) × (new ≡ Open (locks_of old) (changes_of old) None))
 
--- the last committed set and the number of commits stay as they were
+-- the last committed set and the number of commits stay unchanged
 abbrev pub SameSet : {B : Type 0} → List (Entry B) → ℕ → List (Entry B) → ℕ → Type 0
 SameSet latest commits latest' commits' = (latest' ≡ latest) × (commits' ≡ commits)
 
@@ -155,14 +155,14 @@ pub record SlotSeals {B : Type 0} (k : Keys B) (old : Session B) (latest : List 
   pub number_is : number ≡ commits + 1
   pub commits_is : commits' ≡ number
 
--- there is no commit to seal, and all stays as it was
+-- there is no commit to seal, and all stays unchanged
 pub record NothingSealed {B : Type 0} (k : Keys B) (old : Session B) (latest : List (Entry B)) (commits : ℕ) (new : Session B) (latest' : List (Entry B)) (commits' : ℕ) : Type 0 where
   pub none : sealed_set k latest old ≡ None
   pub session : new ≡ old
   pub latest_is : latest' ≡ latest
   pub commits_is : commits' ≡ commits
 
--- an open call is closed without an answer, or there is none and the session stays as it was
+-- an open call is closed without an answer, or there is none and the session stays unchanged
 abbrev pub SlotDrops : {B : Type 0} → Session B → Bool → Session B → Type 0
 SlotDrops old true new = closed_session old ≡ Some new
 SlotDrops old false new = (closed_session old ≡ None) × (new ≡ old)

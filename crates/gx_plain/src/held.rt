@@ -1,9 +1,9 @@
 //! What a transaction holds, as vectors: claims, predicates, and its own changes (claims with predicates:
 //! Kornacker, Mohan, Hellerstein 1997).
 ghost use Rattle.std.specs.Prelude.{◌≡◌, ◌<◌, ◌≤◌, ◌+◌, ◌++◌, ◌∷◌, [], ◌||◌, length, nat_lt};
-ghost use Rattle.std.specs.Prelude.{vec_len, vec_capacity, true, IfOk, if◌then◌else◌};
+ghost use Rattle.std.specs.Prelude.{vec_len, vec_capacity, true, if◌then◌else◌};
 ghost use Rattle.gx_machine.specs.Keys.{keys_of, matches};
-ghost use Rattle.gx_machine.specs.Sets.{has, including, found, including_all, excluding_all};
+ghost use Rattle.gx_machine.specs.Sets.{has, including};
 ghost use Rattle.gx_machine.specs.Invariants.{Covered};
 ghost use Rattle.gx_machine.specs.Sessions.{has_query};
 ghost use Rattle.std.specs.List.{list_any};
@@ -40,7 +40,7 @@ pub fn write_conflicts<B: Shape>(e: &Entry<B>, claims: &[Entry<B>], predicates: 
     gx_machine::has(e, claims) || any_matches(predicates, e)
 }
 
-/// Claims an entry. False, and nothing changes, exactly where the session lacks it and all places are spent.
+/// Claims an entry. Returns false, and changes nothing, exactly if the session doesn't have it and all places are used.
 pub fn claim<B: Shape>(e: Entry<B>, claims: &mut Vec<Entry<B>>, spent: usize) -> bool
     requires room { MAX_CLAIMS ≤ vec_capacity claims.old }
     requires spent { vec_len claims.old ≤ spent }
@@ -63,7 +63,8 @@ pub fn claim<B: Shape>(e: Entry<B>, claims: &mut Vec<Entry<B>>, spent: usize) ->
     true
 }
 
-/// Holds a predicate. False, and nothing changes, exactly where the session lacks it and its places are spent.
+/// Holds a predicate. Returns false, and changes nothing, exactly if the session doesn't have it and its places are
+/// used.
 pub fn hold<B: Shape>(query: Query<B>, predicates: &mut Vec<Query<B>>) -> bool
     requires { MAX_PREDICATES ≤ vec_capacity predicates.old }
     ensures place { result ≡ has_query (keys_of B.Shape) query predicates.old.items

@@ -1,6 +1,6 @@
 //! The plain index.
 ghost use Rattle.std.specs.Prelude.{vec_len, vec_capacity, nat_le, ◌||◌, ◌&&◌, ◌≡◌, ◌<◌, ◌≤◌, ◌+◌, ◌-◌, Some, IfOk};
-ghost use Rattle.std.specs.Prelude.{MatchOption, IsTrue, ⊤, false, true, ◌^◌, length, sum_by, slice_set, replicate};
+ghost use Rattle.std.specs.Prelude.{MatchOption, ⊤, false, true, ◌^◌, length, sum_by, slice_set, replicate};
 ghost use Rattle.std.specs.List.{slice_index_or};
 ghost use Rattle.gx_machine.specs.declared.limits.TheConstants.{MAX_CLAIMS};
 ghost use Rattle.gx_machine.specs.Keys.{keys_of};
@@ -174,7 +174,7 @@ fn drop_at<B: Shape>(slots: &mut Vec<Slot<B>>, place: usize) -> bool
 
 /// An index of entries as a set machine over a sorted list: for up to eight sessions, in memory.
 ///
-/// It is the plain program of the definitions, slow and exact, which other indexes are compared with.
+/// It is the plain program of the definitions, slow and exact. Other indexes are compared with it.
 #[derive(Drop)]
 pub struct PlainIndex<B: Shape> {
     committed: Vec<Entry<B>>,
@@ -211,7 +211,7 @@ impl<B: Shape> PlainIndex<B> {
     ghost use Rattle.gx_plain.specs.Index.{fresh_index, ask_index, AnswersIndex, CallsIndex, SealsIndex, DropsIndex};
     ghost use Rattle.gx_plain.specs.Runs.{IsPlain};
 
-    /// An index with nothing committed. It takes the room for all claims and predicates, and for deletes.
+    /// Makes an index with nothing committed. It allocates the memory for all claims and predicates, and for deletes.
     pub fn new(alloc: Global) -> Result<Self, AllocError>
         ensures { IfOk result (λ index. index ≡ fresh_index) }
     {
@@ -225,12 +225,12 @@ impl<B: Shape> PlainIndex<B> {
 
     /// Asks a call of a session, from 1 to 8. It takes no memory.
     ///
-    /// The reply comes at once where the call is refused and for a Begin; else the call is open until it is
-    /// answered. Refusals, the first that holds: `BadSession` for another number; `CallOpen` where the session has
-    /// a call open, has asked for its abort or waits for its commit; `InTransaction` for a Begin in a transaction,
-    /// `NoTransaction` for another call outside of one; `HistoryFull` for a Begin where the number of the last commit
-    /// or of the next transaction is 2^64 - 9 or more; `Busy` with the least other session that conflicts; `ClaimsFull`
-    /// and `PredicatesFull` where the places are taken. A refused call changes nothing.
+    /// The reply comes at once if the call is refused, and for a Begin; else the call is open until it gets its reply.
+    /// Refused for the first that holds: `BadSession` for another number; `CallOpen` if the session has a call open,
+    /// has asked for its abort or waits for its commit; `InTransaction` for a Begin in a transaction, `NoTransaction`
+    /// for another call outside of one; `HistoryFull` for a Begin if the number of the last commit or of the next
+    /// transaction is 2^64 - 9 or more; `Busy` with the least other session that conflicts; `ClaimsFull` and
+    /// `PredicatesFull` if the places are taken. A refused call changes nothing.
     pub fn ask(&mut self, session: u8, call: Call<B>) -> Asked<B>
         ensures asked { result ≡ (ask_index (keys_of B.Shape) session call self.old).0 }
         ensures index { self.new ≡ (ask_index (keys_of B.Shape) session call self.old).1 }
@@ -248,11 +248,11 @@ impl<B: Shape> PlainIndex<B> {
         ask_at(&mut self.slots, place, call, least, spent)
     }
 
-    /// Answers the open call of a session, or its abort. A commit is sealed, durable and answered in one.
+    /// Replies to the open call of a session, or to its abort. A commit is sealed, durable and replied to in one step.
     ///
-    /// Refusals: `BadSession` for a number outside of 1 to 8; `NoCall` where nothing is open; `Present` for an insert
-    /// of an entry that the session sees; `Absent` for a delete of one that it doesn't; `Memory` for an insert or
-    /// a search that needs memory and is refused it. The call is then closed, and may be asked again.
+    /// Refused with `BadSession` for a number outside of 1 to 8; `NoCall` if nothing is open; `Present` for an insert
+    /// of an entry that the session sees; `Absent` for a delete of one that it doesn't; `Memory` for an insert or a
+    /// search that needs memory and is refused it. The call is then closed, and may be asked again.
     pub fn answer(&mut self, session: u8) -> Reply<B>
         ensures { AnswersIndex (keys_of B.Shape) session self.old result self.new }
     {
@@ -270,8 +270,8 @@ impl<B: Shape> PlainIndex<B> {
     }
 
     /// Seals the open commit of a session under the next number, which it returns: the last committed set becomes what
-    /// the session sees, durable at once, and its claims and predicates are free. `answer` of the session then gives
-    /// `Committed` with that number. `None`, and nothing changes, where the session has no commit open.
+    /// the session sees, durable at once, and its claims and predicates are free. `answer` of the session then returns
+    /// `Committed` with that number. Returns `None`, and changes nothing, if the session has no open commit.
     pub fn seal(&mut self, session: u8) -> Option<u64>
         ensures { SealsIndex (keys_of B.Shape) session self.old result self.new }
     {
@@ -285,8 +285,8 @@ impl<B: Shape> PlainIndex<B> {
     }
 
     /// Closes the open call of a session without an answer. The session keeps its transaction, its claims and its
-    /// predicates, and the call may be asked again. `false`, and nothing changes, where the session has no call open;
-    /// an abort and a sealed commit are no open calls.
+    /// predicates, and the call may be asked again. Returns `false`, and changes nothing, if the session has no open
+    /// call; an abort and a sealed commit are no open calls.
     pub fn drop_call(&mut self, session: u8) -> bool
         ensures { DropsIndex session self.old result self.new }
     {
@@ -296,14 +296,14 @@ impl<B: Shape> PlainIndex<B> {
         }
     }
 
-    /// What such an index is, always: eight sessions, each commit durable, and no fault has made it fail.
+    /// The index's invariant: eight sessions, each commit durable, and no fault has made it fail.
     pub fn stands(&self)
         ensures { IsPlain self.now }
     {
         let _ = &self.slots;
     }
 
-    /// Asks a call and, where it is then open, answers it. The refusals are those of `ask` and of `answer`.
+    /// Asks a call and, if it is then open, answers it. The refusals are those of `ask` and of `answer`.
     pub fn call(&mut self, session: u8, call: Call<B>) -> Reply<B>
         ensures { CallsIndex (keys_of B.Shape) self.old session call result self.new }
     {

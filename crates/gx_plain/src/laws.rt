@@ -1,4 +1,4 @@
-//! Laws: what the plain index has to do with runs of the set machine, and what holds of every such run.
+//! Laws that relate the plain index to runs of the set machine, and laws of every such run.
 ghost use Rattle.std.specs.Prelude.{◌≡◌, ℕ, List, true, Some, [], ◌∷◌};
 ghost use Rattle.gx_geom.specs.declared.refusal.Refusal.{Refusal};
 ghost use Rattle.gx_machine.specs.Runs.{Seals, Durable, Closes, IsStep, IsRun, may_close};
@@ -28,7 +28,8 @@ pub fn a_fresh_index_is_plain<B>()
     ensures { IsPlain (fresh_index {B = B}) }
 {}
 
-/// Asking is one step of the machine, an ask or a Begin refused because numbers are used up, and keeps the index plain.
+/// Asking is one step of the machine, an ask or a Begin refused because numbers are used up, and keeps the index's
+/// invariant.
 pub fn asking_is_a_step<B>()
     ensures step { (k : Keys B) (s : ℕ) (call : Call B) (index : Index B) → IsPlain index → AskIsRun k s call index }
     ensures plain { (k : Keys B) (s : ℕ) (call : Call B) (index : Index B) → IsPlain index
@@ -36,7 +37,7 @@ pub fn asking_is_a_step<B>()
 {}
 
 /// Answering is a run of the machine, and keeps the index plain. The run is an answer; a commit's seal, its becoming
-/// durable and its answer; a call closed because memory is refused; or nothing, where there is nothing to answer.
+/// durable and its answer; a call closed because memory is refused; or nothing, if there is nothing to answer.
 pub fn answering_is_a_run<B>()
     ensures run { (k : Keys B) (s : ℕ) (old new : Index B) (reply : Reply B) → IsPlain old
         → AnswersIndex k s old reply new → AnswerIsRun k s old reply new }
@@ -71,7 +72,7 @@ pub fn each_call_is_a_run<B>()
         → CallsIndex k old s call reply new → IsPlain new }
 {}
 
-/// What the lines of a script ask and are answered is one run of the machine, joined over all lines, whatever pieces
+/// The calls of a script's lines and their replies are one run of the machine, joined over all lines, whatever pieces
 /// the script came in; its replies are those of the text.
 pub fn each_script_is_one_run<B>()
     ensures { (grammar : Grammar B) (k : Keys B) (number : ℕ) (lines : List (Line B)) (old new : Index B)
@@ -89,8 +90,7 @@ pub fn a_call_alone_decides_its_reply<B>()
         → IsDecidedCall k s call reply old new }
 {}
 
-/// What the lines of a script are answered, where each reply is decided by the calls,
-/// has the text that the calls alone decide.
+/// If the calls decide each reply to the lines of a script, the replies have the text that the calls alone decide.
 pub fn texts_are_decided_by_calls<B>()
     ensures { (grammar : Grammar B) (k : Keys B) (number : ℕ) (lines : List (Line B)) (old new : Index B)
         (text : List ℕ) → IsPlain old → Rests old.machine

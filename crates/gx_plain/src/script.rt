@@ -24,11 +24,11 @@ impl<B: Shape> Answers<B> for PlainIndex<B> {
 
 /// Reads a script to its end, asks the index for the calls of its lines, and writes the replies.
 ///
-/// All lines of a reply are written before the next line's call is asked. A line that isn't one of a script's is
-/// answered by its number, and the script goes on. It ends well where the reader's last call gave nothing. Faults:
-/// `Read` where that failed, or 2^32 calls were made of the reader; `Write` where the writer's last call failed or took
-/// nothing, or 2^32 calls were made of the writer. What was written then is a beginning of the text; replies given
-/// before stay valid. An interrupted read or write is made again.
+/// All lines of a reply are written before the next line's call is asked. The reply to a line that isn't a script's
+/// names its number, and the script goes on. It ends well when the reader's last call gave nothing. Faults: `Read` if
+/// that call failed, or 2^32 calls of the reader were made; `Write` if the writer's last call failed or took nothing,
+/// or 2^32 calls of the writer were made. What was written by then is a beginning of the text; earlier replies remain
+/// valid. An interrupted read or write is made again.
 pub fn run_plain<B: Corners, R: Read, W: Write>(
     reader: &mut Noted<R>,
     writer: &mut Noted<W>,

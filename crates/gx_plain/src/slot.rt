@@ -1,6 +1,6 @@
 //! A session of the plain index.
 ghost use Rattle.std.specs.Prelude.{◌≡◌, ◌≤◌, ◌<◌, ◌+◌, ◌^◌, Some, None, IfOk};
-ghost use Rattle.std.specs.Prelude.{MatchOption, vec_len, vec_capacity, length};
+ghost use Rattle.std.specs.Prelude.{MatchOption, vec_len, vec_capacity};
 ghost use Rattle.gx_machine.specs.Keys.{keys_of};
 
 use crate::{held, views};
@@ -11,7 +11,7 @@ use gx_machine::{
 use std::alloc::{AllocError, Global};
 use std::marker::Model;
 
-/// How far a session is.
+/// The phase of a session.
 #[derive(Clone, Copy)]
 pub enum SlotPhase<B> {
     /// It has no transaction.
@@ -295,7 +295,7 @@ impl<B: Shape> Slot<B> {
         }
     }
 
-    /// Seals its open commit under the next number, which it answers.
+    /// Seals its open commit under the next number, which it returns.
     fn seal_open(&mut self, latest: &mut Vec<Entry<B>>, commits: &mut u64) -> u64
         requires open { IsCommitting self.old }
         requires in_order { InOrder (keys_of B.Shape) latest.old.items }
@@ -316,7 +316,7 @@ impl<B: Shape> Slot<B> {
         number
     }
 
-    /// Answers its commit, sealed under this number.
+    /// Replies to its commit, sealed under this number.
     fn committed(&mut self, number: u64) -> Reply<B>
         ensures reply { result ≡ Reply.Committed number }
         ensures session { self.new ≡ Idle }
@@ -325,7 +325,7 @@ impl<B: Shape> Slot<B> {
         Reply::Committed(number)
     }
 
-    /// Answers its abort.
+    /// Replies to its abort.
     fn aborted(&mut self) -> Reply<B>
         ensures reply { result ≡ Reply.Aborted }
         ensures session { self.new ≡ Idle }

@@ -62,7 +62,7 @@ pub fn search<B: Shape>(
     Ok(out)
 }
 
-/// Makes the set the view, for which there is room. What was added and taken away is in order too.
+/// Turns the set into the view, for which there is room. What was added and taken away is in order too.
 pub fn take_over<B: Shape>(latest: &mut Vec<Entry<B>>, added: &[Entry<B>], taken: &[Entry<B>])
     requires in_order { InOrder (keys_of B.Shape) latest.old.items }
     requires added { InOrder (keys_of B.Shape) added.now }

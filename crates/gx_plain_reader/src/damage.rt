@@ -56,7 +56,7 @@ pub enum Damage {
     Parent,
     /// The leaves' chain doesn't have each leaf once, or has something else.
     Chain,
-    /// An entry is there twice.
+    /// An entry is in two places.
     Twice,
     /// What an open transaction touched isn't on its leaf or to the right of it.
     Place,

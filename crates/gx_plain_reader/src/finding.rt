@@ -18,7 +18,7 @@ pub(crate) enum Place {
     Slot(u32, &'static str, usize),
 }
 
-/// A part of an image. One is tested only where those before it are sound.
+/// A part of an image. One is tested only if those before it are sound.
 #[derive(Clone, Copy, PartialEq, Eq)]
 pub enum Part {
     /// The sectors ahead of the log, and how many there are.

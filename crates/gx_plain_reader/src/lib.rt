@@ -1,6 +1,6 @@
 //! A reader of a device's bytes, plain and slow, for tests: what an image stands for, by its sectors, its log and its
-//! pages alone. It looks at everything, keeps lists and searches them one by one, and shares no code with what writes a
-//! device: the two are compared. It knows no frame and no descent.
+//! pages alone. It looks at everything, keeps lists and searches them one by one, and shares no code with the index
+//! that writes a device: the two are compared. It uses no frames and no descents.
 #![tactic(auto)]
 
 mod bytes;

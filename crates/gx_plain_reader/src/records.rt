@@ -10,7 +10,7 @@ use std::alloc::Global;
 /// How many bytes of records a body may have.
 const MOST: u32 = 32_764;
 
-/// What a record says that a transaction wrote. The entry is `None` where its key is none of the class.
+/// What a record says that a transaction wrote. The entry is `None` if its key is none of the class.
 #[derive(Clone, Copy)]
 pub(crate) struct Touching {
     pub(crate) transaction: u64,
@@ -46,7 +46,7 @@ pub(crate) enum Logged {
     Bit(Touching, bool),
     /// What was written: a pair is added.
     Add(Touching),
-    /// A page, and the small change of it; `None` where its key is none of the class.
+    /// A page, and the small change of it; `None` if its key is none of the class.
     Adjust(u32, Option<Small>),
 }
 
@@ -264,7 +264,7 @@ fn sweep(cursor: &mut Cursor<'_>) -> Option<Logged> {
     Some(Logged::Adjust(page, Some(Small::Sweep(slots(cursor)?))))
 }
 
-/// The record that begins there. `None` where none does that is whole.
+/// The record that begins there. `None` if none does that is whole.
 fn record_at(class: u16, cursor: &mut Cursor<'_>) -> Option<Logged> {
     match cursor.byte()? {
         1 => pages(cursor),

@@ -190,7 +190,7 @@ impl Tree<'_> {
         Ok(())
     }
 
-    /// No entry is there twice. Where one is, the page where the chain begins is named.
+    /// Tests that no entry is in two places. If one is, it names the page where the chain begins.
     fn test_once(&mut self) -> Result<(), Damage> {
         let nodes = self.nodes;
         for node in nodes {

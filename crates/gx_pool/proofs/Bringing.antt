@@ -177,11 +177,11 @@ spare_upper s page k (Some i) sound at is may none =
 no_spare_leaf : (s : State) → IsSound s → NoCleanLeaf s → NoSpareLeaf s
 no_spare_leaf s sound none = λ page k is may. spare_upper s page k (place_of s page) sound refl is may none
 
--- where the frame's page alone goes, and it is above the leaves only where no leaf could, leaves go first
+-- where the frame's page alone goes, and it is above the leaves only if no leaf could, leaves go first
 pub first_leaves : (s t : State) (i : ℕ) → IsSound s → GoesAlone s t i → (is_upper_at s i ≡ true → NoCleanLeaf s) → LeavesGoFirst s t
 first_leaves s t i sound alone none = λ q k was gone upper. let none_is = none (upper_here s i q k sound (alone q k was gone) was upper) in (none_is, no_spare_leaf s sound none_is)
 
--- each other page is as it was, or goes
+-- each other page is unchanged, or goes
 pub vacated_others : (s : State) (i page : ℕ) → IsSound s → i < length s.marks → OthersStayOrGo s (vacated s i) page
 vacated_others s i page sound inside = λ q ne. elim (is_some_page (mark_at s i).page q) [
   | inl here ↦ inr (vacated_gone s i q here)
@@ -414,7 +414,7 @@ other_page q page pages apart held = λ e. true_false (is_held pages (Some page)
 come_alone : (s t u : State) (pages : List ℕ) (page : ℕ) → is_held pages (Some page) ≡ true → ComeAlone s t pages → ComesAlone t u page → ComeAlone s u pages
 come_alone s t u pages page held first next = λ q apart absent. next q (other_page q page pages apart held) (first q apart absent)
 
--- each page but these is kept as it was or goes, once one more is brought
+-- each page but these is kept unchanged or goes, once one more is brought
 others_stay : (s t u : State) (pages : List ℕ) (page : ℕ) → is_held pages (Some page) ≡ true → AllOthersStayOrGo s t pages → OthersStayOrGo t u page → AllOthersStayOrGo s u pages
 others_stay s t u pages page held first next = λ q apart. ⊎_elim
     (λ is. ⊎_elim (λ same. inl (is ∙ same)) (λ gone. inr (is ∙ gone)) (first q apart))

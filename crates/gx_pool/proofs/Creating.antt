@@ -23,7 +23,7 @@ none_clean_counted s none = none_counted (clean s.held) s.marks empty none
 pub no_frame : (s : State) → 0 < clean_count s → NoneClean s → ⊥
 no_frame s positive none = let counted = none_clean_counted s none in omega (arith, counted)
 
--- the frame's page went, and every other is kept as it was
+-- the frame's page went, and every other is kept unchanged
 gone_or_same : (s : State) (i q : ℕ) → IsSound s → i < length s.marks → clean s.held (mark_at s i) ≡ true → (kept (vacated s i) q ≡ kept s q) ⊎ Left s (vacated s i) q
 gone_or_same s i q sound inside is = elim (is_some_page (mark_at s i).page q) [
   | inl here ↦ inr (record { was = spare s i q sound is here; is = vacated_gone s i q here })

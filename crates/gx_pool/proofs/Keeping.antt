@@ -75,7 +75,7 @@ page_shown d e old new page k is now =
     let before : shown old d.seen page ≡ k.page = ap (λ o. shown_of o (read_of (bytes_of d.seen page))) is in
     after ∙ now.same ∙ sym before
 
--- a page that is kept as it was, and whose bytes are, is shown as before
+-- a page that is kept unchanged, and whose bytes are, is shown as before
 other_shown : (d e : Device) (old new : State) (q : ℕ) → kept new q ≡ kept old q → bytes_of e.seen q ≡ bytes_of d.seen q → shown new e.seen q ≡ shown old d.seen q
 other_shown d e old new q same bytes =
     let first : shown new e.seen q ≡ shown old e.seen q = ap (λ o. shown_of o (read_of (bytes_of e.seen q))) same in

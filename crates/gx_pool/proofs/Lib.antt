@@ -1,3 +1,4 @@
+pub mod Bits
 pub mod Bringing
 pub mod Counting
 pub mod Creating
@@ -6,7 +7,9 @@ pub mod Gated
 pub mod Going
 pub mod Keeping
 pub mod Numbers
+pub mod PageSets
 pub mod Places
+pub mod Queues
 pub mod Readable
 pub mod Shown
 pub mod Writing

@@ -4,12 +4,12 @@ use Rattle.std.specs.Prelude.{is_some}
 use Rattle.std.proofs.Math.Decide.{ℕ_discrete}
 use Rattle.std.proofs.lemmas.Option.{none-some}
 use Rattle.std.proofs.Math.ListN.{get_or-eq_default}
-use Rattle.std.proofs.lemmas.Bool.{cases_lt}
+use Rattle.std.proofs.lemmas.Bool.{cases_lt, leb-true}
 use Rattle.gx_disk.specs.declared.layout.TheConstants.{MAX_PAGES}
 use Rattle.gx_page.specs.Contents.{Contents}
 use Rattle.gx_pool.specs.declared.frames.TheConstants.{FRAMES}
 use Rattle.gx_pool.specs.declared.mark.FrameMark.{FrameMark}
-use Rattle.gx_pool.specs.Marks.{empty, is_gated, writable, IsLeast}
+use Rattle.gx_pool.specs.Marks.{empty, is_gated}
 use Rattle.gx_pool.specs.State.{State, Kept, IsSound, IsWritable, stamp_of, mark_at, place_of, kept, kept_at, frame_at}
 use Rattle.gx_pool.specs.Edits.{changed, changed_at, later, vacated, with_page, settled, stamped, forgotten}
 
@@ -190,7 +190,7 @@ same_at : (s t : State) (o : Option ℕ) → ((j : ℕ) → o ≡ Some j → fra
 same_at s t None same = refl
 same_at s t (Some j) same = ap Some (same j refl)
 
--- a page whose place and frame are as they were is kept as it was
+-- a page whose place and frame are unchanged is kept unchanged
 pub same_kept : (s t : State) (page : ℕ) → place_of t page ≡ place_of s page → ((j : ℕ) → place_of s page ≡ Some j → frame_at t j ≡ frame_at s j) → kept t page ≡ kept s page
 unfolding kept
 same_kept s t page place same = ap (kept_at t) place ∙ same_at s t (place_of s page) same
@@ -295,47 +295,26 @@ stamped_other s i page other stamp sound at ne =
 
 -- ---- what may be written
 
-writable_parts : (gated : ℕ) (m : FrameMark) (page : ℕ) (yes : Bool) → is_gated gated m.stamp ≡ yes → writable gated m ≡ Some page → (yes ≡ true) × (m.page ≡ Some page)
-writable_parts gated m page true is at = (refl, sym (rw is refl) ∙ at)
-writable_parts gated m page false is at = absurd (none-some page (sym (rw is refl) ∙ at))
-
-writable_made : (gated : ℕ) (m : FrameMark) (page : ℕ) → is_gated gated m.stamp ≡ true → m.page ≡ Some page → writable gated m ≡ Some page
-writable_made gated m page is at = rw is at
+gated_batch : (gated : ℕ) (stamp : Option ℕ) → is_gated gated stamp ≡ true → (batch : ℕ) × (stamp ≡ Some batch) × (batch ≤ gated)
+gated_batch gated None is = absurd (grind arith)
+gated_batch gated (Some batch) is = (batch, refl, leb-true batch gated is)
 
 placed_writable : (s : State) (page : ℕ) (o : Option ℕ) → IsSound s → place_of s page ≡ o → is_gated s.gated (stamp_of (kept_at s o)) ≡ true
-    → (k : ℕ) × (k < length s.marks) × (writable s.gated (mark_at s k) ≡ Some page)
+    → (k : ℕ) × (batch : ℕ) × ((mark_at s k).page ≡ Some page) × ((mark_at s k).stamp ≡ Some batch) × (batch ≤ s.gated)
 placed_writable s page None sound at is = absurd (grind arith)
-placed_writable s page (Some i) sound at is = let there = sound.there page i at in (i, there.0, writable_made s.gated (mark_at s i) page is there.1)
+placed_writable s page (Some i) sound at is = let gated = gated_batch s.gated (mark_at s i).stamp is in (i, gated.0, (sound.there page i at).1, gated.1, gated.2)
 
--- a page that may be written has a frame
-pub writable_there : (s : State) (page : ℕ) → IsSound s → IsWritable s page → (k : ℕ) × (k < length s.marks) × (writable s.gated (mark_at s k) ≡ Some page)
+-- a page that may be written has a frame, with the stamp of a gated batch
+pub writable_there : (s : State) (page : ℕ) → IsSound s → IsWritable s page → (k : ℕ) × (batch : ℕ) × ((mark_at s k).page ≡ Some page) × ((mark_at s k).stamp ≡ Some batch) × (batch ≤ s.gated)
 unfolding kept
 writable_there s page sound is = placed_writable s page (place_of s page) sound refl is
-
--- the page of a frame that may be written may be
-pub writable_kept : (s : State) (i page : ℕ) → IsSound s → writable s.gated (mark_at s i) ≡ Some page → IsWritable s page
-writable_kept s i page sound at =
-    let parts = writable_parts s.gated (mark_at s i) page (is_gated s.gated (mark_at s i).stamp) refl at in
-    ap (λ k. is_gated s.gated (stamp_of k)) (kept_some s page i (sound.back i page parts.1)) ∙ parts.0
-
-pub least_found : (s : State) (least : Option ℕ) → IsSound s → IsLeast s.gated s.marks (length s.marks) least
-    → IfSome least (λ page. IsWritable s page × ((q : ℕ) → IsWritable s q → page ≤ q))
-least_found s None sound is = tt
-least_found s (Some page) sound is = (
-  writable_kept s is.0.0 page sound is.0.2,
-  λ q other. let there = writable_there s q sound other in is.1 there.0 q there.1 there.2,
-)
-
-pub least_none : (s : State) (least : Option ℕ) → IsSound s → IsLeast s.gated s.marks (length s.marks) least → IfNone least ((q : ℕ) → IsWritable s q → ⊥)
-least_none s None sound is = λ q other. let there = writable_there s q sound other in none-some q (sym (is there.0 there.1) ∙ there.2)
-least_none s (Some page) sound is = tt
 
 -- a page whose changes are gated has some
 pub gated_stamp : (gated : ℕ) (stamp : Option ℕ) → is_gated gated stamp ≡ true → IsSome stamp
 gated_stamp gated None is = absurd (grind arith)
 gated_stamp gated (Some n) is = refl
 
--- the frame of a page tells whether it may be written
+-- the frame of a page says whether it may be written
 pub placed_gated : (s : State) (page i : ℕ) → place_of s page ≡ Some i → is_gated s.gated (stamp_of (kept s page)) ≡ is_gated s.gated (mark_at s i).stamp
 placed_gated s page i at = ap (λ k. is_gated s.gated (stamp_of k)) (kept_some s page i at)
 

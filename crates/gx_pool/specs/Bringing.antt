@@ -30,8 +30,8 @@ pub record Left (old new : State) (page : ℕ) : Type 0 where
   pub was : IsSpare old page
   pub is : kept new page ≡ None
 
--- Pages were brought: each page is kept as it was, or went, or came. So one that is dirty or held is as it was, and as many
--- are dirty as before.
+-- Pages were brought: each page is kept unchanged, or went, or came. So one that is dirty or held is unchanged, and as
+-- many are dirty as before.
 pub record Brings (passes : Contents → Bool) (honest : Bool) (seen : List ℕ) (old new : State) : Type 0 where
   pub fates : (page : ℕ) → (kept new page ≡ kept old page) ⊎ (Left old new page ⊎ Came passes honest seen old new page)
   pub dirty : dirty_count new ≡ dirty_count old
@@ -73,15 +73,15 @@ pub record AtMostGo (old new : State) (most : ℕ) : Type 0 where
 abbrev pub missing_count : State → List ℕ → ℕ
 missing_count s pages = count_by (λ page. is_none (kept s page)) pages
 
--- A page above the leaves goes only where no frame that is clean for the event is empty or has a leaf, so no leaf may go.
+-- A page above the leaves goes only if no frame that is clean for the event is empty or has a leaf, so no leaf may go.
 abbrev pub LeavesGoFirst : State → State → Type 0
 LeavesGoFirst old new = (q : ℕ) (k : Kept) → kept old q ≡ Some k → kept new q ≡ None → 0 < k.page.level → NoCleanLeaf old × NoSpareLeaf old
 
--- each page but this one is kept as it was, or goes
+-- each page but this one is kept unchanged, or goes
 abbrev pub OthersStayOrGo : State → State → ℕ → Type 0
 OthersStayOrGo old new page = (q : ℕ) → q ≢ page → (kept new q ≡ kept old q) ⊎ (kept new q ≡ None)
 
--- each page but these is kept as it was, or goes
+-- each page but these is kept unchanged, or goes
 abbrev pub AllOthersStayOrGo : State → State → List ℕ → Type 0
 AllOthersStayOrGo old new pages = (q : ℕ) → is_held pages (Some q) ≡ false → (kept new q ≡ kept old q) ⊎ (kept new q ≡ None)
 
@@ -90,13 +90,13 @@ abbrev pub LeavesWentFirst : State → State → Type 0
 LeavesWentFirst old new = (q : ℕ) (k : Kept) → kept old q ≡ Some k → kept new q ≡ None → 0 < k.page.level
     → (r : ℕ) (l : Kept) → kept old r ≡ Some l → IsSpare old r → l.page.level ≡ 0 → kept new r ≡ None
 
--- the page isn't kept, no frame is clean for the event, and all is as it was
+-- the page isn't kept, no frame is clean for the event, and all is unchanged
 pub record NoFrame (old new : State) (page : ℕ) : Type 0 where
   pub missing : kept old page ≡ None
   pub full : NoneClean old
   pub same : new ≡ old
 
--- the page isn't kept, a frame is clean for the event, and all is as it was
+-- the page isn't kept, a frame is clean for the event, and all is unchanged
 pub record Unread (old new : State) (page : ℕ) : Type 0 where
   pub missing : kept old page ≡ None
   pub room : SomeClean old

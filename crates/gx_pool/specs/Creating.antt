@@ -6,9 +6,9 @@ use Rattle.gx_pool.specs.State.{State, Kept, IsSound, kept, clean_count, dirty_c
 use Rattle.gx_pool.specs.Edits.{numbered}
 use Rattle.gx_pool.specs.Bringing.{AtMostGo, Left, LeavesGoFirst}
 
--- A page was made: it is kept with these contents and a change of that batch. Each other page is kept as it was, or was clean
--- and not held and went; so one that is dirty or held is as it was. At most one page goes. One frame fewer is clean, and one more
--- is dirty.
+-- A page was made: it is kept with these contents and a change of that batch. Each other page is kept unchanged, or was
+-- clean and not held and went; so one that is dirty or held is unchanged. At most one page goes. One frame fewer is
+-- clean, and one more is dirty.
 pub record Makes (old new : State) (page : ℕ) (contents : Contents) (batch : ℕ) : Type 0 where
   pub made : kept new page ≡ Some (record { page = contents; stamp = Some batch })
   pub others : (q : ℕ) → q ≢ page → (kept new q ≡ kept old q) ⊎ Left old new q

@@ -7,7 +7,10 @@ pub mod Gated
 pub mod Laws
 pub mod Lending
 pub mod Marks
+pub mod PageSets
+pub mod Queues
 pub mod Readable
 pub mod State
 pub mod Viewing
+pub mod Words
 pub mod Writing

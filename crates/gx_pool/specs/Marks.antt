@@ -31,17 +31,6 @@ abbrev pub is_gated : ℕ → Option ℕ → Bool
 is_gated gated None = false
 is_gated gated (Some stamp) = nat_le stamp gated
 
--- a frame's page, where it may be written
-abbrev pub writable : ℕ → FrameMark → Option ℕ
-writable gated mark = if is_gated gated mark.stamp then mark.page else None
-
--- the page of one of the first n frames that may be written, none being less; or there is none
-abbrev pub IsLeast : ℕ → List FrameMark → ℕ → Option ℕ → Type 0
-IsLeast gated marks n least = MatchOption least
-    ((k : ℕ) → k < n → writable gated (slice_index_or marks k empty) ≡ None)
-    (λ page. ((k : ℕ) × (k < n) × (writable gated (slice_index_or marks k empty) ≡ Some page))
-    × ((k other : ℕ) → k < n → writable gated (slice_index_or marks k empty) ≡ Some other → page ≤ other))
-
 -- no frame between two places that is clean is empty or has a leaf: each has a page above the leaves
 abbrev pub NoLeafBetween : List ℕ → List FrameMark → List Contents → ℕ → ℕ → Type 0
 NoLeafBetween held marks pages from to = (k : ℕ) → from ≤ k → k < to → clean held (slice_index_or marks k empty) ≡ true → is_upper (slice_index_or marks k empty) (slice_index_or pages k (blank 0 0)) ≡ true

@@ -10,8 +10,9 @@ use Rattle.gx_pool.specs.Laws.{IsBacked, shown}
 use Rattle.gx_pool.specs.Marks.{is_gated, is_held}
 use Rattle.gx_pool.specs.State.{State, Kept, clean_count, dirty_count, kept, stamp_of}
 
--- A kept page was written to its sectors, as the image that reads back as it. Where that succeeded, it is clean, one page
--- fewer is dirty, and its frame is clean too unless the event holds the page; where it failed, all is kept as it was.
+-- A kept page was written to its sectors, as the image that reads back as it. Where that succeeded, it is clean, one
+-- page fewer is dirty, and its frame is clean too unless the event holds the page; where it failed, all is kept
+-- unchanged.
 pub record WritesPage {A E : Type 0} (d e : Device) (old new : State) (page : ℕ) (k : Kept) (result : Result A E) : Type 0 where
   pub counts : Counts 1 d e result
   pub image : HasImage (image_of k.page) k.page
@@ -36,10 +37,10 @@ abbrev pub contents_of : Option Kept → Option Contents
 contents_of None = None
 contents_of (Some k) = Some k.page
 
--- At most a page was written, whether that succeeded, failed, or wasn't to be done. Of an honest device only the page's eight
--- sectors may read otherwise, or be pending where they were settled, and time went on; at most one call was made. Each other
--- page is kept as it was, and this one with the same contents. What is dirty was so, with the same stamp; no more pages are
--- dirty, and no fewer frames are clean.
+-- At most a page was written, whether that succeeded, failed, or wasn't to be done. Of an honest device only the page's
+-- eight sectors may read otherwise, or be pending where they were settled, and time went on; at most one call was made.
+-- Each other page is kept unchanged, and this one with the same contents. What is dirty was so, with the same stamp; no
+-- more pages are dirty, and no fewer frames are clean.
 pub record WritesAtMost (d e : Device) (old new : State) (page : ℕ) : Type 0 where
   pub touches : d.honest ≡ true → Touches (first_of page) PAGE_SECTORS d e
   pub time : d.honest ≡ true → Elapses d e

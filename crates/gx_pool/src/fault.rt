@@ -7,6 +7,6 @@ pub enum PoolFault {
     NoCleanFrame,
     /// The device failed.
     Device,
-    /// What the device has there is no page of that number, or fails the test of pages.
+    /// The sectors read don't hold a page of that number, or it fails the test of pages.
     Damaged,
 }

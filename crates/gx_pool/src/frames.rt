@@ -8,6 +8,7 @@ ghost use Rattle.gx_page.specs.Faults.{fault_of};
 ghost use Rattle.gx_page.specs.Reading.{IsImage, read_of};
 
 use crate::mark::{self, FrameMark, HELD};
+use crate::queue::Queue;
 use arrayvec::ArrayVec;
 use gx_disk::MAX_PAGES;
 use gx_page::{Page, PageFault};
@@ -27,11 +28,13 @@ pub struct Frames {
     gated: u64,
     hand: usize,
     dirty: usize,
+    queue: Queue,
 }
 
 impl Model for Frames {
     ghost use Rattle.std.specs.Prelude.{◌≡◌, ◌≤◌, count_by, length};
     ghost use Rattle.gx_pool.specs.Marks.{is_dirty};
+    ghost use Rattle.gx_pool.specs.Queues.{AreListed};
     ghost use Rattle.gx_pool.specs.State.{State, IsSound};
 
     ghost Value = { State };
@@ -51,16 +54,16 @@ impl Model for Frames {
       held = s.held.items;
       gated = s.gated;
     }) × (s.hand ≤ length s.marks.items)
-        × (s.dirty ≡ count_by is_dirty s.marks.items) };
+        × (s.dirty ≡ count_by is_dirty s.marks.items)
+        × AreListed s.gated s.marks.items s.queue };
 }
 
 impl Frames {
     ghost use Rattle.gx_pool.specs.Lending.{LendsPage, LendsChange};
     ghost use Rattle.gx_pool.specs.Marks.{clean, empty, is_gated};
-    ghost use Rattle.gx_pool.specs.Creating.{Creates, Copies, Makes};
     ghost use Rattle.gx_pool.specs.State.{State, IsEmpty, IsSound, place_of, mark_at, kept, stamp_of};
     ghost use Rattle.gx_pool.specs.State.{clean_count, dirty_count, held_clean, is_clean_page, is_counted};
-    ghost use Rattle.gx_pool.specs.State.{NoneClean, NoneDirty, IsSpare, IsWritable, NoCleanLeaf, is_upper_at};
+    ghost use Rattle.gx_pool.specs.State.{NoneClean, NoneDirty, IsWritable, NoCleanLeaf, is_upper_at};
     ghost use Rattle.gx_pool.specs.Edits.{numbered, vacated, with_page, settled, stamped};
 
     /// So many empty frames, with the table of pages.
@@ -77,6 +80,7 @@ impl Frames {
             gated: 0,
             hand: 0,
             dirty: 0,
+            queue: Queue::none(alloc)?,
         })
     }
 
@@ -123,7 +127,7 @@ impl Frames {
         }
     }
 
-    /// The frame for a page that comes in.
+    /// Chooses the frame for a page that is brought.
     pub(crate) fn frame_to_use(&mut self) -> Option<usize>
         ensures found { IfSome result (λ i. (i < length self.old.marks)
             × (clean self.old.held (mark_at self.old i) ≡ true)) }
@@ -174,6 +178,7 @@ impl Frames {
             page: Some(page),
             stamp,
         };
+        self.queue.list(page, stamp, self.gated);
         self.dirty = mark::set_mark(&mut self.marks, i, mark, self.dirty);
         self.places[page as usize] = Some(i as u16);
     }
@@ -187,66 +192,14 @@ impl Frames {
         self.pages[i].reset(level, page);
     }
 
-    /// Gives a clean frame to a page that isn't kept: blank, and with a change of a batch.
-    pub(crate) fn create(&mut self, page: u32, level: u16, batch: u64)
-        requires page { (page ≤ MAX_PAGES) × (kept self.old page ≡ None) }
-        requires number { 1 ≤ page }
-        requires frame { 0 < clean_count self.old }
-        ensures { Creates self.old self.new page level batch }
-    {
-        match self.frame_to_use() {
-            Some(i) => {
-                self.vacate(i);
-                self.reset(i, page, level);
-                self.settle(i, page, Some(batch));
-            }
-            None => unreachable!(),
-        }
-    }
-
     /// Copies the page of one frame into another, under another number.
     #[tactic(auto, using(crate::proofs::Places::with_page_sound))]
-    fn copy(&mut self, from: usize, to: usize, number: u32)
+    pub(crate) fn copy(&mut self, from: usize, to: usize, number: u32)
         requires inside { (from < length self.old.marks) × (to < length self.old.marks) }
         requires apart { from ≢ to }
         ensures { self.new ≡ with_page self.old to (numbered (slice_index_or self.old.pages from (blank 0 0)) number) }
     {
         mark::copy_page(&mut self.pages, from, to, number);
-    }
-
-    /// Gives a clean frame to a page that isn't kept: a copy of one that is and that doesn't go, under its own number,
-    /// and with a change of a batch.
-    pub(crate) fn create_as(&mut self, page: u32, from: u32, batch: u64)
-        requires page { (page ≤ MAX_PAGES) × (kept self.old page ≡ None) }
-        requires number { 1 ≤ page }
-        requires from { (from ≤ MAX_PAGES) × IsSome (kept self.old from) }
-        requires stays { ¬ IsSpare self.old from }
-        requires frame { 0 < clean_count self.old }
-        ensures { Copies self.old self.new page from batch }
-    {
-        match self.place(from) {
-            Some(source) => self.copy_frame(page, source, batch),
-            None => unreachable!(),
-        }
-    }
-
-    /// Gives a clean frame to a page that isn't kept: a copy of the page in a frame that isn't clean.
-    fn copy_frame(&mut self, page: u32, source: usize, batch: u64)
-        requires page { (page ≤ MAX_PAGES) × (kept self.old page ≡ None) }
-        requires number { 1 ≤ page }
-        requires source { (source < length self.old.marks) × (clean self.old.held (mark_at self.old source) ≡ false) }
-        requires frame { 0 < clean_count self.old }
-        ensures { Makes self.old self.new page (numbered (slice_index_or self.old.pages source (blank 0 0)) page)
-            batch }
-    {
-        match self.frame_to_use() {
-            Some(target) => {
-                self.vacate(target);
-                self.copy(source, target, page);
-                self.settle(target, page, Some(batch));
-            }
-            None => unreachable!(),
-        }
     }
 
     /// How many frames are empty or have a clean page that isn't held.
@@ -264,12 +217,12 @@ impl Frames {
         ensures sound { IsSound self.now }
         ensures held { length self.now.held ≤ 4 }
     {
-        // for what that says of how many are held
+        // for its contract, which bounds how many are held
         let _ = self.held.len();
         self.dirty
     }
 
-    /// How many of the pages that are held are kept clean, each counted once.
+    /// How many of the held pages are clean in a frame, each counted once.
     #[tactic(auto, using(crate::proofs::Numbers::one_clean, crate::proofs::Numbers::no_clean))]
     fn held_clean(&self) -> usize
         ensures { result ≡ held_clean self.now (length self.now.held) }
@@ -283,7 +236,7 @@ impl Frames {
         count
     }
 
-    /// Whether one of the pages that are held is none of those before it, and is kept clean.
+    /// Whether a held page is none of those before it, and is clean in a frame.
     fn is_counted(&self, k: usize) -> bool
         requires { k < length self.now.held }
         ensures { result ≡ is_counted self.now k }
@@ -306,15 +259,16 @@ impl Frames {
         }
     }
 
-    /// Stamps the page in a frame, or says that it is as the device has it.
+    /// Stamps the page in a frame, or marks it as clean.
     #[tactic(auto, using(crate::proofs::Places::stamped_sound))]
-    pub(crate) fn stamp(&mut self, i: usize, stamp: Option<u64>)
+    pub(crate) fn stamp(&mut self, i: usize, page: u32, stamp: Option<u64>)
         requires frame { i < length self.old.marks }
-        requires page { IsSome (mark_at self.old i).page }
+        requires page { (mark_at self.old i).page ≡ Some page }
         ensures stamped { self.new ≡ stamped self.old i stamp }
         ensures sound { IsSound self.old }
     {
         let mark = mark::mark_in(&self.marks, i);
+        self.queue.list(page, stamp, self.gated);
         self.dirty = mark::set_mark(&mut self.marks, i, FrameMark { stamp, ..mark }, self.dirty);
     }
 
@@ -329,7 +283,7 @@ impl Frames {
         match self.place(page) {
             Some(i) => {
                 let stamp = mark::later(batch, self.mark(i).stamp);
-                self.stamp(i, Some(stamp));
+                self.stamp(i, page, Some(stamp));
                 self.page_mut(i)
             }
             None => unreachable!(),
@@ -361,7 +315,15 @@ impl Frames {
             × ((q : ℕ) → IsWritable self.now q → page ≤ q)) }
         ensures none { IfNone result ((q : ℕ) → IsWritable self.now q → ⊥) }
     {
-        mark::least_writable(&self.marks, self.gated)
+        let mut from = 0;
+        while let Some(page) = self.queue.ready.first(from) {
+            let page = page as u32;
+            if self.writable(page).is_some() {
+                return Some(page);
+            }
+            from = page as usize + 1;
+        }
+        None
     }
 
     /// The frame of a page that may be written.
@@ -400,10 +362,12 @@ impl Frames {
         self.gated
     }
 
-    /// Tells how far batches are gated.
+    /// Notes up to which batch all are gated.
+    #[tactic(auto, using(crate::proofs::Queues::none_below, crate::proofs::Queues::sound_placed))]
     pub(crate) fn set_gated(&mut self, batch: u64)
         ensures { self.new ≡ record self.old { gated = batch } }
     {
+        self.queue.tell(&self.marks, &self.places, batch);
         self.gated = batch;
     }
 }

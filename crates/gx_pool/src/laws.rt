@@ -20,17 +20,17 @@ pub fn change()
     ensures of_no_other { ChangeIsOfNoOther }
 {}
 
-/// Where each clean page is what an honest device has, it is so after pages were brought, and every page is shown as
-/// before: its last change, or what the device has. Where each kept page passes the test, each does then.
+/// If each clean page is what an honest device has, this still holds after pages were brought, and every page is shown
+/// as before: its last change, or what the device has. If each kept page passes the test, each does then.
 pub fn bringing()
     ensures backed { BringingKeepsBacked }
     ensures shown { BringingShowsTheSame }
     ensures passing { BringingKeepsPassing }
 {}
 
-/// Where each clean page is what an honest device has, it is so after a page was made, blank or as a copy, and every
-/// other page is shown as before. Where each kept page passes the test, each does then,
-/// if the page that was made passes it.
+/// If each clean page is what an honest device has, this still holds after a page was made, blank or as a copy, and
+/// every other page is shown as before. If each kept page passes the test, each does then, provided that the new page
+/// passes it.
 pub fn creating()
     ensures backed { CreatingKeepsBacked }
     ensures shown { CreatingShowsTheSame }
@@ -38,7 +38,7 @@ pub fn creating()
     ensures passing { CreatingKeepsPassing }
 {}
 
-/// The same of a change through a loan: its page is shown with the last contents, and every other page as before.
+/// The same holds of a change through a loan: its page is shown with the last contents, and every other page as before.
 /// Frames and the table still name each other, which is the premise of these laws.
 pub fn changing()
     ensures backed { ChangingKeepsBacked }
@@ -48,9 +48,9 @@ pub fn changing()
     ensures sound { ChangingKeepsSound }
 {}
 
-/// Where what an honest device has of each used page that isn't kept passes the test, it is so after pages were
-/// brought, made or changed, whatever goes meanwhile; `Pool::write_page` keeps it too. Then no used page that is
-/// brought is refused as damaged.
+/// If what an honest device has of each page in use that isn't kept passes the test, this still holds after pages were
+/// brought, made or changed, whichever are evicted meanwhile; `Pool::write_page` keeps it too. Then no page in use is
+/// refused as damaged when it is brought.
 pub fn readable<D: SectorDisk>()
     ensures one { (disk after : D) → OneIsNotDamaged (D.state disk) (D.state after) }
     ensures several { (disk after : D) → SomeAreNotDamaged (D.state disk) (D.state after) }
@@ -70,8 +70,8 @@ pub fn calls_elsewhere<D: SectorDisk>()
     ensures readable { (disk after : D) → ElsewhereKeepsReadable (D.state disk) (D.state after) }
 {}
 
-/// Some frame is clean exactly where the number of clean frames is positive, and no page is dirty exactly where the
-/// number of dirty frames is 0. A frame is clean or dirty, not both, or its page is clean and held.
+/// Some frame is clean exactly if the number of clean frames is positive, and no page is dirty exactly if the number of
+/// dirty frames is 0. A frame is clean or dirty, not both, or its page is clean and held.
 pub fn counting()
     ensures some { SomeAreClean }
     ensures none { NoneAreClean }
@@ -81,8 +81,8 @@ pub fn counting()
     ensures zero { ZeroIsNoneDirty }
 {}
 
-/// A change raises the number of dirty frames by one where the page was clean, and leaves it where it was dirty. It
-/// leaves the number of clean frames too where the page was dirty or is held; else it lowers that by one.
+/// A change raises the number of dirty frames by one if the page was clean, and keeps it if the page was dirty. It
+/// keeps the number of clean frames too if the page was dirty or is held; else it lowers that by one.
 pub fn change_counts()
     ensures raises { ChangeOfACleanPageRaises }
     ensures leaves { ChangeOfADirtyPageLeaves }
@@ -90,7 +90,7 @@ pub fn change_counts()
     ensures takes_clean { ChangeTakesAClean }
 {}
 
-/// Where the sectors of all pages but some are settled, what a crash now may leave has each other page as it reads.
+/// If the sectors of all pages but some are durable, what a crash now may leave has every page but those as it reads.
 pub fn images<D: SectorDisk>()
     ensures { (disk : D) → ImagesAgree (D.state disk) }
 {}

@@ -6,9 +6,13 @@ mod area;
 mod fault;
 mod frames;
 pub mod laws;
+mod making;
 mod mark;
+mod page_set;
 mod passing;
 mod pool;
+mod queue;
+mod words;
 
 pub use fault::PoolFault;
 pub use frames::FRAMES;

@@ -6,7 +6,8 @@ ghost use Rattle.gx_page.specs.Edits.{blank};
 ghost use Rattle.gx_pool.specs.declared.frames.TheConstants.{FRAMES};
 ghost use Rattle.gx_pool.specs.Edits.{forgotten, later, numbered};
 ghost use Rattle.gx_pool.specs.Marks.{clean, empty, is_dirty, is_gated, is_upper};
-ghost use Rattle.gx_pool.specs.Marks.{writable, IsLeast, NoLeaf, NoLeafBetween};
+ghost use Rattle.gx_pool.specs.Marks.{NoLeaf, NoLeafBetween};
+ghost use Rattle.gx_pool.specs.Queues.{ArePlaced};
 
 use arrayvec::ArrayVec;
 use gx_page::Page;
@@ -16,7 +17,7 @@ use std::alloc::{AllocError, Global};
 pub const HELD: usize = 4;
 
 /// What a frame holds: the number of its page, none for an empty frame; and the greatest batch that has a change of it,
-/// none where it is as the device has it.
+/// none if it is clean.
 #[derive(Clone, Copy)]
 pub struct FrameMark {
     pub(crate) page: Option<u32>,
@@ -59,6 +60,19 @@ pub(crate) fn place_in(places: &[Option<u16>], page: usize) -> Option<usize>
     }
 }
 
+/// The stamp of a page, none where it isn't kept or is clean.
+pub(crate) fn stamp_of(marks: &[FrameMark], places: &[Option<u16>], page: usize) -> Option<u64>
+    requires placed { ArePlaced marks.now places.now }
+    requires page { page < length places.now }
+    ensures { (i : ℕ) → slice_index_or places.now page None ≡ Some i
+        → result ≡ (slice_index_or marks.now i empty).stamp }
+{
+    match place_in(places, page) {
+        Some(i) => marks[i].stamp,
+        None => None,
+    }
+}
+
 /// Holds these pages and no others.
 pub(crate) fn hold(held: &mut ArrayVec<u32, HELD>, pages: &[u32])
     requires { length pages.now ≤ HELD }
@@ -70,7 +84,7 @@ pub(crate) fn hold(held: &mut ArrayVec<u32, HELD>, pages: &[u32])
     }
 }
 
-/// Forgets the frame of a page, where there is one.
+/// Forgets the frame of a page, if it has one.
 pub(crate) fn forget(places: &mut Vec<Option<u16>>, page: Option<u32>)
     requires { IfSome page (λ p. p < length places.old.items) }
     ensures { places.new.items ≡ forgotten places.old.items page }
@@ -81,7 +95,7 @@ pub(crate) fn forget(places: &mut Vec<Option<u16>>, page: Option<u32>)
 }
 
 impl FrameMark {
-    /// Of an empty frame.
+    /// The mark of an empty frame.
     pub(crate) fn empty() -> FrameMark
         ensures { result ≡ empty }
     {
@@ -123,16 +137,6 @@ impl FrameMark {
         ensures { result ≡ is_gated gated self.now.stamp }
     {
         self.stamp.is_some_and(|stamp| stamp <= gated)
-    }
-
-    /// Its page, where it is dirty and all its changes are in gated batches.
-    pub(crate) fn writable(&self, gated: u64) -> Option<u32>
-        ensures { result ≡ writable gated self.now }
-    {
-        match self.stamp {
-            Some(stamp) if stamp <= gated => self.page,
-            _ => None,
-        }
     }
 }
 
@@ -187,8 +191,8 @@ fn leaf_frame(marks: &[FrameMark], pages: &[Page], held: &[u32], hand: usize) ->
     }
 }
 
-/// The frame for a page that comes in: the first clean one that is empty or has a leaf, from the hand on and round; and
-/// where there is none, the first clean one.
+/// The frame for a page that is brought: the first clean one that is empty or has a leaf, from the hand on and round;
+/// or if there is none, the first clean one.
 pub(crate) fn frame_to_use(
     marks: &[FrameMark],
     pages: &[Page],
@@ -232,7 +236,8 @@ fn copy_as(page: &mut Page, from: &Page, number: u32)
     page.set_number(number);
 }
 
-/// How many frames are dirty, of so many before, once one that was dirty or wasn't is dirty or isn't.
+/// How many frames are dirty after a change of one frame: from how many there were, and whether that frame was dirty
+/// before and is after.
 fn dirty_after(dirty: usize, was: bool, is: bool) -> usize
     requires counted { cond was 1 0 ≤ dirty }
     requires few { dirty ≤ FRAMES }
@@ -245,7 +250,7 @@ fn dirty_after(dirty: usize, was: bool, is: bool) -> usize
     }
 }
 
-/// Notes what is known of a frame; returns how many frames are dirty then, of so many before.
+/// Sets the mark of a frame; returns how many frames are dirty then, from how many there were.
 pub(crate) fn set_mark(marks: &mut Vec<FrameMark>, i: usize, mark: FrameMark, dirty: usize) -> usize
     requires frame { (i < length marks.old.items) × (length marks.old.items ≤ FRAMES) }
     requires counted { dirty ≡ count_by is_dirty marks.old.items }
@@ -256,20 +261,6 @@ pub(crate) fn set_mark(marks: &mut Vec<FrameMark>, i: usize, mark: FrameMark, di
     let is = mark.is_dirty();
     marks[i] = mark;
     dirty_after(dirty, was, is)
-}
-
-/// The least page that may be written.
-pub(crate) fn least_writable(marks: &[FrameMark], gated: u64) -> Option<u32>
-    ensures { IsLeast gated marks.now (length marks.now) result }
-{
-    let mut least: Option<u32> = None;
-    for mark in marks {
-        match mark.writable(gated) {
-            Some(page) if least.is_none_or(|other| page < other) => least = Some(page),
-            _ => {}
-        }
-    }
-    least
 }
 
 /// So many empty frames.

@@ -4,7 +4,7 @@ ghost use Rattle.gx_page.specs.Contents.{Contents};
 
 use gx_page::Page;
 
-/// A test that each page passes as it comes into a frame.
+/// A test that each page has to pass as it comes into a frame.
 pub trait PageTest: Drop {
     /// Which contents pass.
     ghost passes: { Self → Contents → Bool };

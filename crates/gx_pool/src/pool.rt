@@ -40,7 +40,8 @@ impl<T: PageTest> Pool<T> {
     ghost use Rattle.gx_pool.specs.Lending.{lends_change};
     ghost use Rattle.gx_pool.specs.Viewing.{lends_brought, lends_view};
 
-    /// A pool of so many frames, all empty, with the test of its pages. All memory that it ever takes is taken here.
+    /// Makes a pool of so many frames, all empty, with the test of its pages. It allocates all memory that the pool
+    /// ever takes.
     pub fn with_capacity(alloc: Global, frames: usize, test: T) -> Result<Pool<T>, AllocError>
         requires { frames ≤ FRAMES }
         ensures { IfOk result (λ pool. IsEmpty frames pool.frames × (pool.test ≡ test)) }
@@ -81,7 +82,7 @@ impl<T: PageTest> Pool<T> {
         }
     }
 
-    /// Takes the bytes that were read into a frame, where they are the image of the page and it passes the test.
+    /// Takes the bytes that were read into a frame, if they are the image of the page and it passes the test.
     fn admit(&mut self, i: usize, page: u32) -> bool
         requires frame { (i < length self.old.frames.marks)
             × (clean self.old.frames.held (mark_at self.old.frames i) ≡ true) }
@@ -129,13 +130,13 @@ impl<T: PageTest> Pool<T> {
     }
 
     /// Brings a page into a frame, unless it is in one, and doesn't change what is held: `page` reads it then. A clean
-    /// frame that is empty or has a leaf is used before one with a page above the leaves. Where the page is in one, or
-    /// no frame is clean (empty, or with a clean page that isn't held), the device isn't called. At most one page goes
-    /// for it, and none where it is in a frame.
+    /// frame that is empty or has a leaf is used before one with a page above the leaves. If the page is in a frame, or
+    /// no frame is clean (empty, or with a clean page that isn't held), the device isn't called. At most one page is
+    /// evicted for it, and none if it is in a frame.
     ///
-    /// Refused with `NoCleanFrame` exactly where it isn't in a frame and no frame is clean. Else with `Device` where
-    /// the device failed; then every frame is as it was. And with `Damaged` where the device has no page of that
-    /// number, or one that fails the test; then a frame is empty.
+    /// Refused with `NoCleanFrame` exactly if it isn't in a frame and no frame is clean. Else with `Device` if the
+    /// device failed; then no frame has changed. And with `Damaged` if the device has no page of that number, or one
+    /// that fails the test; then a frame is empty.
     pub fn bring_one<D: SectorDisk>(&mut self, disk: &mut D, page: u32) -> Result<(), PoolFault>
         requires { IsPage (D.state disk.old).sectors page }
         ensures brought { BringsOne (T.passes self.old.test) (D.state disk.old) (D.state disk.new)
@@ -150,13 +151,14 @@ impl<T: PageTest> Pool<T> {
         self.fetch(disk, page)
     }
 
-    /// Holds these pages, up to four, and lets go what was held; those that aren't kept are read. What an event uses is
-    /// brought first: then its pages can be read and changed, and none of that fails. A page above the leaves goes for
-    /// them only where each leaf that might go goes too, and at most as many pages go as weren't kept of these.
+    /// Holds these pages, up to four, and releases those that were held; reads the ones that aren't kept. An event
+    /// brings its pages first: then it can read and change them, and none of that fails. A page above the leaves is
+    /// evicted for them only if each leaf that may be evicted is too, and at most as many pages are evicted as weren't
+    /// kept of these.
     ///
-    /// Refused with the fault of the first page that can't be brought: `NoCleanFrame` exactly where no frame is empty
-    /// or has a clean page other than these, else `Device` where the device failed, and `Damaged` where it has no page
-    /// of that number, or one that fails the test. The pages before it are kept, and dirty pages are as they were.
+    /// Refused with the fault of the first page that can't be brought: `NoCleanFrame` exactly if no frame is empty or
+    /// has a clean page other than these, else `Device` if the device failed, and `Damaged` if it has no page of that
+    /// number, or one that fails the test. The pages before it are kept, and dirty pages haven't changed.
     pub fn bring<D: SectorDisk>(&mut self, disk: &mut D, pages: &[u32]) -> Result<(), PoolFault>
         requires few { length pages.now ≤ HELD }
         requires pages { (k : ℕ) → k < length pages.now → IsPage (D.state disk.old).sectors (slice_index pages.now k) }
@@ -180,7 +182,7 @@ impl<T: PageTest> Pool<T> {
         self.frames.clean_frames()
     }
 
-    /// How many frames have a page with changes that aren't on the device: at most all, and 0 exactly where no page has
+    /// How many frames have a page with changes that aren't on the device: at most all, and 0 exactly if no page has
     /// any. Frames and the table of pages name each other, and the event holds at most four pages.
     pub fn dirty_frames(&self) -> usize
         ensures count { result ≡ dirty_count self.now.frames }
@@ -193,8 +195,9 @@ impl<T: PageTest> Pool<T> {
     }
 
     /// Makes a page that was never written: blank, of a level, and with a change of a batch. The device isn't read,
-    /// since its sectors may hold anything, and no memory is taken. A clean frame is used, so at most one page goes: a
-    /// clean one that isn't held. The page is dirty, so it stays until it is written; nothing has to hold it.
+    /// since the page's sectors may hold anything, and no memory is taken. A clean frame is used, so at most one page
+    /// is evicted: a clean one that isn't held. The page is dirty, so it stays until it is written; nothing has to hold
+    /// it.
     pub fn create(&mut self, page: u32, level: u16, batch: u64)
         requires page { (1 ≤ page) × (page ≤ MAX_PAGES) }
         requires absent { kept self.old.frames page ≡ None }
@@ -238,21 +241,21 @@ impl<T: PageTest> Pool<T> {
         ensures test { self.new.test ≡ self.old.test }
     {
         disk.write(first_sector(page), self.frames.page_in(i).image())?;
-        self.frames.stamp(i, None);
+        self.frames.stamp(i, page, None);
         Ok(true)
     }
 
-    /// Writes a page to its sectors, where it has changes and all of them are in gated batches, and returns whether
-    /// that was so; else nothing is done. Once it is written it is clean, and its frame may go to another page.
+    /// Writes a page to its sectors if it has changes and all of them are in gated batches, and returns whether it did;
+    /// else does nothing. Once it is written it is clean, and its frame may be used for another page.
     ///
-    /// Whether it succeeds or not, no sector but the page's eight changes, each other page is kept as it was, and what
-    /// is dirty was so with the same stamp. So where the sectors of all pages but some are settled, and the pages that
-    /// may be written are among those, a crash at any moment of the call leaves each other page's bytes.
+    /// Whether it succeeds or not, no sector but the page's eight changes, each other page is kept unchanged, and each
+    /// dirty page was dirty before with the same stamp. So where the sectors of all pages but some are settled, and the
+    /// pages that may be written are among those, a crash at any moment of the call leaves each other page's bytes.
     ///
-    /// Whether it succeeds or not, each page is shown as before, where each clean page is what an honest device has: as
-    /// its last change, or what the device has. And each clean page is so then too.
+    /// Whether it succeeds or not, if each clean page is what an honest device has, each page is shown as before: as
+    /// its last change, or what the device has. And each clean page is still what the device has.
     ///
-    /// Refused with `Device` where the device failed. The page is then kept as it was, with its changes.
+    /// Refused with `Device` if the device failed. The page is then kept unchanged, with its changes.
     pub fn write_page<D: SectorDisk>(&mut self, disk: &mut D, page: u32) -> Result<bool, Refusal>
         requires { IsPage (D.state disk.old).sectors page }
         ensures answer { IfOk result (λ written. written ≡ may_be_written self.old.frames page) }
@@ -279,7 +282,7 @@ impl<T: PageTest> Pool<T> {
         }
     }
 
-    /// The least page that has changes, all of them in gated batches: one that `write_page` writes.
+    /// The least page that has changes, all of them in gated batches: `write_page` writes it.
     pub fn dirty(&self) -> Option<u32>
         ensures found { IfSome result (λ page. IsWritable self.now.frames page
             × ((q : ℕ) → IsWritable self.now.frames q → page ≤ q)) }
@@ -288,15 +291,15 @@ impl<T: PageTest> Pool<T> {
         self.frames.dirty()
     }
 
-    /// Tells how far the log is: batches up to this one are gated.
+    /// Notes how far the log is: batches up to this one are gated.
     pub fn gated(&mut self, batch: u64)
         ensures { self.new ≡ record self.old { frames = record self.old.frames { gated = batch } } }
     {
         self.frames.set_gated(batch);
     }
 
-    /// Tells that a checkpoint has ended: the log goes on behind batch 0, which is gated, in the other extent.
-    /// All pages were written before.
+    /// Notes that a checkpoint has ended: the log goes on behind batch 0, which is gated, in the other extent. All
+    /// pages were written before.
     pub fn turned(&mut self)
         requires { NoneDirty self.old.frames }
         ensures { self.new ≡ record self.old { frames = record self.old.frames { gated = 0 } } }
@@ -304,7 +307,7 @@ impl<T: PageTest> Pool<T> {
         self.frames.set_gated(0);
     }
 
-    /// Lets go what is held.
+    /// Releases the held pages.
     pub fn release(&mut self)
         ensures { self.new ≡ record self.old { frames = record self.old.frames { held = [] } } }
     {
@@ -343,7 +346,7 @@ impl<T: PageTest> Pool<T> {
 
     /// Brings a page as `bring_one` does, and lends it to be read.
     ///
-    /// Refused as `bring_one`.
+    /// Refused as `bring_one` is.
     pub fn view<D: SectorDisk>(&mut self, disk: &mut D, page: u32) -> Result<&Page, PoolFault>
         requires { IsPage (D.state disk.old).sectors page }
         ensures* viewed { sem 𝓛 (lends_view T.row (T.passes self.old.test) (D.state disk.old)
@@ -357,7 +360,7 @@ impl<T: PageTest> Pool<T> {
     /// Brings a page as `bring_one` does, and lends it to be changed, as of a batch:
     /// its greatest stamp is that batch, or a later one that it had.
     ///
-    /// Refused as `bring_one`; then no page has changed.
+    /// Refused as `bring_one` is; then no page has changed.
     pub fn change<D: SectorDisk>(
         &mut self,
         disk: &mut D,

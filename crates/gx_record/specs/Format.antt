@@ -47,7 +47,7 @@ abbrev pub ArePages : ℕ → List (ℕ × List ℕ) → Type 0
 ArePages least [] = Unit {0}
 ArePages least (p ∷ pages) = (least ≤ p.0) × IsPage p × ArePages (p.0 + 1) pages
 
--- the number of a page that a small record speaks of
+-- the number of the page that a small record changes
 abbrev pub IsPageNumber : ℕ → Type 0
 IsPageNumber page = (1 ≤ page) × (page < 2 ^ 32)
 

@@ -136,8 +136,8 @@ fn put_pages(out: &mut [u8], at: usize, pages: &PageImages<'_>) -> usize
     }
 }
 
-/// Writes a record of pages at the front. This function, and the other that writes an image, stand apart from the short
-/// records, which would else save the registers that a copy takes.
+/// Writes a record of pages at the front. This function, and the other that writes an image, are separate from the
+/// short records, which would otherwise save the registers that a copy takes.
 #[inline(never)]
 fn write_pages(out: &mut [u8], counter: u64, used: u32, pages: &PageImages<'_>) -> usize
     requires whole { AllByRecursion IsWhole (images pages.now) }

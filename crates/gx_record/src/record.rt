@@ -96,8 +96,8 @@ impl<'a> Record<'a> {
         encode::length_of(self)
     }
 
-    /// Writes the record's spelling at the front, and answers how many bytes it has.
-    /// None where there is no room for it, and nothing is then written.
+    /// Writes the record's spelling at the front, and answers how many bytes it has. None if there is no room for it,
+    /// and nothing is then written.
     #[tactic(auto, using(crate::proofs::Writes::in_range_sized, crate::proofs::Writes::front_wrote))]
     pub fn encode_into(&self, out: &mut [u8]) -> Option<usize>
         requires { IsInRange (rec_of self.now) }
@@ -113,8 +113,8 @@ impl<'a> Record<'a> {
         Some(encode::write(self, out))
     }
 
-    /// The record at the front of the bytes, and how many bytes its spelling has. A key has `key` bytes.
-    /// None where no front is the spelling of a record in range.
+    /// The record at the front of the bytes, and how many bytes its spelling has. A key has `key` bytes. None if no
+    /// front is the spelling of a record in range.
     pub fn decode(bytes: &'a [u8], key: usize) -> Option<(Record<'a>, usize)>
         // What is returned is at the front.
         ensures found { IfSome result (λ answer. BeginsWith key bytes.now (rec_of answer.0) answer.1) }

@@ -1,4 +1,4 @@
--- The items of damage are none exactly where the tests of a log pass.
+-- The items of damage are none exactly if the tests of a log pass.
 use Rattle.std.proofs.Common.{◌≡◌, ℕ, ◌+◌, Bool, true, false, not, ◌&&◌, List, [], ◌∷◌, ◌++◌, refl, ap, sym, ◌∙◌, append_assoc}
 use Rattle.std.specs.Prelude.{Option, None, Some, nat_le, ◌==◌, if◌then◌else◌, length}
 use Rattle.std.specs.List.{list_all}
@@ -162,7 +162,7 @@ module _ {E P : Type 0} (k : Known E P) where
   none_from (End transaction ∷ rs) later = refl
   none_from (Note transaction entry mark leaf ∷ rs) later = refl
 
-  -- nothing is wrong exactly where the bodies are undamaged
+  -- nothing is wrong exactly if the bodies are undamaged
   pub none_damaged : (bodies : List (List (Record E P))) → is_none (damages k bodies) ≡ is_undamaged k bodies
   none_damaged [] = refl
   none_damaged (head ∷ bodies) = none_from head (records_of bodies)
@@ -198,7 +198,7 @@ module _ {E P : Type 0} (k : Known E P) where
       → bodies_read (opened bodies ++ one ∷ places) ≡ (if one.open_gate then bodies ++ one.body ∷ [] else bodies)
   read_before bodies one places h = read_opened bodies (one ∷ places) ∙ read_one bodies one.open_gate one.body (bodies_read places) (closed_ahead places h)
 
-  -- nothing is read past a closed gate, whatever is there
+  -- nothing is read past a closed gate, whatever lies there
   pub read_past : (bodies : List (List (Record E P))) (one : Place E P) (places : List (Place E P)) → one.open_gate ≡ false
       → bodies_read (opened bodies ++ one ∷ places) ≡ bodies
   read_past bodies one places h =

@@ -1,4 +1,4 @@
--- Where what a log tells fits with one touch more, by tests of that touch alone.
+-- When what a log says fits with one touch more, by tests of that touch alone.
 use Rattle.std.proofs.Common.{◌≡◌, ℕ, ◌+◌, Bool, true, false, not, ◌&&◌, ◌||◌, inl, inr, List, [], ◌∷◌, length, refl, ap, sym, ◌∙◌, add-one}
 use Rattle.std.specs.Prelude.{nat_le, nat_lt, ◌==◌, if◌then◌else◌}
 use Rattle.std.specs.List.{list_all}
@@ -105,7 +105,7 @@ module _ {E P : Type 0} (k : Known E P) (l : IsLawful k) where
   apart_by t x xs Greater h own rest more =
       ap (λ b. b && apart k (touching k t xs)) (all_with (beside x) t xs (beside_alike x t) own ∙ beside_turned x t) ∙ ap (λ b. beside t x && b) more
 
-  -- touches lie apart with one more just where that one lies apart from them
+  -- touches lie apart with one more exactly if that one lies apart from them
   apart_with : (t : Touch E) (xs : List (Touch E)) → apart k xs ≡ true → apart k (touching k t xs) ≡ list_all (beside t) xs
   apart_with t [] rest = refl
   apart_with t (x ∷ xs) rest =
@@ -151,7 +151,7 @@ module _ {E P : Type 0} (k : Known E P) (l : IsLawful k) where
   counted_with t [] = refl
   counted_with t (x ∷ xs) = counted_by t x xs (touch_cmp k t x) refl (counted_with t xs)
 
-  -- What is told fits with one touch more, of an entry of the class, just where the touch passes its tests.
+  -- What a log says fits with one touch more, of an entry of the class, exactly if the touch passes its tests.
   pub fits_with : (a : Analysis E) (next : ℕ) (t : Touch E) → fits k a ≡ true → k.is_entry t.entry ≡ true
       → fits k (record a { next = next; touched = touching k t a.touched })
       ≡ (is_transaction t.transaction && (is_page a.used t.leaf && (lies_apart k.cmp t a.touched && (may_be_open t.transaction a.touched && has_place k.cmp t a.touched))))

@@ -200,7 +200,7 @@ module _ {E P : Type 0} where
   notes_give_nothing p (Counters number counter used next ∷ ns) h = cc
 
 module _ {E P : Type 0} (k : Known E P) where
-  -- a change fits only where something is given
+  -- a change fits only if something is given
   fits_given : (change : Change P) (before : Option P) → change_fits k change before ≡ true → is_some before ≡ true
   fits_given change None h = h
   fits_given change (Some content) h = refl
@@ -284,7 +284,7 @@ module _ {E P : Type 0} (k : Known E P) where
   unfolding GivesAll
   spoken_is_given p log is = log_gives p log is
 
-  -- a page of a log that it doesn't give is as it was
+  -- a page of a log that it doesn't give is unchanged
   pub ungiven_is_untouched : (log : List (Record E P)) (p : ℕ) (area : ℕ → P) → IsLog k log → list_any (gives p) log ≡ false → redone area log p ≡ area p
   ungiven_is_untouched log p area is h =
       elim (true_or_false (list_any (speaks_of p) log)) [

@@ -32,7 +32,7 @@ still_page used more p up is =
     and_all (nat_lt 0 p) (nat_le p more) (and_first (nat_lt 0 p) (nat_le p used) is)
     (let low = leb-true p used (and_second (nat_lt 0 p) (nat_le p used) is) in let rise = leb-true used more up in le-leb p more (omega (arith, low, rise)))
 
--- after a small change of a page something is given only where something was
+-- after a small change of a page something is given only if something was
 change_was_given : {P : Type 0} (change : Change P) (before : Option P) → is_some (change_given change before) ≡ true → is_some before ≡ true
 change_was_given change None some = some
 change_was_given change (Some content) some = refl
@@ -82,7 +82,7 @@ module _ {E P : Type 0} (k : Known E P) where
       (one_used p used i.page (i.page == p) (Some i.content) before refl (λ is. one) was)
       (and_second (image_fits k used i) (list_all (image_fits k used) images) all) some
 
-  -- a small change of a page says something of it only where something is given, so that the page is in use
+  -- a small change of a page says something of it only if something is given, so that the page is in use
   change_used : (p page used : ℕ) (change : Change P) (before : Option P) → IsUsed p used before
       → IsUsed p used (if page == p then change_given change before else before)
   change_used p page used change before was some = was (was_given (page == p) change before some)

@@ -26,7 +26,7 @@ one_below : (a b c : ℕ) → b ≡ a → a ≤ c → b ≤ c
 one_below a b c h g = omega arith
 
 module _ {E P : Type 0} (k : Known E P) (area : ℕ → P) (log : List (Record E P)) where
-  -- a log as it is found, over a good tree, has the one set that it stands for
+  -- a log that was found over a good tree has the one set that it stands for
   pub found_as_state : IsLog k log → IsGood k (tree_of k area log) log → IsHealthy k (found area log)
   found_as_state is good = record { gated = is; good = good; coming = tt }
 

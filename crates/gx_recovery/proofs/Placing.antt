@@ -27,7 +27,7 @@ module _ {E P : Type 0} (k : Known E P) where
   cut_at o t x xs i lt at h =
       ap (touching k t) (drop-cons xs i x lt ∙ ap (λ y. y ∷ drop (suc i) xs) at) ∙ touching_by o t x (drop (suc i) xs) h
 
-  -- the touch of this transaction and entry stands at place i
+  -- the touch of this transaction and entry is at place i
   pub stands_at : (t x d : Touch E) (xs : List (Touch E)) (i : ℕ) → i < length xs → x ≡ get_or xs i x → Equal ≡ touch_cmp k t x
       → touching k t xs ≡ take i xs ++ touching k t (drop i xs) → touching k t xs ≡ slice_set xs i (record (get_or xs i d) { leaf = t.leaf })
   stands_at t x d xs i lt at h so_far =
@@ -45,6 +45,6 @@ counted {E} x xs i lt at =
     ∙ ap (λ j. if has_touched x.transaction (drop j xs) then transactions (drop j xs) else transactions (drop j xs) + 1) (sym (add-one i))
     ∙ split (has_touched x.transaction (drop (i + 1) xs)) (transactions (drop (i + 1) xs))
 
--- a touch that stands leaves as many
+-- a touch that replaces another leaves as many
 pub as_many : {E : Type 0} → (xs ys : List (Touch E)) (i : ℕ) (y : Touch E) → ys ≡ slice_set xs i y → length ys ≡ length xs
 as_many xs ys i y h = ap length h ∙ length-set xs i y

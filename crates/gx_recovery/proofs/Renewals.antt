@@ -1,4 +1,4 @@
--- The log that a checkpoint or an opening writes: it tells the same, and stands for the same set.
+-- The log that a checkpoint or an opening writes: it says the same, and stands for the same set.
 use Rattle.std.proofs.Common.{◌≡◌, ℕ, Bool, true, not, ◌&&◌, List, [], ◌∷◌, ◌++◌, refl, ap, sym, ◌∙◌, subst, append_assoc}
 use Rattle.std.specs.Prelude.{nat_le, length}
 use Rattle.std.specs.List.{list_all}
@@ -97,7 +97,7 @@ module _ {E P : Type 0} (k : Known E P) (l : IsLawful k) where
   fits_head (End transaction ∷ rs) h = cc
   fits_head (Note transaction entry mark leaf ∷ rs) h = cc
 
-  -- what a log tells fits
+  -- what a log says fits
   pub log_fits : (log : List (Record E P)) → IsLog k log → fits k (analysis k log) ≡ true
   log_fits log is = ap (λ x. fits k (analysis k x)) is.parts ∙ fits_on is.head is.later (fits_head is.head is.begins) is.goes_on
 

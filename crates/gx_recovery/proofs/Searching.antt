@@ -17,7 +17,7 @@ use Rattle.gx_recovery.specs.Kept.{is_closed, ClosesOne}
 apart_number : (a b : ℕ) → (a ≡ b → ⊥) → (a == b) ≡ false
 apart_number a b h = elim (true_or_false (a == b)) [ inl is ↦ absurd (h (eqb-true a b is)) | inr other ↦ other ]
 
--- what a search finds: the number is there, or it isn't and goes where the others still rise
+-- what a search finds: the number, or the place where it goes so that the numbers still rise
 pub number_searched : (t : ℕ) (xs : List ℕ) (r : Result ℕ ℕ) → IsNonDecreasing xs → IsSearchInRange r (length xs)
     → IsBinarySearchResult (λ y. nat_cmp y t) xs r
     → MatchResult r (λ i. is_closed t xs ≡ true) (λ i. (i ≤ length xs) × (is_closed t xs ≡ false) × IsNonDecreasing (insert xs i t))

@@ -1,4 +1,4 @@
--- A write, or pages, that are exact and sound may come: what the log then tells fits.
+-- A write, or pages, that are exact and sound may come: what the log then says fits.
 use Rattle.std.proofs.Common.{◌≡◌, ℕ, ◌≤◌, Bool, true, false, not, cond, ◌&&◌, ◌||◌, inl, inr, List, [], ◌∷◌, ◌++◌, refl, ap, sym, ◌∙◌, subst, arith}
 use Rattle.std.specs.Prelude.{nat_le, nat_lt, length, ◌==◌}
 use Rattle.std.specs.List.{list_all}

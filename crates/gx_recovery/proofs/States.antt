@@ -87,7 +87,7 @@ module _ {E P : Type 0} where
   record_apart (Counters number counter used next) p area h = refl
   record_apart (Note transaction entry mark leaf) p area h = refl
 
-  -- a page that no record speaks of is as it was
+  -- a page that no record names is unchanged
   pub redone_apart : (rs : List (Record E P)) (p : ℕ) (area : ℕ → P) → list_any (speaks_of p) rs ≡ false → redone area rs p ≡ area p
   redone_apart [] p area h = refl
   redone_apart (r ∷ rs) p area h =

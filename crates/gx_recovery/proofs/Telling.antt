@@ -1,4 +1,4 @@
--- What is kept of a log tells what may follow it.
+-- What is kept of a log decides what may follow it.
 use Rattle.std.proofs.Common.{◌≡◌, ℕ, ◌+◌, max, Bool, true, false, not, ◌&&◌, ◌||◌, List, [], ◌∷◌, ◌++◌, map, length, refl, ap, sym, ◌∙◌}
 use Rattle.std.specs.Prelude.{nat_le, ◌==◌}
 use Rattle.std.specs.List.{list_all}
@@ -56,7 +56,7 @@ module _ {E P : Type 0} (k : Known E P) where
   may_touch_by : (t : Touch E) (s : Kept E) (a : Analysis E) → s.told ≡ a → may_touch k.cmp t s ≡ may_touch k.cmp t (telling s a)
   may_touch_by t s a is = ap (λ (x : Analysis E). may_touch k.cmp t (telling s x)) is
 
-  -- what is told with one touch more
+  -- what a log says with one touch more
   touched_told : (t : Touch E) (s : Kept E) (a : Analysis E) → s.told ≡ a
       → (with_touch k.cmp t s).told ≡ (record a { next = max a.next (t.transaction + 1); touched = touching k t a.touched })
   touched_told t s a is =

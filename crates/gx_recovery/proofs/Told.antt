@@ -1,4 +1,4 @@
--- What holds of every log: how its touched entries, its first marks before and its closed transactions fit together.
+-- Laws of every log: how its touched entries, its first marks before and its closed transactions fit together.
 use Rattle.std.proofs.Common.{◌≡◌, ℕ, ◌+◌, ◌≤◌, Bool, true, false, not, ◌&&◌, ◌||◌, ◌⊎◌, inl, inr, List, [], ◌∷◌, ◌++◌, Option, Some, None, refl, ap, sym, ◌∙◌, subst, arith}
 use Rattle.std.specs.Prelude.{◌==◌, nat_le, is_some}
 use Rattle.std.specs.Option.{option_or}
@@ -141,7 +141,7 @@ module _ {E P : Type 0} (k : Known E P) (l : IsLawful k) where
       none_marked (n.transaction == t) (same k e n.entry) (c n.transaction) n.before rest own
       (λ q. ap c (eqb-true n.transaction t q) ∙ counts) h more
 
-  -- where nothing is found among those who count, one of them has nothing of its own
+  -- if nothing is found among those that count, none of them has something itself
   pub none_own : (c : ℕ → Bool) (t : ℕ) (e : E) (log : List (Record E P)) → c t ≡ true → first_before k c e log ≡ None → own_before k t e log ≡ None
   none_own c t e [] counts h = refl
   none_own c t e (r ∷ rs) counts h =

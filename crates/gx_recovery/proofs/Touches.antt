@@ -168,7 +168,7 @@ module _ {E P : Type 0} (k : Known E P) (l : IsLawful k) where
       ]
   others_tell x [] u e is all listed = cc
 
-  -- what the test of a log tells
+  -- what the test of a log says
   pub apart_tells : (xs : List (Touch E)) → apart k xs ≡ true → Apart k xs
   apart_tells [] h t u e p q = cc
   apart_tells (x ∷ xs) h t u e p q =

@@ -87,7 +87,7 @@ with_end t a = record a { next = max a.next (t + 1); touched = without t a.touch
 abbrev pub with_commit : {E : Type 0} → (t number : ℕ) → Analysis E → Analysis E
 with_commit t number a = record a { number = number; next = max a.next (t + 1); touched = without t a.touched }
 
--- taken exactly where it may come; else it is damage, and nothing changes
+-- taken exactly if it may come; else it is damage, and nothing changes
 abbrev pub Takes : {E : Type 0} → Bool → Kept E → Kept E → Result (Unit {0}) Refusal → Kept E → Type 0
 Takes may taken old (Ok done) new = (may ≡ true) × (new ≡ taken)
 Takes may taken old (Err refusal) new = (may ≡ false) × (refusal ≡ Damaged) × (new ≡ old)

@@ -74,9 +74,8 @@ pub data LogStep (E P : Type 0) : Type 0 where
 abbrev pub AllWritten : {E P : Type 0} → Logged E P → Type 0
 AllWritten s = (p : ℕ) → s.area p ≡ redone s.area s.gated p
 
--- Pages are written only where gated records give them whole, whatever a torn write leaves there. A checkpoint waits
--- until all is gated and all pages are written. The next transaction's number of a new log is none below that of the
--- old one.
+-- Pages are written only if gated records give them whole, whatever a torn write leaves there. A checkpoint waits until
+-- all is gated and all pages are written. The next transaction's number of a new log is at least that of the old one.
 abbrev pub IsLogStep : {E P : Type 0} → Known E P → Logged E P → LogStep E P → Logged E P → Type 0
 IsLogStep k old (Appends r) new = MayCome k old.area (all_records old) r × (new ≡ appended r old)
 IsLogStep k old Begins new = (old.flight ≡ []) × (new ≡ begun old)

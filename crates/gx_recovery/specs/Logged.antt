@@ -57,7 +57,7 @@ pub record IsLeft {E P : Type 0} (s : Logged E P) (area : ℕ → P) (log : List
   pub area_agrees : AgreesBeside s.gated s.area area
   pub log_read : (log ≡ s.gated) ⊎ (log ≡ s.gated ++ s.flight)
 
--- a page area with a log on it stands for the kept set of its number, which is none before the durable one, and is good
+-- a page area with a log on it stands for the kept set of its number, which isn't before the durable one, and is good
 pub record StandsForKept {E P : Type 0} (k : Known E P) (s : Logged E P) (area : ℕ → P) (log : List (Record E P)) : Type 0 where
   pub at_least : durable k s ≤ number_of k log
   pub at_most : number_of k log ≤ latest k s

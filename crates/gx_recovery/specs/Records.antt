@@ -17,10 +17,11 @@ pub data Said (P : Type 0) : Type 0 where
   Whole : (content : P) → Said P
   Small : (change : Change P) → Said P
 
--- The records. A mark is true where the entry is marked or isn't there. Pages: these pages have these contents, and
--- counter and used are what they are afterwards. Adjust: a small change of this one page, of no transaction. Write:
--- the transaction changed the entry's mark, on this leaf, of which it is said how it is then. Commit: the transaction's entries are the set of this number. End: all that the transaction wrote
--- is as it was. Counters and Note begin a log: the numbers, and an entry that an open transaction had written.
+-- The records. A mark is true if the entry is marked or isn't there. Pages: these pages have these contents, and
+-- counter and used are what they are afterwards. Adjust: a small change of this one page, of no transaction. Write: the
+-- transaction changed the entry's mark, on this leaf, of which it is said how it is then. Commit: the transaction's
+-- entries are the set of this number. End: all that the transaction wrote is unchanged. Counters and Note begin a log:
+-- the numbers, and an entry that an open transaction had written.
 pub data Record (E P : Type 0) : Type 0 where
   Pages : (images : List (Image P)) (counter used : ℕ) → Record E P
   Adjust : (page : ℕ) (change : Change P) → Record E P

@@ -7,13 +7,13 @@ use Rattle.gx_recovery.specs.Given.{given, change_fits}
 use Rattle.gx_recovery.specs.Damage.{said_fits, follows, is_head, IsLog}
 use Rattle.gx_recovery.specs.Kept.{Kept, is_closed, may_touch, may_write, may_give, may_end, may_commit, with_counters, with_touch, with_pages, with_end, with_commit, ClosedBy}
 
--- What is kept is what the log says, with a transaction among the closed ones just where the log closes it.
+-- What is kept is what the log says, with a transaction among the closed ones exactly if the log closes it.
 pub record IsKept {E P : Type 0} (k : Known E P) (log : List (Record E P)) (s : Kept E) : Type 0 where
   pub told : s.told ≡ analysis k log
   pub closed : (t : ℕ) → is_closed t s.closed ≡ settled any_number t log
   pub pages : s.pages ≡ k.pages
 
--- A record follows a log just where this test passes, and is kept then.
+-- A record follows a log exactly if this test passes, and is kept then.
 pub record Tells {E P : Type 0} (k : Known E P) (log : List (Record E P)) (r : Record E P) (may : Bool) (new : Kept E) : Type 0 where
   pub exact : follows k log r ≡ may
   pub kept : IsKept k (log ++ r ∷ []) new

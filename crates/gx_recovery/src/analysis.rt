@@ -22,8 +22,8 @@ use std::marker::Model;
 /// What the records of a log say so far: its numbers, the touches of its open transactions (by transaction, then by
 /// entry, each once, with the first mark before and the last leaf), and the transactions that it closes.
 ///
-/// It takes each record of the log in turn, and refuses it exactly where it may not come next, by a rule that it
-/// breaks. All memory is taken at the start.
+/// It takes each record of the log in turn, and refuses it exactly if it may not come next, by a rule that it breaks.
+/// All memory is taken at the start.
 #[derive(Drop)]
 pub struct Analysis<E> {
     number: u64,
@@ -80,7 +80,7 @@ fn may_be_open<E: Copy>(t: u64, touches: &[Touch<E>]) -> bool
 }
 
 impl<E: Copy + Ord> Analysis<E> {
-    /// Nothing read yet, for a device of so many pages. Refused where memory is (`Memory`).
+    /// Nothing read yet, for a device of so many pages. Refused if memory is (`Memory`).
     pub fn new(alloc: Global, pages: u32) -> Result<Self, Refusal>
         ensures ok { IfOk result (λ a. a ≡ record { told = unread; closed = []; pages = pages }) }
         ensures refused { IfErr result (λ refusal. refusal ≡ Refusal.Memory) }
@@ -169,7 +169,7 @@ impl<E: Copy + Ord> Analysis<E> {
         Ok(())
     }
 
-    /// Tests that the touch may be one more.
+    /// Tests that the touch may be added.
     fn test_touch(&self, t: &Touch<E>) -> Result<(), LogRule>
         ensures { Tested (may_touch E.Ord.cmp t.now self.now) (breaks_touch E.Ord.cmp t.now self.now) result }
     {
@@ -185,7 +185,7 @@ impl<E: Copy + Ord> Analysis<E> {
         self.test_room(t)
     }
 
-    /// Takes a touch that may be one more.
+    /// Adds a touch that may be added.
     fn take_touch(&mut self, t: Touch<E>)
         requires { may_touch E.Ord.cmp t self.old ≡ true }
         ensures { self.new ≡ with_touch E.Ord.cmp t self.old }
@@ -194,7 +194,7 @@ impl<E: Copy + Ord> Analysis<E> {
         touched::keep_touch(t, &mut self.touched);
     }
 
-    /// The numbers that a log begins with. Refused where it uses more pages than the device has (`PagesOfDevice`).
+    /// The numbers that a log begins with. Refused if it uses more pages than the device has (`PagesOfDevice`).
     pub fn on_counters(
         &mut self,
         number: u64,
@@ -216,10 +216,9 @@ impl<E: Copy + Ord> Analysis<E> {
         Ok(())
     }
 
-    /// A note of a log's head. Refused where its transaction has the last number (`TransactionNumber`) or its leaf
-    /// isn't in use (`LeafInUse`), where another transaction has touched the entry (`SharedEntry`), and where it would
-    /// be one transaction or one touch too many (`TooManyTransactions`, `TooManyTouches`):
-    /// by the first of these that holds.
+    /// A note of a log's head. Refused if its transaction has the last number (`TransactionNumber`) or its leaf isn't
+    /// in use (`LeafInUse`), if another transaction has touched the entry (`SharedEntry`), and if it would be one
+    /// transaction or one touch too many (`TooManyTransactions`, `TooManyTouches`): by the first of these that holds.
     pub fn on_note(&mut self, t: Touch<E>) -> Result<(), LogRule>
         ensures takes { Takes (may_touch E.Ord.cmp t self.old) (with_touch E.Ord.cmp t self.old)
             self.old (refused result) self.new }
@@ -234,7 +233,7 @@ impl<E: Copy + Ord> Analysis<E> {
         }
     }
 
-    /// A write, whatever it says of its leaf: what is kept here doesn't decide whether that fits. Refused where its
+    /// A write, whatever it says of its leaf: what is kept here doesn't decide whether that fits. Refused if its
     /// transaction is closed (`Ended`), and as a note is.
     pub fn on_write(&mut self, t: Touch<E>) -> Result<(), LogRule>
         ensures takes { Takes (may_write E.Ord.cmp t self.old) (with_touch E.Ord.cmp t self.old)
@@ -268,9 +267,8 @@ impl<E: Copy + Ord> Analysis<E> {
     }
 
     /// Images of the pages of these numbers, each with its own, and the counter and the pages in use after them.
-    /// Refused where one of these two falls (`CounterFalls`, `UsedFalls`), where a page isn't in use then
-    /// (`PageInUse`), and where more are in use than the device has (`PagesOfDevice`):
-    /// by the first of these that holds.
+    /// Refused if one of these two falls (`CounterFalls`, `UsedFalls`), if a page isn't in use then (`PageInUse`), and
+    /// if more are in use than the device has (`PagesOfDevice`): by the first of these that holds.
     pub fn on_pages(&mut self, counter: u64, used: u32, pages: &[u32]) -> Result<(), LogRule>
         ensures takes { Takes (may_give counter used pages.now self.old) (with_pages counter used self.old)
             self.old (refused result) self.new }
@@ -324,8 +322,8 @@ impl<E: Copy + Ord> Analysis<E> {
         self.closed.add(t);
     }
 
-    /// A commit. Refused where its transaction has the last number (`TransactionNumber`) or is closed (`Ended`), and
-    /// where its number isn't the last one plus one (`CommitNumber`): by the first of these that holds.
+    /// A commit. Refused if its transaction has the last number (`TransactionNumber`) or is closed (`Ended`), and if
+    /// its number isn't the last one plus one (`CommitNumber`): by the first of these that holds.
     pub fn on_commit(&mut self, t: u64, number: u64) -> Result<(), LogRule>
         requires { length self.old.closed < CLOSINGS }
         ensures closes { Closes (may_commit t number self.old) t (with_commit t number self.old.told)
@@ -342,8 +340,7 @@ impl<E: Copy + Ord> Analysis<E> {
         }
     }
 
-    /// An end. Refused where its transaction has the last number (`TransactionNumber`),
-    /// and where that is closed (`Ended`).
+    /// An end. Refused if its transaction has the last number (`TransactionNumber`), and if that is closed (`Ended`).
     pub fn on_end(&mut self, t: u64) -> Result<(), LogRule>
         requires { length self.old.closed < CLOSINGS }
         ensures closes { Closes (may_end t self.old) t (with_end t self.old.told) self.old (refused result) self.new }

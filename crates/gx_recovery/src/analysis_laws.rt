@@ -5,7 +5,7 @@ ghost use Rattle.gx_recovery.specs.Telling.{EndsTell, CountersTell, NotesTell, N
 
 use crate::Meaning;
 
-/// A record follows an undamaged log just where the test of what is kept of that log passes; and what is kept then is
+/// A record follows an undamaged log exactly if the test of what is kept of that log passes; and what is kept then is
 /// what the longer log says. So the passes and refusals of [`crate::Analysis`] are those of the definition of damaged
 /// logs, except for what is said of pages: whether an image is its page's own, and whether a small change fits the page
 /// that the log gives, is for the caller that keeps the pages. A small change of no transaction is tested by that

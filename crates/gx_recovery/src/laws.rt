@@ -1,4 +1,4 @@
-//! What holds of every log.
+//! Laws of every log.
 ghost use Rattle.std.specs.Prelude.{◌≡◌, ℕ, ◌+◌, ◌^◌, ◌<◌, ◌≤◌, Bool, true, false, not, if◌then◌else◌};
 ghost use Rattle.std.specs.Prelude.{is_some, unwrap_or, None, Some, List, [], ◌∷◌, ◌++◌};
 ghost use Rattle.std.specs.List.{list_all, list_any};
@@ -42,7 +42,7 @@ pub fn append_keeps_sets<M: Meaning>()
         → IsMove (kept_of (M.known d) s) (append_move (M.known d) s r) (kept_of (M.known d) (appended r s)) }
 {}
 
-/// The filling batch begins, where none is in flight: nothing changes.
+/// The filling batch is put in flight while none is: nothing changes.
 pub fn begin_keeps_sets<M: Meaning>()
     ensures healthy { (d : Limits) → (s : Logged M.Entry M.Page) → IsHealthy (M.known d) s → s.flight ≡ []
         → IsHealthy (M.known d) (begun s) }
@@ -58,7 +58,7 @@ pub fn gate_makes_durable<M: Meaning>()
         → IsMove (kept_of (M.known d) s) Durable (kept_of (M.known d) (gate_synced s)) }
 {}
 
-/// Pages are written that gated records give whole, and whatever is on them then, whole or torn: nothing changes.
+/// Pages are written that gated records give whole, and each may then be whole or torn: nothing changes.
 pub fn page_writes_keep_sets<M: Meaning>()
     ensures healthy { (d : Limits) → IsLawful (M.known d) → (s : Logged M.Entry M.Page) (area : ℕ → M.Page)
         → IsHealthy (M.known d) s → AgreesBeside s.gated s.area area
@@ -68,8 +68,8 @@ pub fn page_writes_keep_sets<M: Meaning>()
         → IsMove (kept_of (M.known d) s) Stays (kept_of (M.known d) (record s { area = area })) }
 {}
 
-/// Whatever a crash leaves stands for a kept set: that of its own last commit, which is none before the durable one.
-/// It is a log, over pages that are good for it. (Repeating history, and then undoing what isn't committed: Mohan and
+/// Whatever a crash leaves stands for a kept set: that of its own last commit, which isn't before the durable one. It
+/// is a log, over pages that are good for it. (Repeating history, and then undoing what isn't committed: Mohan and
 /// others, ARIES, 1992.)
 pub fn crash_leaves_a_kept_set<M: Meaning>()
     ensures { (d : Limits) → IsLawful (M.known d)
@@ -77,9 +77,9 @@ pub fn crash_leaves_a_kept_set<M: Meaning>()
         → IsHealthy (M.known d) s → IsLeft s area log → StandsForKept (M.known d) s area log }
 {}
 
-/// A checkpoint, where all is gated and all pages are written: the new log, of the numbers and of a note for each entry
-/// that an open transaction touched, keeps the last set.
-/// While the selector may still be either, both logs stand for it.
+/// A checkpoint, once everything is gated and all pages are written: the new log, of the numbers and of a note for each
+/// entry that an open transaction touched, keeps the last set. While a crash may leave either selector, both logs stand
+/// for it.
 pub fn checkpoint_keeps_the_set<M: Meaning>()
     ensures healthy { (d : Limits) → IsLawful (M.known d) → (s : Logged M.Entry M.Page) → IsHealthy (M.known d) s
         → s.flight ≡ [] → s.filling ≡ [] → AllWritten s → (next : ℕ)
@@ -94,9 +94,9 @@ pub fn checkpoint_keeps_the_set<M: Meaning>()
         ≡ stands_for (M.known d) s.area s.gated e }
 {}
 
-/// Redo may be cut off at any point and made again: over pages of which the log gives some whole, whatever is on those,
-/// it leaves the same pages. Where the log passes its tests redo changes no other page, and made twice it is made once:
-/// else a small change could be made of a page that the log doesn't give, and made again.
+/// Redo may be cut off at any point and made again: over pages of which the log gives some whole, whatever those
+/// contain, it leaves the same pages. If the log passes its tests, redo changes no other page and is idempotent: else a
+/// small change could be made of a page that the log doesn't give, and made again.
 pub fn redo_may_be_made_again<M: Meaning>()
     ensures again { (log : List (Record M.Entry M.Page)) (old new : ℕ → M.Page) → AgreesBeside log old new
         → redone new log ≡ redone old log }
@@ -107,7 +107,7 @@ pub fn redo_may_be_made_again<M: Meaning>()
 {}
 
 /// What a log by itself gives of a page, the last whole content with the small changes since, is that page after it;
-/// and a page of which it gives nothing is as it was. So a test of a log record by record has, in what is given, the
+/// and a page of which it gives nothing is unchanged. So a test of a log record by record has, in what is given, the
 /// pages that redo writes. A log gives the whole of each page of which it says anything: an image comes first. So a
 /// page may be written once all its records are gated, as the gated records then give it. A renewed log gives nothing:
 /// each page's image comes anew. What is given is a page in use: so is the page of any small change that fits.
@@ -253,7 +253,7 @@ pub fn a_life_moves_the_kept_sets<M: Meaning>()
         → IsLife (M.known d) old steps new → (kept_of (M.known d) old).first ≤ (kept_of (M.known d) new).first }
 {}
 
-/// Bodies in which nothing is damaged are a log; and nothing is damaged exactly where no item of damage is found.
+/// Bodies in which nothing is damaged are a log; and nothing is damaged exactly if no item of damage is found.
 pub fn undamaged_bodies_are_a_log<M: Meaning>()
     ensures log { (d : Limits) → (bodies : List (List (Record M.Entry M.Page))) → is_undamaged (M.known d) bodies ≡ true
         → IsLog (M.known d) (records_of bodies) }
@@ -288,8 +288,8 @@ pub fn closed_gates_end_the_log<M: Meaning>()
 {}
 
 /// The next transaction's number is above every transaction's of a log, and never falls: by a record, nor by the log
-/// that a checkpoint or an opening writes, which has any number that is none below. So over whole lives, with crashes,
-/// the number that the gated records give never falls, and no transaction's number is given twice.
+/// that a checkpoint or an opening writes, which may have any number that isn't below. So over whole lives, with
+/// crashes, the number that the gated records give never falls, and no transaction's number is given twice.
 pub fn transaction_numbers_are_given_once<M: Meaning>()
     ensures above { (d : Limits) → IsLawful (M.known d) → (log : List (Record M.Entry M.Page)) → IsLog (M.known d) log
         → (t : ℕ)

@@ -3,9 +3,9 @@
 //! A log is a list of records over entries and pages. Of these the crate knows only what [`Meaning`] names: which
 //! entries are live in given pages, and which pages are good. It knows no device and no tree.
 //!
-//! What a restart learns from a log before it redoes anything is an [`Analysis`]: the numbers, what open transactions
-//! have touched, and which transactions are closed (the analysis pass of Mohan and others, ARIES, 1992).
-//! A log that is damaged is refused.
+//! An [`Analysis`] is what a restart reads from a log before it redoes anything: the numbers, what open transactions
+//! have touched, and which transactions are closed (the analysis pass of Mohan and others, ARIES, 1992). It refuses a
+//! damaged log.
 #![tactic(auto)]
 
 ghost use Rattle.gx_recovery.specs.Known.{Known, Limits};

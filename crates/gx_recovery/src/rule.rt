@@ -48,7 +48,7 @@ pub enum LogRule {
 }
 
 impl LogRule {
-    /// How it is broken, in plain words.
+    /// The text that says how it is broken.
     pub fn text(self) -> &'static str
         ensures words { result.now ≡ text_of self }
         ensures short { length result.now ≤ 64 }
@@ -82,7 +82,7 @@ impl fmt::Display for LogRule {
 
     ghost output = { λ rule. Some (text_of rule) };
 
-    /// How it is broken, in plain words.
+    /// The text that says how it is broken.
     fn fmt<W: fmt::Write>(&self, f: &mut fmt::Formatter<W>) -> fmt::Result {
         f.write_str(self.text())
     }

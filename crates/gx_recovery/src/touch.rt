@@ -23,7 +23,7 @@ impl<E> Model for Touch<E> {
 }
 
 impl<E: Copy> Touch<E> {
-    /// A transaction's write of an entry that had this mark (set where it was marked or absent), on this leaf.
+    /// A transaction's write of an entry that had this mark (set if it was marked or absent), on this leaf.
     pub fn new(transaction: u64, entry: E, before: bool, leaf: u32) -> Touch<E>
         ensures { result ≡ record { transaction = transaction; entry = entry; before = before; leaf = leaf } }
     {

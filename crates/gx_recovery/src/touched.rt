@@ -125,7 +125,7 @@ pub(crate) fn keep_touch<E: Copy + Ord>(t: Touch<E>, touched: &mut Vec<Touch<E>>
     }
 }
 
-/// Takes a transaction's touches out.
+/// Removes a transaction's touches.
 pub(crate) fn remove<E: Copy>(transaction: u64, touched: &mut Vec<Touch<E>>)
     ensures items { touched.new.items ≡ without transaction touched.old.items }
     ensures capacity { vec_capacity touched.old ≤ vec_capacity touched.new }

@@ -1,4 +1,4 @@
-//! The definitions tried on values: they are met, and each test of a log refuses something that no other does.
+//! The definitions tried on examples: they can be met, and each test of a log refuses something that no other does.
 ghost use Rattle.std.specs.Prelude.{◌≡◌, true, false, List, [], ◌∷◌, ◌++◌};
 ghost use Rattle.gx_recovery.specs.Known.{IsLawful};
 ghost use Rattle.gx_recovery.specs.Records.{Commit, Counters, Note};
@@ -27,7 +27,7 @@ pub fn a_worked_life_meets_the_definitions()
 
 /// What that life's states keep, and what crashes leave of it. The commit's set comes with its batch, and is durable
 /// once the gate is synced. The transaction that is cut off has changed nothing, before its undo and after. Its notes
-/// say so as long as it is open.
+/// record this as long as it is open.
 pub fn the_sets_of_the_worked_life()
     ensures fresh { sets_of fresh ≡ [] ∷ [] }
     ensures in_flight { sets_of in_flight ≡ [] ∷ (7 ∷ []) ∷ [] }
@@ -46,12 +46,11 @@ pub fn the_sets_of_the_worked_life()
     ensures renewed { renewed_last.gated ≡ Counters 1 1 3 5 ∷ [] }
 {}
 
-/// What would go wrong. With nothing committed, a crash leaves entry 7 where its page is written before its record is
-/// gated, and where a batch is read behind a closed gate. It leaves entry 9, which no transaction wrote, where a page
-/// is written of which the log has only a small change, and that write is torn; an image leaves nothing. With entry 7
-/// committed, a crash leaves entry 8 and not 7 where a checkpoint leaves out the notes, and where a transaction ends
-/// before all is restored. Where two transactions write one entry, the commit of the first has a set that isn't its
-/// view.
+/// What would go wrong without each rule. With nothing committed, a crash leaves entry 7 if its page is written before
+/// its record is gated, or if a batch is read behind a closed gate. It leaves entry 9, which no transaction wrote, if a
+/// page is written of which the log has only a small change, and that write is torn; an image leaves nothing. With
+/// entry 7 committed, a crash leaves entry 8 and not 7 if a checkpoint leaves out the notes, or if a transaction ends
+/// before all is restored. If two transactions write one entry, the commit of the first has a set that isn't its view.
 pub fn what_the_rules_prevent()
     ensures too_early { stood_for too_early in_flight.gated ≡ 7 ∷ [] }
     ensures past_a_gate { stood_for fresh.area past_a_gate ≡ 7 ∷ [] }

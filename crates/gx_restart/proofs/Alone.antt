@@ -16,7 +16,7 @@ use Rattle.gx_disk.proofs.Leaving.{leaves_joined, leaves_weaker, nothing_leaves}
 use Rattle.gx_page.specs.Contents.{Contents}
 use Rattle.gx_node.specs.Reading.{Format, format_of, is_node}
 use Rattle.gx_events.specs.Engines.{Engine, SeenAs, session_of}
-use Rattle.gx_events.specs.Events as laws
+use Rattle.gx_events.specs.Happenings as laws
 use Rattle.gx_recovery.specs.Known.{Limits}
 use Rattle.gx_recovery.specs.Records.{Record}
 use Rattle.gx_index_laws.specs.Classes.{Class, IsLawful, Page}
@@ -49,7 +49,7 @@ use Rattle.gx_engine.proofs.Repeating.{repeated_made}
 use Rattle.gx_engine.proofs.Stepping.{steps_made}
 
 -- no event of an index finds damage
-unharmed_by : {B : Type 0} (e : Engine B) (event : Event B) (events : List (laws.Event B)) → AreOf e event (Refused Damaged) events → ⊥
+unharmed_by : {B : Type 0} (e : Engine B) (event : Event B) (events : List (laws.Happening B)) → AreOf e event (Refused Damaged) events → ⊥
 unharmed_by e (Ask s call) events of = of
 unharmed_by e (Move s) events of = of
 unharmed_by e LogStep events of = of
@@ -57,11 +57,11 @@ unharmed_by e (WritePage page) events of = of
 unharmed_by e CheckpointStep events of = of
 unharmed_by e (Sweep page) events of = of
 
-unharmed : {B : Type 0} (e : Engine B) (event : Event B) (given : Outcome B) (events : List (laws.Event B)) → AreOf e event given events → given ≢ Refused Damaged
+unharmed : {B : Type 0} (e : Engine B) (event : Event B) (given : Outcome B) (events : List (laws.Happening B)) → AreOf e event given events → given ≢ Refused Damaged
 unharmed e event given events of is = unharmed_by e event events (subst (λ x. AreOf e event x events) is of)
 
 -- what happened, and then happened more, happened
-pub happening_joined : {B : Type 0} (c : Class B) (i j k : index.State B) (first next : List (laws.Event B)) → AreHappening c i first j → AreHappening c j next k
+pub happening_joined : {B : Type 0} (c : Class B) (i j k : index.State B) (first next : List (laws.Happening B)) → AreHappening c i first j → AreHappening c j next k
     → AreHappening c i (first ++ next) k
 happening_joined c i j k [] next one other = subst (λ (x : _). AreHappening c x next k) one other
 happening_joined c i j k (event ∷ first) next one other = (one.0, one.1, happening_joined c one.0 j k first next one.2 other)

@@ -16,7 +16,7 @@ use Rattle.gx_events.specs.declared.outcome.Need.{Need}
 use Rattle.gx_events.specs.declared.outcome.Need.TheVariants as need
 use Rattle.gx_events.specs.declared.outcome.Outcome.{Outcome}
 use Rattle.gx_events.specs.declared.outcome.Outcome.TheVariants.{Replied, More, Help, Nothing, Refused}
-use Rattle.gx_events.specs.Events as laws
+use Rattle.gx_events.specs.Happenings as laws
 use Rattle.gx_events.specs.Steps.{IsSync, IsWork}
 use Rattle.gx_engine.specs.declared.checkpoint.Checkpoint.{Checkpoint}
 use Rattle.gx_engine.specs.declared.checkpoint.Checkpoint.TheVariants.{Off, Running, Turning}
@@ -36,7 +36,7 @@ use Rattle.gx_restart.specs.Reading.{Reads, Runs}
 use Rattle.gx_restart.proofs.Reading.{leads_read, leads_run, nothing_read, read_joined, read_runs, run_joined, spares_read}
 
 -- work is an event by which commits may become durable
-pub work_sync : {B : Type 0} (failed : Bool) (outcome : Outcome B) (events : List (laws.Event B)) → IsWork failed outcome events → IsSync failed outcome events
+pub work_sync : {B : Type 0} (failed : Bool) (outcome : Outcome B) (events : List (laws.Happening B)) → IsWork failed outcome events → IsSync failed outcome events
 work_sync failed More events is = (is.0, inr (inl is.1))
 work_sync failed (Replied r) events is = is
 work_sync failed (Help named) events is = is

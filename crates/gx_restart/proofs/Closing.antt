@@ -1,5 +1,5 @@
 -- The gates behind a log that was found and laid are closed, and an engine starts there.
-use Rattle.std.proofs.Common.{◌≡◌, inl, inr, ℕ, ◌+◌, ◌*◌, ◌<◌, ◌≤◌, Bool, true, None, List, length, refl, ap, sym, ◌∙◌, subst, arith}
+use Rattle.std.proofs.Common.{◌≡◌, inl, inr, ℕ, ◌+◌, ◌*◌, ◌≤◌, Bool, true, None, List, length, refl, ap, sym, ◌∙◌, subst, arith}
 use Rattle.std.specs.Prelude.{IfErr, IfOk, MatchResult, Result, Ok, Err}
 use Rattle.std.proofs.lemmas.Bool.{leb-true}
 use Rattle.std.proofs.Math.Path.{fun_ext}
@@ -202,7 +202,7 @@ module _ {B : Type 0} (shape : Members B) (is_key : B → Bool) (said : List ℕ
     set_there : (x : Entry B) → stands_for k (area m.seen) log x ≡ stands_for k (area a.seen) log x
     set_there = same_set k log (area m.seen) (area a.seen) tree_there
 
-    -- what a crash may leave stands for the set that was found
+    -- what a crash may leave stands for the set of the log that was found
     pub closing_leaves : (result : Result (Unit {0}) Refusal) → Closes result → Leaves (StandsForFound shape is_key said f s.parameters a.seen) m e
     closing_leaves result closes =
         leaves_weaker (durable.Stands k r (found_state k r m.seen bodies)) (StandsForFound shape is_key said f s.parameters a.seen) m e
@@ -222,7 +222,7 @@ module _ {B : Type 0} (shape : Members B) (is_key : B → Bool) (said : List ℕ
       same_area : area e.seen ≡ area m.seen
       same_area = fun_ext closed.area
 
-      -- a page's bytes are as they were
+      -- a page's bytes are unchanged
       bytes_there : (page : ℕ) → bytes_of e.seen page ≡ bytes_of m.seen page
       bytes_there page =
           spans_same 8 (first_of page) e.seen m.seen (λ n within. run.others n (inr (gates_before (selected_of m.seen) n (let low = within.from in omega (arith, low)))))

@@ -34,7 +34,7 @@ use Rattle.gx_machine.specs.Sets.{IsSetOf}
 use Rattle.gx_class.specs.Traits.{traits_of}
 use Rattle.gx_class.specs.declared.class.KeyClass.{Ghosts}
 use Rattle.gx_node.specs.Reading.{Format, format_of}
-use Rattle.gx_format.specs.Formatting.{AreInRange, sectors_of}
+use Rattle.gx_format.specs.Formatting.{sectors_of}
 use Rattle.gx_opening.specs.Formatted.{Counted, MaySettle, Says}
 use Rattle.gx_opening.specs.Laid.{IsSpared}
 use Rattle.gx_opening.proofs.Stood.{one_cause, one_saying}
@@ -287,7 +287,7 @@ module _ {B D : Type 0} (shape : Members B) (is_key : B → Bool) (said : List �
   abbrev Unverified : Refusal → Type 0
   Unverified = IsUnverifiedCopy shape is_key said f class d
 
-  -- a failure of a copy is want of memory
+  -- a failure of a copy is a lack of memory
   failed_so : (why : Refusal) → HasFailed why → Unverified (refusal_of_copy why)
   failed_so why (inl device) = subst (λ x. Unverified (refusal_of_copy x)) (sym device) (inr (inr (inr refl)))
   failed_so why (inr memory) = subst (λ x. Unverified (refusal_of_copy x)) (sym memory) (inr (inr (inr refl)))
@@ -322,7 +322,7 @@ module _ {B D : Type 0} (shape : Members B) (is_key : B → Bool) (said : List �
   refused_so why (inr (inr (inr (inl stopped)))) = failed_so why stopped.cause
   refused_so why (inr (inr (inr (inr room)))) = failed_so why (inr room.0)
 
--- what a copy is told to be damaged for
+-- why a copy is reported as damaged
 pub damaged_as : (why : Refusal) → refusal_of_copy why ≡ refusal.Damaged → why ≡ refusal.Damaged
 damaged_as refusal.Device is = cc
 damaged_as other is = is

@@ -1,11 +1,11 @@
 -- An engine that was opened is seen as an idle machine.
-use Rattle.std.proofs.Common.{◌≡◌, ◌≤◌, ℕ, Bool, List}
+use Rattle.std.proofs.Common.{◌≤◌, ℕ, Bool, List}
 use Rattle.gx_disk.specs.Device.{Device}
 use Rattle.gx_durable.specs.Area.{area_of}
 use Rattle.gx_events.specs.Engines.{stood}
 use Rattle.gx_engine.specs.States.{Parts}
 use Rattle.gx_index_laws.specs.States.{engine_of}
-use Rattle.gx_machine.specs.Keys.{Members, keys_of}
+use Rattle.gx_machine.specs.Keys.{Members}
 use Rattle.gx_machine.proofs.SetsByTests.{set_of_a_test_that_agrees}
 use Rattle.gx_node.specs.Reading.{Format}
 use Rattle.gx_index_laws.specs.Classes.{IsLawful}

@@ -1,6 +1,6 @@
 -- What an opening's events leave of the set that was found.
-use Rattle.std.proofs.Common.{◌≡◌, inl, inr, ℕ, ◌+◌, ◌<◌, ◌≤◌, Bool, List, [], ◌∷◌, length, refl, ap, sym, ◌∙◌, subst, arith}
-use Rattle.std.specs.Prelude.{◌-◌, ◌^◌}
+use Rattle.std.proofs.Common.{◌≡◌, inl, inr, ℕ, ◌<◌, ◌≤◌, Bool, List, [], ◌∷◌, length, refl, ap, sym, ◌∙◌, subst, arith}
+use Rattle.std.specs.Prelude.{◌^◌}
 use Rattle.gx_record.specs.Writing.{write_record}
 use Rattle.gx_glog.specs.declared.extent.TheConstants.{BODY_ROOM}
 use Rattle.gx_geom.specs.declared.refusal.Refusal.{Refusal}
@@ -38,11 +38,9 @@ use Rattle.gx_recovery.proofs.Moves.{found_latest, found_set}
 use Rattle.gx_engine.specs.Made.{AreMade, Makes}
 use Rattle.gx_restart.specs.Beginning.{HasBegun, HasNotBegun, HoldsFound, IsGoodLog}
 use Rattle.gx_restart.specs.Keeping.{StandsForFound}
-use Rattle.gx_restart.specs.Undoing.{AreOfOpening, GoesBy, IsEndless, IsOfOpening, IsRefusedAt, MayUndo, OnlyUndoes, WhyStopped}
+use Rattle.gx_restart.specs.Undoing.{AreOfOpening, GoesBy, IsEndless, IsOfOpening, IsRefusedAt, OnlyUndoes, WhyStopped}
 use Rattle.gx_engine.proofs.CallsEnd.{starts_end}
-use Rattle.gx_phases.specs.declared.phase.Phase.{Phase}
 use Rattle.gx_phases.specs.declared.phase.Phase.TheVariants as phase
-use Rattle.gx_phases.specs.States.{phase_at}
 use Rattle.gx_index_laws.specs.Measures.{work_left}
 use Rattle.gx_index_laws.specs.Whole.{IsWhole}
 use Rattle.gx_events.specs.declared.event.Event.TheVariants.{Move}

@@ -1,11 +1,11 @@
--- What was done of an index, one part after another, and that its tree is as it was.
+-- What was done of an index, one part after another, and that its tree is unchanged.
 use Rattle.std.proofs.Common.{inl, inr, ℕ, Bool, List, [], ◌∷◌, ◌++◌, refl, ap, ◌∙◌, subst}
 use Rattle.gx_machine.specs.declared.entry.Entry.{Entry}
 use Rattle.gx_disk.specs.Device.{Device}
 use Rattle.gx_disk.proofs.Leaving.{leaves_joined, leaves_weaker, nothing_leaves}
 use Rattle.gx_page.specs.Contents.{Contents}
 use Rattle.gx_node.specs.Reading.{Format}
-use Rattle.gx_events.specs.Events as laws
+use Rattle.gx_events.specs.Happenings as laws
 use Rattle.gx_index_laws.specs.Classes.{Class, Page}
 use Rattle.gx_index_laws.specs.Happening.{AreHappening}
 use Rattle.gx_index_laws.specs.States as index
@@ -17,7 +17,7 @@ use Rattle.gx_engine.specs.States.{Parts}
 use Rattle.gx_restart.specs.Reading.{Reads, Runs}
 
 -- what happened, and then happened more, happened
-happening_joined : {B : Type 0} (c : Class B) (i j k : index.State B) (first next : List (laws.Event B)) → AreHappening c i first j → AreHappening c j next k
+happening_joined : {B : Type 0} (c : Class B) (i j k : index.State B) (first next : List (laws.Happening B)) → AreHappening c i first j → AreHappening c j next k
     → AreHappening c i (first ++ next) k
 happening_joined {B} c i j k [] next one other = subst (λ (x : index.State B). AreHappening c x next k) one other
 happening_joined c i j k (event ∷ first) next one other = (one.0, one.1, happening_joined c one.0 j k first next one.2 other)
@@ -33,7 +33,7 @@ module _ {B : Type 0} (c : Class B) (r : Reading (Entry B) (Page B)) (f : Format
   among_last (x ∷ xs) ys image stands = inr (among_last xs ys image stands)
 
 module _ {B D : Type 0} (c : Class B) (r : Reading (Entry B) (Page B)) (f : Format B) (passes : ℕ → Contents → Bool) where
-  abbrev led_ran : (d e : Device) (new : Parts B D) (i : index.State B) (events : List (laws.Event B)) → Led c r f passes d e new i events → Ran c r f passes d e new i
+  abbrev led_ran : (d e : Device) (new : Parts B D) (i : index.State B) (events : List (laws.Happening B)) → Led c r f passes d e new i events → Ran c r f passes d e new i
   led_ran d e new i events led = record {
     passed = i ∷ [];
     events = events;
@@ -83,7 +83,7 @@ module _ {B D : Type 0} (c : Class B) (r : Reading (Entry B) (Page B)) (f : Form
     read_runs old new reads bodies i h = (reads bodies i h).ran
 
     -- what led to events, and to none
-    pub leads_run : (old new : Parts B D) (events : List (laws.Event B)) → Leads c r f passes (at old) (at new) old new events → Runs c r f passes state old new
+    pub leads_run : (old new : Parts B D) (events : List (laws.Happening B)) → Leads c r f passes (at old) (at new) old new events → Runs c r f passes state old new
     leads_run old new events leads bodies i h = led_ran (at old) (at new) new i events (leads bodies i h)
 
     pub leads_read : (old new : Parts B D) → Leads c r f passes (at old) (at new) old new [] → Reads c r f passes state old new
@@ -92,7 +92,7 @@ module _ {B D : Type 0} (c : Class B) (r : Reading (Entry B) (Page B)) (f : Form
         record { ran = led_ran (at old) (at new) new i [] led; same = ap (index.tree_now c) led.happening }
 
     -- an event that spared the sessions' calls
-    pub spares_read : (old new : Parts B D) (AreSo : List (laws.Event B) → Type 0) → SparesSo c r f passes (at old) (at new) old new AreSo → Reads c r f passes state old new
+    pub spares_read : (old new : Parts B D) (AreSo : List (laws.Happening B) → Type 0) → SparesSo c r f passes (at old) (at new) old new AreSo → Reads c r f passes state old new
     spares_read old new AreSo spares bodies i h =
         let one = spares bodies i h in
         record { ran = led_ran (at old) (at new) new i one.0 one.2.led; same = one.2.same }

@@ -14,8 +14,8 @@ use Rattle.gx_machine.specs.Sessions.{Locks}
 use Rattle.gx_events.specs.Slots as slots
 use Rattle.gx_events.specs.Slots.{Note, Slot, slot_at}
 use Rattle.gx_events.specs.Engines.{Engine, IsSame}
-use Rattle.gx_events.specs.Events as laws
-use Rattle.gx_events.specs.Events.{MeetsFault}
+use Rattle.gx_events.specs.Happenings as laws
+use Rattle.gx_events.specs.Happenings.{MeetsFault}
 use Rattle.gx_events.proofs.WhatStood.{event_stood}
 use Rattle.gx_index_laws.specs.Classes.{Class, IsLawful}
 use Rattle.gx_index_laws.specs.Happening.{AreHappening, Happens}
@@ -81,19 +81,19 @@ reply_why none (reply.Refused why) = why
 reply_why none other = none
 
 -- an event of the laws that one of an opening may be
-abbrev MayBe : {B : Type 0} → laws.Event B → Type 0
+abbrev MayBe : {B : Type 0} → laws.Happening B → Type 0
 MayBe (laws.Asks s call given) = ⊥
 MayBe (laws.RefusesAsk s call why) = ⊥
 MayBe (laws.Opens number) = ⊥
 MayBe other = Unit {0}
 
-end_may : {B : Type 0} (s : ℕ) (failed : Bool) (r : Reply B) (event : laws.Event B) → IsEnd s failed r event → MayBe event
+end_may : {B : Type 0} (s : ℕ) (failed : Bool) (r : Reply B) (event : laws.Happening B) → IsEnd s failed r event → MayBe event
 end_may s failed r (laws.Asks t call given) end = absurd end
 end_may s failed r (laws.RefusesAsk t call why) end = absurd end
 end_may s failed r (laws.Opens number) end = absurd end
 end_may s failed r other end = tt
 
-goes_may : {B : Type 0} (s : ℕ) (event : laws.Event B) → GoesOn s event → MayBe event
+goes_may : {B : Type 0} (s : ℕ) (event : laws.Happening B) → GoesOn s event → MayBe event
 goes_may s (laws.Asks t call given) on = absurd on
 goes_may s (laws.RefusesAsk t call why) on = absurd on
 goes_may s (laws.Opens number) on = absurd on
@@ -103,10 +103,10 @@ module _ {B : Type 0} (c : Class B) (l : IsLawful c) (number : ℕ) (in_set : En
   abbrev Keeps : State B → Type 0
   Keeps = KeepsOne c number in_set
 
-  abbrev MayCome : laws.Event B → Type 0
+  abbrev MayCome : laws.Happening B → Type 0
   MayCome event = (is_in_opening event || is_fault event) ≡ true
 
-  one_keeps : (event : laws.Event B) (old new : State B) → Keeps old → Happens c old event new → MayCome event → Keeps new
+  one_keeps : (event : laws.Happening B) (old new : State B) → Keeps old → Happens c old event new → MayCome event → Keeps new
   one_keeps event old new keeps h may = goes_on c l number in_set (event ∷ []) old new keeps (new, h, refl) (All-cons MayCome event [] may (All-nil MayCome))
 
   -- a call that is refused for a fault
@@ -124,7 +124,7 @@ module _ {B : Type 0} (c : Class B) (l : IsLawful c) (number : ℕ) (in_set : En
   refused_keeps s other old new keeps h meets = absurd meets
 
   -- the set stays in any event that an opening's may be, while each slot may undo
-  event_keeps : (event : laws.Event B) (old new : State B) → AllUndo old → Keeps old → Happens c old event new → MayBe event → Keeps new
+  event_keeps : (event : laws.Happening B) (old new : State B) → AllUndo old → Keeps old → Happens c old event new → MayBe event → Keeps new
   event_keeps (laws.Asks s call given) old new undo keeps h may = absurd may
   event_keeps (laws.RefusesAsk s call why) old new undo keeps h may = absurd may
   event_keeps (laws.Opens n) old new undo keeps h may = absurd may
@@ -147,22 +147,22 @@ module _ {B : Type 0} (c : Class B) (l : IsLawful c) (number : ℕ) (in_set : En
   works_undo : (old new : State B) → AllUndo old → Happens c old laws.Works new → AllUndo new
   works_undo old new undo h = λ s. subst (λ (xs : List (Slot B)). MayUndoSlot (slot_at s xs)) (sym h.is_event.slots) (undo s)
 
-  none_keeps : (events : List (laws.Event B)) (old new : State B) → Keeps old → events ≡ [] → AreHappening c old events new → Keeps new
+  none_keeps : (events : List (laws.Happening B)) (old new : State B) → Keeps old → events ≡ [] → AreHappening c old events new → Keeps new
   none_keeps events old new keeps none are =
-      let same : new ≡ old = subst (λ (xs : List (laws.Event B)). AreHappening c old xs new) none are in subst Keeps (sym same) keeps
+      let same : new ≡ old = subst (λ (xs : List (laws.Happening B)). AreHappening c old xs new) none are in subst Keeps (sym same) keeps
 
-  just_one : (event : laws.Event B) (events : List (laws.Event B)) (old new : State B) → AllUndo old → Keeps old → MayBe event → events ≡ event ∷ [] → AreHappening c old events new → Keeps new
+  just_one : (event : laws.Happening B) (events : List (laws.Happening B)) (old new : State B) → AllUndo old → Keeps old → MayBe event → events ≡ event ∷ [] → AreHappening c old events new → Keeps new
   just_one event events old new undo keeps may is are =
-      let one = subst (λ (xs : List (laws.Event B)). AreHappening c old xs new) is are in
+      let one = subst (λ (xs : List (laws.Happening B)). AreHappening c old xs new) is are in
       subst Keeps (sym one.2) (event_keeps event old one.0 undo keeps one.1 may)
 
-  just_keeps : (event : laws.Event B) (events : List (laws.Event B)) (old new : State B) → AllUndo old → Keeps old → MayBe event → IsJust event events → AreHappening c old events new → Keeps new
+  just_keeps : (event : laws.Happening B) (events : List (laws.Happening B)) (old new : State B) → AllUndo old → Keeps old → MayBe event → IsJust event events → AreHappening c old events new → Keeps new
   just_keeps event events old new undo keeps may (inl is) are = just_one event events old new undo keeps may is are
   just_keeps event events old new undo keeps may (inr is) are =
-      let two = subst (λ (xs : List (laws.Event B)). AreHappening c old xs new) is are in
+      let two = subst (λ (xs : List (laws.Happening B)). AreHappening c old xs new) is are in
       just_one event (event ∷ []) two.0 new (works_undo old two.0 undo two.1) (event_keeps laws.Works old two.0 undo keeps two.1 tt) may refl two.2
 
-  work_keeps : (failed : Bool) (given : Outcome B) (events : List (laws.Event B)) (old new : State B) → AllUndo old → Keeps old → IsWork failed given events → AreHappening c old events new → Keeps new
+  work_keeps : (failed : Bool) (given : Outcome B) (events : List (laws.Happening B)) (old new : State B) → AllUndo old → Keeps old → IsWork failed given events → AreHappening c old events new → Keeps new
   work_keeps failed (outcome.Replied r) events old new undo keeps is are = absurd is
   work_keeps failed outcome.More events old new undo keeps is are = just_one laws.Works events old new undo keeps tt is.1 are
   work_keeps failed (outcome.Help need) events old new undo keeps is are = none_keeps events old new keeps is.1 are
@@ -171,20 +171,20 @@ module _ {B : Type 0} (c : Class B) (l : IsLawful c) (number : ℕ) (in_set : En
   work_keeps failed (outcome.Refused refusal.Failed) events old new undo keeps is are = none_keeps events old new keeps is.1 are
   work_keeps failed (outcome.Refused other) events old new undo keeps is are = absurd is
 
-  more_keeps : (events : List (laws.Event B)) (old new : State B) → AllUndo old → Keeps old
+  more_keeps : (events : List (laws.Happening B)) (old new : State B) → AllUndo old → Keeps old
       → (events ≡ []) ⊎ ((events ≡ laws.Works ∷ []) ⊎ ((n : ℕ) × (events ≡ laws.Durable n ∷ []))) → AreHappening c old events new → Keeps new
   more_keeps events old new undo keeps (inl none) are = none_keeps events old new keeps none are
   more_keeps events old new undo keeps (inr (inl works)) are = just_one laws.Works events old new undo keeps tt works are
   more_keeps events old new undo keeps (inr (inr durable)) are = just_one (laws.Durable durable.0) events old new undo keeps tt durable.1 are
 
-  sync_keeps : (failed : Bool) (given : Outcome B) (events : List (laws.Event B)) (old new : State B) → AllUndo old → Keeps old → IsSync failed given events → AreHappening c old events new → Keeps new
+  sync_keeps : (failed : Bool) (given : Outcome B) (events : List (laws.Happening B)) (old new : State B) → AllUndo old → Keeps old → IsSync failed given events → AreHappening c old events new → Keeps new
   sync_keeps failed outcome.More events old new undo keeps is are = more_keeps events old new undo keeps is.1 are
   sync_keeps failed (outcome.Replied r) events old new undo keeps is are = work_keeps failed (outcome.Replied r) events old new undo keeps is are
   sync_keeps failed (outcome.Help need) events old new undo keeps is are = work_keeps failed (outcome.Help need) events old new undo keeps is are
   sync_keeps failed outcome.Nothing events old new undo keeps is are = work_keeps failed outcome.Nothing events old new undo keeps is are
   sync_keeps failed (outcome.Refused why) events old new undo keeps is are = work_keeps failed (outcome.Refused why) events old new undo keeps is are
 
-  move_keeps : (s : ℕ) (given : Outcome B) (events : List (laws.Event B)) (old new : State B) → AllUndo old → Keeps old → IsMove s (engine_of c old) given events
+  move_keeps : (s : ℕ) (given : Outcome B) (events : List (laws.Happening B)) (old new : State B) → AllUndo old → Keeps old → IsMove s (engine_of c old) given events
       → AreHappening c old events new → Keeps new
   move_keeps s (outcome.Replied r) events old new undo keeps is are = just_keeps is.0 events old new undo keeps (end_may s old.failed r is.0 is.2) is.1 are
   move_keeps s outcome.More events old new undo keeps is are = just_one is.1.0 events old new undo keeps (goes_may s is.1.0 is.1.2) is.1.1 are
@@ -195,7 +195,7 @@ module _ {B : Type 0} (c : Class B) (l : IsLawful c) (number : ℕ) (in_set : En
   move_keeps s (outcome.Refused other) events old new undo keeps is are = absurd is
 
   -- so in any event of an opening
-  pub step_keeps : (event : Event B) (given : Outcome B) (events : List (laws.Event B)) (old new : State B) → IsOfOpening event → AllUndo old → Keeps old
+  pub step_keeps : (event : Event B) (given : Outcome B) (events : List (laws.Happening B)) (old new : State B) → IsOfOpening event → AllUndo old → Keeps old
       → AreOf (engine_of c old) event given events → AreHappening c old events new → Keeps new
   step_keeps (Ask s call) given events old new is undo keeps of are = absurd is
   step_keeps (Move s) given events old new is undo keeps of are = move_keeps s given events old new undo keeps of are
@@ -211,7 +211,7 @@ module _ {B : Type 0} (c : Class B) (l : IsLawful c) (number : ℕ) (in_set : En
   meets_why refusal.Failed old new meets not_failed = absurd (not_failed refl)
   meets_why other old new meets not_failed = absurd meets
 
-  end_why : (s : ℕ) (failed : Bool) (why : Refusal) (event : laws.Event B) (old new : State B) → AllUndo old → failed ≡ false → IsEnd s failed (reply.Refused why) event
+  end_why : (s : ℕ) (failed : Bool) (why : Refusal) (event : laws.Happening B) (old new : State B) → AllUndo old → failed ≡ false → IsEnd s failed (reply.Refused why) event
       → Happens c old event new → why ≡ refusal.Device
   end_why s failed why (laws.RefusesCall t w) old new undo works end h =
       let same : why ≡ w = ap (reply_why why) end.1 in
@@ -233,20 +233,20 @@ module _ {B : Type 0} (c : Class B) (l : IsLawful c) (number : ℕ) (in_set : En
   end_why s failed why (laws.Opens n) old new undo works end h = absurd end
   end_why s failed why laws.Works old new undo works end h = absurd end
 
-  just_why : (s : ℕ) (failed : Bool) (why : Refusal) (event : laws.Event B) (events : List (laws.Event B)) (old new : State B) → AllUndo old → failed ≡ false
+  just_why : (s : ℕ) (failed : Bool) (why : Refusal) (event : laws.Happening B) (events : List (laws.Happening B)) (old new : State B) → AllUndo old → failed ≡ false
       → IsEnd s failed (reply.Refused why) event → IsJust event events → AreHappening c old events new → why ≡ refusal.Device
   just_why s failed why event events old new undo works end (inl is) are =
-      let one = subst (λ (xs : List (laws.Event B)). AreHappening c old xs new) is are in end_why s failed why event old one.0 undo works end one.1
+      let one = subst (λ (xs : List (laws.Happening B)). AreHappening c old xs new) is are in end_why s failed why event old one.0 undo works end one.1
   just_why s failed why event events old new undo works end (inr is) are =
-      let two = subst (λ (xs : List (laws.Event B)). AreHappening c old xs new) is are in
+      let two = subst (λ (xs : List (laws.Happening B)). AreHappening c old xs new) is are in
       end_why s failed why event two.0 two.2.0 (works_undo old two.0 undo two.1) works end two.2.1
 
-  work_why : (failed : Bool) (why : Refusal) (events : List (laws.Event B)) → failed ≡ false → IsWork {B = B} failed (outcome.Refused why) events → why ≡ refusal.Device
+  work_why : (failed : Bool) (why : Refusal) (events : List (laws.Happening B)) → failed ≡ false → IsWork {B = B} failed (outcome.Refused why) events → why ≡ refusal.Device
   work_why failed refusal.Device events works is = refl
   work_why failed refusal.Failed events works is = absurd (true_not (sym is.0 ∙ works))
   work_why failed other events works is = absurd is
 
-  pub step_why : (event : Event B) (given : Outcome B) (why : Refusal) (events : List (laws.Event B)) (old new : State B) → IsOfOpening event → AllUndo old → old.failed ≡ false
+  pub step_why : (event : Event B) (given : Outcome B) (why : Refusal) (events : List (laws.Happening B)) (old new : State B) → IsOfOpening event → AllUndo old → old.failed ≡ false
       → AreOf (engine_of c old) event given events → AreHappening c old events new → IsRefusal event given why → why ≡ refusal.Device
   step_why (Ask s call) given why events old new is undo works of are refused = absurd is
   step_why (Move s) (outcome.Replied r) why events old new is undo works of are refused =

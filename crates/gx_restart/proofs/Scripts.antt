@@ -16,7 +16,6 @@ use Rattle.gx_recovery.specs.Known.{Limits}
 use Rattle.gx_recovery.specs.Records.{Record}
 use Rattle.gx_index_laws.specs.Classes.{Class, IsLawful, Page}
 use Rattle.gx_index_laws.specs.States as index
-use Rattle.gx_index_laws.specs.States.{engine_of}
 use Rattle.gx_durable.specs.Spelled.{Reading}
 use Rattle.gx_durable.specs.Classes.{class_of, reading_of}
 use Rattle.gx_script.specs.declared.line.Line.{Line}

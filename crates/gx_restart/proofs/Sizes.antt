@@ -1,4 +1,4 @@
--- A legal tree has as many entries as it has pairs that aren't marked, on whatever page these stand.
+-- A legal tree has as many entries as it has pairs that aren't marked, whatever page these are on.
 use Rattle.std.proofs.Common.{◌≡◌, ℕ, suc, ◌+◌, ◌<◌, ◌≤◌, Bool, true, false, not, cond, ◌&&◌, ◌||◌, inl, inr, List, [], ◌∷◌, flat_map, length, refl, ap, sym, ◌∙◌, subst, arith}
 use Rattle.std.specs.Prelude.{◌==◌, nat_lt}
 use Rattle.std.specs.Ordering.{is_eq, match_ordering}

@@ -71,7 +71,7 @@ module _ {B : Type 0} (grammar : Grammar B) (number : ℕ) (t : Tree B) (h h1 : 
   abbrev upto : ℕ → List ℕ
   upto n = head ++ pages_text grammar t.node n
 
-  -- the first line, by the numbers that were told
+  -- the first line, by the numbers that were given
   module _ (n used counter : ℕ) (same_number : n ≡ number) (same_used : used ≡ t.used) (same_counter : counter ≡ t.counter) where
     same_head : head_line n used counter ≡ head
     same_head = ap (λ k. head_line k used counter) same_number ∙ ap (λ k. head_line number k counter) same_used ∙ ap (λ k. head_line number t.used k) same_counter
@@ -116,7 +116,7 @@ module _ {B : Type 0} (grammar : Grammar B) (number : ℕ) (t : Tree B) (h h1 : 
         let put : IsPut h h1 [] (upto t.used) lines = subst (λ (k : ℕ). IsPut h h1 [] (upto k) lines) all so_far in
         put_cut h h1 h2 [] (upto t.used) lines [] (upto t.used) put (subst (λ (x : List ℕ). IsCut h1 h2 x) (sym (append-nil lines)) cut) (sym (append-nil (upto t.used)))
 
--- All pages up to one were brought, and the next one was to be told.
+-- All pages up to one were brought, and the next one was to be written.
 module _ {B D : Type 0} (brings : ℕ → Parts B D → Result (Unit {0}) (Outcome B) → Parts B D → Type 0) (helps : Need → Parts B D → Outcome B → Parts B D → Type 0)
     (n : ℕ) (old middle new : Parts B D) (all : AreBrought brings helps old n middle) where
   pub one_more : IsTold brings helps (n + 1) middle (Ok tt) new → AreBrought brings helps old (n + 1) new
@@ -138,7 +138,7 @@ module _ {C B D : Type 0} (shape : Members B) (proper : B → Bool) (said : List
   abbrev Shows : Parts B D → Type 0
   Shows e = ShowsTheLogs (known_of (class_of shape proper l)) (reading_of said (format_of class)) (format_of class) (is_node (format_of class)) (state e.volume.shelf.disk) e.volume
 
-  -- a page that was brought stands as the tree has it
+  -- a page that was brought is as the tree has it
   pub node_told : (page : ℕ) (old middle : Parts B D) (contents : Contents) → 1 ≤ page → page ≤ old.volume.shelf.used
       → IsBrought (brings shape proper said class state page) (helps shape proper said class state) old (Ok tt) middle → Shows middle
       → StandsAs (format_of class) (is_node (format_of class)) (state middle.volume.shelf.disk) page middle contents

@@ -1,5 +1,5 @@
 -- As many pages are in use after the events of an opening as before.
-use Rattle.std.proofs.Common.{◌≡◌, ℕ, ◌+◌, ◌-◌, Bool, true, false, Option, None, Some, List, refl, ap, sym, ◌∙◌}
+use Rattle.std.proofs.Common.{◌≡◌, ℕ, ◌-◌, Bool, true, false, Option, None, Some, List, refl, ap, sym, ◌∙◌}
 use Rattle.gx_geom.specs.declared.refusal.Refusal.TheVariants as refusal
 use Rattle.gx_class.specs.Traits.{traits_of}
 use Rattle.gx_class.specs.declared.class.KeyClass.{Ghosts}

@@ -34,7 +34,7 @@ use Rattle.gx_restart.specs.declared.verification.Report.{Report}
 use Rattle.gx_restart.proofs.Ends.{all_free, free_place}
 use Rattle.gx_restart.proofs.Sizes.{live_is_the_sets_size}
 
--- an entry is live where a pair of it stands unmarked
+-- an entry is live if an unmarked pair of it exists
 live_so : {B : Type 0} (c : Class B) (t : Tree B) (e : Entry B) → is_live c t e ≡ nat_lt 0 (standing (λ x. is_entry c.rules e.row e.key x && not x.marked) t)
 unfolding is_live
 live_so c t e = refl
@@ -55,7 +55,7 @@ module _ {B D : Type 0} (shape : Members B) (proper : B → Bool) (said : List �
       all_free o.holds.index.slots 8 o.holds.holds.whole.sound.eight
       (λ i below. ap (λ (xs : List (Slot B)). slice_index_or xs i slots.Free) o.holds.holds.sessions.slots ∙ free_place engine.sessions.phases engine.sessions.table i (idle.free i below))
 
-  -- where no session has a transaction, what stands is what is live
+  -- if no session has a transaction, the committed set is what is live
   live_stands : (x : Entry B) → stood c.keys (engine_of c o.holds.index) x ≡ nat_lt 0 (standing (λ y. is_entry c.rules x.row x.key y && not y.marked) tree)
   live_stands x = ap (λ (xs : List (Slot B)). unwrap_or (noted_in c.keys x xs) (is_live c tree x)) free ∙ live_so c tree x
 
@@ -85,7 +85,7 @@ module _ {B D : Type 0} (shape : Members B) (proper : B → Bool) (said : List �
         used = used ∙ h.used;
       }
 
--- what is refused for want of memory
+-- what is refused because there is no memory
 module _ {T B D : Type 0} (shape : Members B) (proper : B → Bool) (said : List ℕ → B) (f : Format B) (class : ℕ) (d : Device) where
   pub memory_so : (result : Result T (NotOpened D)) → IfErr result (λ n. n.why ≡ refusal.Memory) → IfErr result (λ n. IsUnverifiedCopy shape proper said f class d n.why)
   memory_so (Ok x) is = tt

@@ -1,4 +1,4 @@
--- A page that is brought, after whatever gives it a frame.
+-- A page that is brought, after the events that free a frame for it.
 use Rattle.std.specs.Prelude.{ℕ, zero, suc, ◌≡◌, ◌≤◌, ◌<◌, ◌⊎◌, Bool, true, false, length, Result, Ok, Err, List, [], ◌∷◌}
 use Rattle.gx_geom.specs.declared.refusal.Refusal.{Refusal}
 use Rattle.gx_class.specs.Traits.{Traits, own}
@@ -33,7 +33,7 @@ module _ {B D : Type 0} (shape : Members B) (traits : Traits B) (state : D → D
         (state old.volume.shelf.disk) (state new.volume.shelf.disk) old new (bring_events result)
     pub order : IsOrderly old × IsOrderly new
 
-  -- The event that was named was made, with this outcome; so too.
+  -- The event that was named was made, with this outcome, as the contract of an engine has it.
   pub record Helps (named : Need) (old : Parts B D) (outcome : Outcome B) (new : Parts B D) : Type 0 where
     pub comes : HelpComes (state old.volume.shelf.disk) (state new.volume.shelf.disk) named old new outcome
     pub spares : (l : Limits) → SparesSo (class_of shape traits.is_proper l) (reading_of traits.said (format_of (own traits))) (format_of (own traits)) (is_node (format_of (own traits)))
@@ -105,7 +105,7 @@ module _ {B D : Type 0} (brings : Parts B D → Result (Unit {0}) (Outcome B) �
   IsBrought old (Err stop.GivenUp) new = HasTurned old 72057594037927936 new
 
 module _ {B D : Type 0} (brings : ℕ → Parts B D → Result (Unit {0}) (Outcome B) → Parts B D → Type 0) (helps : Need → Parts B D → Outcome B → Parts B D → Type 0) where
-  -- A page was brought and told; or it was brought, and the writer failed; or it wasn't brought.
+  -- A page was brought and written; or it was brought, and the writer failed; or it wasn't brought.
   abbrev pub IsTold : ℕ → Parts B D → Result (Unit {0}) Stop → Parts B D → Type 0
   IsTold page old (Ok done) new = IsBrought (brings page) helps old (Ok tt) new
   IsTold page old (Err stop.Write) new = IsBrought (brings page) helps old (Ok tt) new

@@ -23,7 +23,7 @@ AreEnough sectors n p = (n ≡ sectors) ⊎ (sectors_of p.pages ≤ n)
 abbrev pub memory_state : MemDisk → Device
 memory_state m = device_of m.sectors m.past.items m.kept.items m.bytes.items m.faults.count m.calls.count
 
--- the first so many sectors of a device, as a device that doesn't lie
+-- the first so many sectors of a device, as an honest device
 pub record IsFront (d : Device) (n : ℕ) (e : Device) : Type 0 where
   pub sectors : e.sectors ≡ n
   pub honest : e.honest ≡ true
@@ -39,7 +39,7 @@ pub record IsCopy (d e : Device) : Type 0 where
   pub enough : (p : Parameters) → Says d.seen p → AreInRange p.pages p.most → AreEnough d.sectors e.sectors p
   pub few : IsNoMore d.seen e.sectors
 
--- what a refusal of a copy is told as: its device is memory
+-- the refusal of a device by that of its copy: the copy's device is memory
 abbrev pub refusal_of_copy : Refusal → Refusal
 refusal_of_copy DeviceRefusal = Memory
 refusal_of_copy why = why

@@ -13,7 +13,7 @@ use Rattle.gx_restart.specs.Sizes.{live_on, live_up_to}
 
 module _ {B D : Type 0} (shape : Members B) (traits : Traits B)
     (state : D → Device) where
-  -- this holds of the tree of whatever index an engine holds
+  -- this holds of the tree of every index that the engine may hold
   abbrev pub OfEachTree : Parts B D → (Tree B → Type 0) → Type 0
   OfEachTree e P = (l : Limits) → OfItsTree (class_of shape traits.is_proper l) (reading_of traits.said (format_of (own traits)))
       (format_of (own traits)) (is_node (format_of (own traits))) state e P

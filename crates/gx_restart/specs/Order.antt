@@ -1,4 +1,4 @@
--- In which order an opening's calls are made, and what it writes where it is refused.
+-- In which order an opening's calls are made, and what it writes if it is refused.
 use Rattle.std.specs.Prelude.{◌≡◌, true, Result, MatchResult}
 use Rattle.gx_class.specs.Traits.{Traits, own}
 use Rattle.gx_geom.specs.declared.refusal.Refusal.{Refusal}
@@ -13,8 +13,9 @@ use Rattle.gx_restart.specs.Beginning.{HasFailed}
 use Rattle.gx_restart.specs.Keeping.{OpensSafely}
 
 module _ {B D : Type 0} (shape : Members B) (traits : Traits B) (state : D → Device) where
-  -- What was written where it was refused. A sync comes before anything is; a device that isn't one of the class isn't written; and where no
-  -- call failed and no memory was refused, as where it is damaged, only pages that the log gives are, and no other sector.
+  -- What was written if it was refused. A sync comes before any write; a device that isn't one of the class isn't
+  -- written; and if no call failed and no memory was refused, as for a damaged device, only pages that the log gives
+  -- are written, and no other sector.
   pub record RefusedInOrder (why : Refusal) (d e : Device) : Type 0 where
     pub first : IsInOrder state (OpensSafely shape traits.is_proper traits.said (format_of (own traits))) d e
     pub unfit : IsUnfit why → IsUnwritten d e

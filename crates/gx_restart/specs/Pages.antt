@@ -1,4 +1,4 @@
--- A page that can be told as a node.
+-- A page that can be written as a node.
 use Rattle.std.specs.Prelude.{ℕ, ◌≡◌, true}
 use Rattle.gx_page.specs.Contents.{Contents}
 use Rattle.gx_node.specs.Reading.{Format, is_node}

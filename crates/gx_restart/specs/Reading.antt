@@ -1,4 +1,4 @@
--- What reading pages leaves of an index and its tree, and what is told of that.
+-- What reading pages leaves of an index and its tree, and what contracts say of that.
 use Rattle.std.specs.Prelude.{ℕ, ◌≡◌, Bool, List, Result, Err}
 use Rattle.gx_machine.specs.declared.entry.Entry.{Entry}
 use Rattle.gx_disk.specs.Device.{Device}
@@ -21,7 +21,7 @@ IsNotGivenUp (Err stop.GivenUp) = ⊥
 IsNotGivenUp result = Unit {0}
 
 module _ {B : Type 0} (c : Class B) (r : Reading (Entry B) (Page B)) (f : Format B) (passes : ℕ → Contents → Bool) where
-  -- What was done is events of an index; the engine holds what they led to, and the tree is as it was.
+  -- What was done is events of an index; the engine holds what they led to, and the tree is unchanged.
   pub record Read {D : Type 0} (d e : Device) (new : Parts B D) (i : index.State B) : Type 0 where
     pub ran : Ran c r f passes d e new i
     pub same : index.tree_now c ran.index ≡ index.tree_now c i
@@ -31,12 +31,12 @@ module _ {B : Type 0} (c : Class B) (r : Reading (Entry B) (Page B)) (f : Format
   Runs state old new = (bodies : List (List (Record (Entry B) (Page B)))) (i : index.State B) → Holds c r f passes (state old.volume.shelf.disk) old bodies i
       → Ran c r f passes (state old.volume.shelf.disk) (state new.volume.shelf.disk) new i
 
-  -- and its tree is as it was
+  -- and its tree is unchanged
   abbrev pub Reads : {D : Type 0} → (D → Device) → Parts B D → Parts B D → Type 0
   Reads state old new = (bodies : List (List (Record (Entry B) (Page B)))) (i : index.State B) → Holds c r f passes (state old.volume.shelf.disk) old bodies i
       → Read (state old.volume.shelf.disk) (state new.volume.shelf.disk) new i
 
-  -- this holds of the tree of whatever index an engine held
+  -- this holds of the tree of every index that the engine may have held
   abbrev pub OfItsTree : {D : Type 0} → (D → Device) → Parts B D → (Tree B → Type 0) → Type 0
   OfItsTree state e P = (bodies : List (List (Record (Entry B) (Page B)))) (i : index.State B) → Holds c r f passes (state e.volume.shelf.disk) e bodies i
       → P (index.tree_now c i)

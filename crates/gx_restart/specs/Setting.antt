@@ -90,7 +90,7 @@ module _ {B D : Type 0} (shape : Members B) (traits : Traits B) (state : D → D
   abbrev passes : ℕ → Contents → Bool
   passes = is_node node
 
-  -- whatever index an engine held, what was done is events of it; and its tree is as it was
+  -- whatever index an engine held, what was done is events of it; and its tree is unchanged
   abbrev pub RunsOnAs : Parts B D → Parts B D → Type 0
   RunsOnAs old new = (l : Limits) → RunsOn (class l) spelled node passes state old new
 

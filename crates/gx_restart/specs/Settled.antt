@@ -10,7 +10,7 @@ use Rattle.gx_engine.specs.Repeated.{IsRepeated, last_of}
 use Rattle.gx_restart.specs.States.{State}
 
 module _ {B D : Type 0} (makes : Parts B D → Event B → Outcome B → Parts B D → Type 0) where
-  -- an event was made over and over, until there was nothing to do, or it was refused; of which this is the result
+  -- an event was repeated until there was nothing to do, or it was refused; this is the result
   abbrev pub IsExhausted : Event B → Parts B D → Result (Unit {0}) Refusal → Parts B D → Type 0
   IsExhausted event old result new = IsRepeated makes event old (last_of result) new
 

@@ -4,7 +4,7 @@ use Rattle.std.specs.List.{flat_map}
 use Rattle.gx_node.specs.Trees.{Pair, Child, Node, Tree, size}
 use Rattle.gx_script.specs.Corners.{Grammar, spaced}
 
--- the first line: the last commit's number, the greatest page taken, and the counter of splits
+-- the first line: the last commit's number, the greatest page in use, and the counter of splits
 abbrev pub head_line : ℕ → ℕ → ℕ → List ℕ
 head_line number used counter = codes "commits " ++ (decimal number ++ (codes " used " ++ (decimal used ++ (codes " counter " ++ (decimal counter ++ (10 ∷ []))))))
 
@@ -13,7 +13,7 @@ abbrev pub page_line : (page level nsn right count : ℕ) → List ℕ
 page_line page level nsn right count =
     codes "page " ++ (decimal page ++ (codes " level " ++ (decimal level ++ (codes " nsn " ++ (decimal nsn ++ (codes " right " ++ (decimal right ++ (codes " count " ++ (decimal count ++ (10 ∷ []))))))))))
 
--- an inner node's entry: the page, and the bound of what lies below it
+-- an inner node's entry: the child's page, and the bound of what lies below it
 abbrev pub child_line : {B : Type 0} → Grammar B → Child B → List ℕ
 child_line grammar c = codes "child " ++ (decimal c.page ++ (spaced (grammar.corners c.key) ++ (10 ∷ [])))
 

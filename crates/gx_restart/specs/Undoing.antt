@@ -1,4 +1,4 @@
--- The events of an opening: a checkpoint's to its end, and those that undo what a crash cut off.
+-- The events of an opening: those that end a checkpoint, and those that undo the transactions that a crash cut off.
 use Rattle.std.specs.Prelude.{ℕ, ◌≡◌, ◌⊎◌, ◌<◌, false, Option, None, Some, Result, Ok, Err, List, [], ◌∷◌, length}
 use Rattle.gx_geom.specs.declared.refusal.Refusal.{Refusal}
 use Rattle.gx_geom.specs.declared.refusal.Refusal.TheVariants.{Damaged, NoCall}
@@ -24,7 +24,7 @@ MayUndo (phase.Open call work) = ⊥
 MayUndo (phase.Undoing restored work) = Unit {0}
 MayUndo (phase.Waiting number) = ⊥
 
--- so of each
+-- each session is free, or undoes
 abbrev pub OnlyUndoes : {B D : Type 0} → Parts B D → Type 0
 OnlyUndoes e = (place : ℕ) → MayUndo (phase_at place e.sessions.phases)
 
@@ -100,6 +100,6 @@ module _ {B D : Type 0} (makes : Parts B D → Event B → Outcome B → Parts B
     pub session : ℕ
     pub given_up : IsGivenUp makes session (Move session) middle new
 
-  -- why an opening was stopped: an event was refused, or they took no end
+  -- why an opening was stopped: an event was refused, or the events didn't end
   abbrev pub WhyStopped : Parts B D → Refusal → Parts B D → Type 0
   WhyStopped old why new = IsRefusedAt old why new ⊎ ((why ≡ Damaged) × IsEndless old new)

@@ -1,4 +1,4 @@
--- What verifying a device tells of its bytes: whether it would open, and what it holds.
+-- What the verification of a device says of its bytes: whether it would open, and what it holds.
 use Rattle.std.specs.Prelude.{◌≡◌, ◌⊎◌, ◌≤◌, ◌<◌, ℕ, Bool, true, List, Some, Result, Ok, Err, length}
 use Rattle.gx_disk.specs.declared.layout.TheConstants.{MIN_SECTORS}
 use Rattle.gx_geom.specs.declared.refusal.Refusal.{Refusal}
@@ -37,7 +37,7 @@ why_of (Err refused) = Err refused.why
 module _ {B : Type 0} (shape : Members B) (is_key : B → Bool) (said : List ℕ → B) (f : Format B) where
   -- A device is formatted for an index of the class; its log is undamaged, and the pages after it are good for it and
   -- can be read. The report has the number of the log's last commit, the size of the set that it stands for, and the
-  -- greatest page that is taken.
+  -- greatest page in use.
   pub record IsVerified (class : ℕ) (d : Device) (report : Report) : Type 0 where
     pub parameters : Parameters
     pub formatted : IsFormatted shape is_key said f class d parameters
@@ -86,7 +86,7 @@ module _ {B : Type 0} (shape : Members B) (is_key : B → Bool) (said : List ℕ
   abbrev pub IsUnverified : ℕ → Device → Refusal → Type 0
   IsUnverified class d why = IsUnverifiedOr (LacksThere class d) class d why
 
-  -- what a device isn't copied for
+  -- why a device isn't copied
   abbrev pub IsUncopied : ℕ → Device → Refusal → Type 0
   IsUncopied class d why = MaySettle class d.sectors d.seen (Err why) ⊎ LacksThere class d why
 
@@ -94,7 +94,7 @@ module _ {B : Type 0} (shape : Members B) (is_key : B → Bool) (said : List ℕ
   abbrev pub IsCopyOf : ℕ → Device → Device → Type 0
   IsCopyOf class d e = IsCopy d e × ((p : Parameters) × IsFormatted shape is_key said f class d p)
 
-  -- a copy of a device that is damaged is handed out, as an opening left it, and is damaged
+  -- a copy of a damaged device is returned as its opening left it, and is damaged
   abbrev pub HandsOut : ℕ → NotVerified → Type 0
   HandsOut class n = n.why ≡ Damaged → (copy : MemDisk) × ((n.copy ≡ Some copy) × HoldsDamaged shape is_key said f class (memory_state copy))
 

@@ -22,15 +22,16 @@ use gx_script::{Corners, Noted};
 use std::io::Write;
 
 impl<D: SectorDisk, B: Corners, K: ReadKeys + KeyClass<Key = B>> Index<D, K> {
-    /// Writes the text of the tree: a line with the number of the last commit, the greatest page that is taken and the
-    /// counter of splits; and for each page from 1 on its line, and one for each of its entries, by slot. Pages are
-    /// brought one after another, with the events that give them frames. No node changes, and no set, claim, predicate
-    /// or open call. It takes no memory.
+    /// Writes the text of the tree: a line with the number of the last commit, the greatest page in use and the counter
+    /// of splits; and for each page from 1 on its line, and one for each of its entries, by slot. Pages are brought one
+    /// after another, with the events that free frames for them. It changes no node, no set, claim, predicate or open
+    /// call, and takes no memory.
     ///
-    /// `Write` where the writer's last call failed or took nothing, or 2^32 calls of it were made. `Refused` with
-    /// `Device`, `Failed` or `Damaged` as an event was. Where a page isn't brought within `EVENTS` turns of one or two
-    /// events it is given up, with `Damaged`; from then on the index only refuses, with `Failed`, and writes nothing.
-    /// Over a device that doesn't lie none is given up. What was written before is a beginning of the text.
+    /// Faults: `Write` if the writer's last call failed or took nothing, or 2^32 calls of it were made; `Refused` with
+    /// `Device`, `Failed` or `Damaged` if an event was refused so. If a page isn't brought within `EVENTS` turns of one
+    /// or two events, the dump is given up with `Damaged`; from then on the index only refuses, with `Failed`, and
+    /// writes nothing. Over an honest device no dump is given up. What was written before a fault is a beginning of the
+    /// text.
     pub fn dump<W: Write>(&mut self, writer: &mut Noted<W>) -> Result<(), DumpFault>
         ensures dumps { Dumps (Brings B.Shape K.ReadKeys D.state)
             (Helps B.Shape K.ReadKeys D.state) self.old result self.new }

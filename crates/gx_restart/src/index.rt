@@ -1,4 +1,4 @@
-//! An index, and its calls.
+//! An index for one thread, and its calls.
 ghost use Rattle.std.specs.Prelude.{◌≡◌, false};
 ghost use Rattle.gx_recovery.specs.Known.{Limits};
 ghost use Rattle.gx_restart.specs.Called.{CallsBy, CallsIndex, EndsWhereHeld};
@@ -19,7 +19,7 @@ use std::marker::Model;
 #[derive(Drop)]
 pub struct Index<D: SectorDisk, K: ReadKeys> {
     pub(crate) engine: Engine<D, K>,
-    // the bound was passed: from then on it only refuses
+    // whether the bound was passed; the index only refuses from then on
     pub(crate) ended: bool,
 }
 
@@ -32,7 +32,7 @@ impl<D: SectorDisk, K: ReadKeys> Model for Index<D, K> {
 }
 
 impl<D: SectorDisk, K: ReadKeys> Index<D, K> {
-    /// An index over an engine.
+    /// Makes an index over an engine.
     pub fn new(engine: Engine<D, K>) -> Self
         ensures { result ≡ record { engine = engine; ended = false } }
     {
@@ -42,7 +42,7 @@ impl<D: SectorDisk, K: ReadKeys> Index<D, K> {
         }
     }
 
-    /// The engine, as the calls left it.
+    /// Returns the engine, as the calls left it.
     pub fn into_engine(self) -> Engine<D, K>
         ensures { result ≡ self.engine }
     {
@@ -51,7 +51,7 @@ impl<D: SectorDisk, K: ReadKeys> Index<D, K> {
 }
 
 impl<D: SectorDisk, K: ReadKeys + Probing> Index<D, K> {
-    // A call of an index that goes on.
+    // Makes a call of an index whose bound wasn't passed.
     fn run(&mut self, session: u8, call: Call<K::Key>) -> Reply<K::Key>
         requires { self.old.ended ≡ false }
         ensures calls { CallsBy (Makes K.Key.Shape K.ReadKeys D.state) false self.old session call result self.new }
@@ -70,10 +70,9 @@ impl<D: SectorDisk, K: ReadKeys + Probing> Index<D, K> {
     /// Asks a call of a session, and runs its events to the end: its moves, and the steps of the log and of a
     /// checkpoint and the writes of pages that help them.
     ///
-    /// The reply is the one with which the call ended. After `Device`, `Failed` and `Damaged` the call stands open, and
-    /// each further one is answered with `Failed`. A call that has not ended within `EVENTS` events is given up, and
-    /// answered with `Damaged`; from then on the index only refuses, with `Failed`. Over a device that doesn't lie no
-    /// call is given up.
+    /// Returns the reply with which the call ended. After `Device`, `Failed` and `Damaged` the call stays open, and the
+    /// reply to each further one is `Failed`. A call that has not ended within `EVENTS` events is given up with the
+    /// reply `Damaged`; from then on the index only refuses, with `Failed`. Over an honest device no call is given up.
     pub fn call(&mut self, session: u8, call: Call<K::Key>) -> Reply<K::Key>
         ensures calls { CallsIndex (Makes K.Key.Shape K.ReadKeys D.state) self.old session call result self.new }
         ensures told { TellsAs D.state self.old.engine self.new.engine (Outcome.Replied result) }

@@ -1,5 +1,5 @@
-//! What calls of an index have to do with runs of the set machine. Each function is its contract alone.
-ghost use Rattle.std.specs.Prelude.{◌≡◌, ℕ, Bool, List, false};
+//! Laws that relate calls of an index to runs of the set machine. Each function is its contract alone.
+ghost use Rattle.std.specs.Prelude.{◌≡◌, ℕ, List, false};
 ghost use Rattle.gx_machine.specs.declared.entry.Entry.{Entry};
 ghost use Rattle.gx_machine.specs.declared.call.Call.{Call};
 ghost use Rattle.gx_machine.specs.declared.reply.Reply.{Reply};
@@ -9,7 +9,7 @@ ghost use Rattle.gx_recovery.specs.Known.{Limits};
 ghost use Rattle.gx_recovery.specs.Records.{Record};
 ghost use Rattle.gx_pool.specs.declared.frames.TheConstants.{FRAMES};
 ghost use Rattle.gx_index_laws.specs.declared.TheConstants.{CHECKPOINT_AT};
-ghost use Rattle.gx_index_laws.specs.Classes.{Class, IsLawful, Page};
+ghost use Rattle.gx_index_laws.specs.Classes.{Page};
 ghost use Rattle.gx_index_laws.specs.States as index;
 ghost use Rattle.gx_durable.specs.Classes.{class_of, reading_of};
 ghost use Rattle.gx_engine.specs.Holds.{Holds};
@@ -35,9 +35,9 @@ use gx_class::{KeyClass, ReadKeys};
 use gx_disk::SectorDisk;
 use gx_script::Corners;
 
-/// A call of an index that goes on, over an engine that holds an index's state, is a run of the machine as which that
-/// state is seen: the call is asked and given its reply, and nothing else is asked or replied. So the reply is the
-/// machine's for that call asked alone, or tells of a fault that was met.
+/// A call of an index whose bound wasn't passed, over an engine that holds an index's state, is a run of the machine
+/// that this state is seen as: the call is asked and replied to, and nothing else is. So the reply is the machine's for
+/// that call alone, or it reports a fault.
 pub fn each_call_is_asked_alone<D: SectorDisk, K: ReadKeys>()
     ensures { (l : Limits) (s : ℕ) (call : Call K.Key) (reply : Reply K.Key) (old new : State K.Key D)
         → CallsIndex (Makes K.Key.Shape K.ReadKeys D.state) old s call reply new → old.ended ≡ false
@@ -48,9 +48,9 @@ pub fn each_call_is_asked_alone<D: SectorDisk, K: ReadKeys>()
     gx_engine::laws::progress::no_call_is_given_up::<D, K>();
 }
 
-/// What the lines of a script ask of an index that goes on, over an engine that holds an index's state, and are
-/// answered, is one run of the machine as which that state is seen, joined over all lines; its replies are those of the
-/// text.
+/// The calls of a script's lines on an index whose bound wasn't passed, over an engine that holds an index's state, are
+/// with their replies one run of the machine that this state is seen as, joined over all lines; its replies are those
+/// of the text.
 pub fn each_script_is_one_run<D: SectorDisk, B: Corners, K: ReadKeys + KeyClass<Key = B>>()
     ensures { (l : Limits) (number : ℕ) (lines : List (Line B)) (old new : State B D) (text : List ℕ)
         → IsScript (grammar_of B.Corners) (CallsIndex (Makes B.Shape K.ReadKeys D.state))
@@ -63,10 +63,10 @@ pub fn each_script_is_one_run<D: SectorDisk, B: Corners, K: ReadKeys + KeyClass<
     gx_engine::laws::progress::no_call_is_given_up::<D, K>();
 }
 
-/// Where no reply to a script is a refusal for want of pages, memory or numbers, or for a fault, its text is the one
-/// that the calls alone decide: `decided_text` of what they see of the machine at the start, the last set, its number
-/// and the sessions. So it is the text that the plain index gives from the same start. An index that was opened is such
-/// a start: no call of it is open, and its calls see the set that was found.
+/// If no reply to a script is a refusal because pages, memory or numbers have run out, or for a fault, the calls alone
+/// decide its text: it is `decided_text` of what they see of the machine at the start: the last set, its number and the
+/// sessions. So it is the text that the plain index gives from the same start. A freshly opened index is such a start:
+/// no call of it is open, and its calls see the set that was found.
 pub fn texts_are_decided_by_calls<D: SectorDisk, B: Corners, K: ReadKeys + KeyClass<Key = B>>()
     ensures decided { (l : Limits) (number : ℕ) (lines : List (Line B)) (old new : State B D) (text : List ℕ)
         → IsDecidedScript (grammar_of B.Corners) B.Shape K.ReadKeys D.state number lines old text new
@@ -85,7 +85,7 @@ pub fn texts_are_decided_by_calls<D: SectorDisk, B: Corners, K: ReadKeys + KeyCl
     gx_engine::laws::progress::no_call_is_given_up::<D, K>();
 }
 
-/// Where a settling has ended well over an engine that holds an index's state, each commit that was sealed is durable.
+/// If a settling over an engine that holds an index's state ended well, each sealed commit is durable.
 pub fn a_settled_index_is_durable<D: SectorDisk, K: ReadKeys>()
     ensures { (l : Limits) (e : Parts K.Key D)
         (bodies : List (List (Record (Entry K.Key) (Page K.Key)))) (i : index.State K.Key)
@@ -94,8 +94,8 @@ pub fn a_settled_index_is_durable<D: SectorDisk, K: ReadKeys>()
         → IsAtRest e → e.sessions.durable ≡ e.sessions.latest }
 {}
 
-/// The limits of an index, in numbers: a pool has 4,096 frames at most, and a checkpoint begins once the selected
-/// extent has 24 batches.
+/// The limits of an index as numbers: a pool has 4,096 frames at most, and a checkpoint begins once the selected extent
+/// has 24 batches.
 pub fn limits()
     ensures frames { FRAMES ≡ 4096 }
     ensures checkpoint { CHECKPOINT_AT ≡ 24 }

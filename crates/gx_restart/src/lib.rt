@@ -1,5 +1,5 @@
-//! An index for one thread: a device formatted and opened, calls that are run to their end over an engine, all that is
-//! logged gated, scripts, and the text of its tree; and a device verified.
+//! An index for one thread: format and open a device, run calls to their end over an engine, gate all that is logged,
+//! run scripts, write the text of its tree; and verify a device.
 #![tactic(auto)]
 
 mod class;

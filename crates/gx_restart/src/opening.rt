@@ -1,4 +1,4 @@
-//! The opening of a device: what stands there is found, and an engine begins over it and undoes what a crash cut off.
+//! Opens a device: finds its index, starts an engine over it, and undoes the transactions that a crash cut off.
 ghost use Rattle.std.specs.Prelude.{◌≡◌, ◌≤◌, ◌<◌, ◌+◌, ◌*◌, ℕ, List, false, true, Err, IfErr, IfOk, MatchResult};
 ghost use Rattle.gx_disk.specs.declared.layout.TheConstants.{MIN_SECTORS, PAGES_AT, PAGE_SECTORS};
 ghost use Rattle.gx_engine.specs.Made.{Makes};
@@ -13,7 +13,6 @@ ghost use Rattle.gx_restart.specs.Order.{OpensInOrder};
 ghost use Rattle.gx_restart.specs.Undoing.{BeganWith, GoesBy, IsIdle, OnlyUndoes};
 
 mod begin;
-mod losers;
 mod undo;
 
 use begin::begin_engine;
@@ -28,13 +27,13 @@ use gx_opening::{Standing, find};
 use std::alloc::Global;
 use undo::finish;
 
-/// How few frames an engine may have.
+/// The fewest frames that an engine may have.
 pub(crate) const LEAST_FRAMES: usize = 16;
 
-/// How many.
+/// The most frames that an engine may have.
 pub(crate) const MOST_FRAMES: usize = 4096;
 
-// Ends an engine's checkpoint, and undoes what a crash cut off; or gives the engine up.
+// Ends an engine's checkpoint, and undoes the transactions that a crash cut off. A refusal returns the device.
 fn finished<D: SectorDisk, K: ReadKeys + Probing>(
     engine: Engine<D, K>,
 ) -> Result<Engine<D, K>, NotOpened<D>>
@@ -127,26 +126,26 @@ fn open_with<D: SectorDisk, K: ReadKeys + Probing>(
     }
 }
 
-/// Opens a device, with so many frames for pages, which the engine then has. The device is settled and read for what
-/// it is formatted for, its log is read and laid over its pages, which are tested, gates behind the log are closed,
-/// and an engine begins: its checkpoint is ended, and what transactions wrote that a crash cut off is undone. The
-/// engine has no session with a transaction, and no checkpoint runs. It takes all the memory that the engine ever
-/// takes, but for searches' stacks and answers.
+/// Opens a device, with so many frames for pages. It syncs the device, reads its parameters, reads its log and lays
+/// that over its pages, tests the pages, closes the gates behind the log, and starts an engine. Then it ends the
+/// engine's checkpoint, and undoes the transactions that a crash cut off. The engine that it returns has no session
+/// with a transaction, and no checkpoint runs. It allocates all the memory that the engine ever takes, but for the
+/// stacks and results of searches.
 ///
-/// Refused, with the device as the calls left it, by the first that holds: with fewer frames than 16 or more than 4,096
-/// (`BadParameter`), on a device with fewer sectors than the smallest index takes (`TooSmall`; no call is made before
-/// these two), without the magic (`NotFormatted`), with numbers out of range or of another class (`BadParameter`), with
-/// fewer sectors than that index takes (`TooSmall`), with a damaged log, or pages that can't be read, aren't a legal
-/// tree, or haven't what open transactions touched in its place (`Damaged`); and where a call fails (`Device`, and only
-/// then), or memory is refused (`Memory`). On a device that lies, where 2^56 events of one transaction's undo take no
-/// end, it is given up with `Damaged`.
+/// Refused, with the device as the calls left it, for the first of these that holds: there are fewer frames than 16 or
+/// more than 4,096 (`BadParameter`), the device has fewer sectors than the smallest index takes (`TooSmall`; no call is
+/// made before these two tests), the magic is missing (`NotFormatted`), the numbers are out of range or of another
+/// class (`BadParameter`), the device has fewer sectors than that index takes (`TooSmall`), its log is damaged, or its
+/// pages can't be read, aren't a legal tree, or don't have what open transactions touched in its place (`Damaged`);
+/// also if a call fails (`Device`, and only then), or memory is refused (`Memory`). If one transaction's undo doesn't
+/// end within 2^56 events, as can happen on a device that isn't honest, the opening is given up with `Damaged`.
 ///
-/// On an honest device, at each moment, also where it is refused, a crash may leave what it could at the start, or an
-/// image with the log that was found and after it the same pages; where these are good for the log, that stands for the
-/// set that the log keeps, under its number. The engine then holds an index with that one set. A sync comes before the
-/// first write. Where it is refused with `NotFormatted`, `BadParameter` or `TooSmall` nothing is written, and where it
-/// is refused with `Damaged` only pages that the log gives, and no other sector: the device is left damaged, so that
-/// `gx_opening::examine` finds what is.
+/// On an honest device, at each moment, also if the opening is refused, a crash may leave what it could leave at the
+/// start, or an image with the log that was found and after it the same pages; if these are good for the log, that
+/// image stands for the set that the log keeps, under its number. The engine then holds an index with that one set. A
+/// sync comes before the first write. If the opening is refused with `NotFormatted`, `BadParameter` or `TooSmall`,
+/// nothing is written. If it is refused with `Damaged`, only pages that the log gives are written, and no other sector:
+/// the device stays damaged, so that `gx_opening::examine` finds the damage.
 pub fn open<D: SectorDisk, K: ReadKeys + Probing>(
     alloc: Global,
     disk: D,

@@ -1,4 +1,4 @@
-//! What is logged is gated.
+//! Gates all that is logged.
 ghost use Rattle.std.specs.Prelude.{Err, OnOk, ◌≡◌, ◌≢◌};
 ghost use Rattle.gx_engine.specs.Calls.{TellsWhy};
 ghost use Rattle.gx_engine.specs.Made.{Makes};
@@ -15,7 +15,7 @@ use gx_events::Event;
 use gx_geom::Refusal;
 
 impl<D: SectorDisk, K: ReadKeys + Probing> Index<D, K> {
-    // Makes a step of the checkpoint or of the log over and over, until it has nothing to do.
+    // Repeats a step of the checkpoint or of the log, until it has nothing to do.
     fn exhaust(&mut self, event: Event<K::Key>) -> Result<(), Refusal>
         requires { IsFlushing event }
         ensures made { IsExhausted (Makes K.Key.Shape K.ReadKeys D.state) event self.old.engine result self.new.engine }
@@ -43,7 +43,7 @@ impl<D: SectorDisk, K: ReadKeys + Probing> Index<D, K> {
     /// Ends a checkpoint that runs or is due, and gates all that is logged: checkpoint steps until there is nothing to
     /// do, and then log steps. It takes no memory, and changes no set, claim or predicate, and no call that is open.
     ///
-    /// Refused with `Device`, `Failed` or `Damaged` as an event was. Over any device it ends: each step leaves less to
+    /// Refused with `Device`, `Failed` or `Damaged` as an event was. It ends over any device: each step leaves less to
     /// flush.
     pub fn settle(&mut self) -> Result<(), Refusal>
         ensures settles { Settles (Makes K.Key.Shape K.ReadKeys D.state) self.old result self.new }

@@ -1,4 +1,4 @@
-//! The text of an index's tree: its pages are brought one after another, and told line by line, read where they lie.
+//! The text of an index's tree: pages are brought one after another, and written line by line, read from their frames.
 pub(crate) mod bring;
 mod lines;
 mod pages;

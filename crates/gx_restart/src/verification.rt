@@ -1,5 +1,5 @@
-//! The verification of a device: whether it would open, and what it holds. A copy of it in memory is opened, so
-//! nothing is written.
+//! Verifies a device: whether it would open, and what it holds. A copy of it in memory is opened, so nothing is written
+//! to the device.
 ghost use Rattle.std.specs.Prelude.{◌≡◌, ◌≢◌, ◌≤◌, ◌<◌, true, Err, IfErr, IfOk, IfSome};
 ghost use Rattle.gx_disk.specs.Looks.{Looks};
 ghost use Rattle.gx_opening.specs.Formatted.{Counted};
@@ -24,14 +24,14 @@ use gx_engine::{Engine, NotOpened};
 use gx_geom::Refusal;
 use std::alloc::Global;
 
-/// What stands on a device that was verified.
+/// What a verified device holds.
 #[derive(Clone, Copy, Debug, PartialEq, Eq)]
 pub struct Report {
     /// The number of the last commit.
     pub commits: u64,
     /// How many entries that commit's set has.
     pub entries: u64,
-    /// The greatest page that is taken.
+    /// The greatest page in use.
     pub used: u32,
 }
 
@@ -40,12 +40,12 @@ pub struct Report {
 pub struct NotVerified {
     /// Why.
     pub why: Refusal,
-    /// Its copy, where an opening of that was refused, as that left it: of a damaged device its log may lie over its
-    /// pages.
+    /// The copy, as its opening left it, if that was refused. If the device is damaged, the copy's log may be laid over
+    /// its pages.
     pub copy: Option<MemDisk>,
 }
 
-// What a refusal of a copy is told as.
+// The refusal of a device, by the refusal of its copy: a failure of the copy is a lack of memory.
 fn told_of_copy(why: Refusal) -> Refusal
     ensures { result ≡ refusal_of_copy why }
 {
@@ -55,7 +55,7 @@ fn told_of_copy(why: Refusal) -> Refusal
     }
 }
 
-// What an engine that was just opened holds. Its device is handed back where that isn't counted.
+// Counts what a freshly opened engine holds. A refusal returns the engine's device.
 fn report_of<D: SectorDisk + Drop, K: ReadKeys + Probing>(
     engine: Engine<D, K>,
 ) -> Result<Report, NotOpened<D>>
@@ -77,7 +77,7 @@ fn report_of<D: SectorDisk + Drop, K: ReadKeys + Probing>(
                 used,
             })
         }
-        // all that an engine over memory is stopped for is want of it
+        // an engine over memory is stopped only if memory is refused
         Err(_) => Err(NotOpened {
             why: Refusal::Memory,
             disk: engine.into_disk(),
@@ -85,7 +85,8 @@ fn report_of<D: SectorDisk + Drop, K: ReadKeys + Probing>(
     }
 }
 
-// Opens a copy, and says what it holds; or hands it back, with its log laid over its pages where it is damaged.
+// Opens a copy, and reports what it holds. A refusal returns the copy, with its log laid over its pages if it is
+// damaged.
 fn verify_copy<D: SectorDisk + Drop, K: ReadKeys + Probing>(
     alloc: Global,
     copy: D,
@@ -111,9 +112,8 @@ fn verify_copy<D: SectorDisk + Drop, K: ReadKeys + Probing>(
     }
 }
 
-/// Verifies a device as `verify` does. Where an opening of its copy was refused the copy is handed out, so that
-/// `gx_opening::examine` finds what is damaged of a damaged one: it reads as the device, but for pages that the log
-/// gives.
+/// Verifies a device as `verify` does. If the opening of its copy was refused, it returns the copy too, in which
+/// `gx_opening::examine` finds the damage: the copy reads as the device, but for pages that the log gives.
 pub fn verify_or_copy<D: SectorDisk, K: ReadKeys + Probing>(
     alloc: Global,
     disk: &mut D,
@@ -162,18 +162,18 @@ pub fn verify_or_copy<D: SectorDisk, K: ReadKeys + Probing>(
     }
 }
 
-/// Verifies a device: answers what an opening of it with so many frames would, and what it would hold: the number of
-/// the last commit, how many entries that commit's set has, and the greatest page that is taken. What open
-/// transactions wrote isn't counted. A copy of the sectors of the index, 528,456 at most, is opened in memory, so no
-/// write and no sync is made on the device.
+/// Verifies a device: returns the refusal that its opening with so many frames would meet, or what it would hold: the
+/// number of the last commit, how many entries that commit's set has, and the greatest page in use. It doesn't count
+/// what open transactions wrote. It opens a copy in memory of the sectors of the index, 528,456 at most, so it makes no
+/// write and no sync of the device.
 ///
-/// Refused, by the first that holds: with fewer frames than 16 or more than 4,096 (`BadParameter`), on a device with
-/// fewer sectors than the smallest index takes (`TooSmall`; no call is made before these two), without the magic
-/// (`NotFormatted`), with numbers out of range or of another class (`BadParameter`), with fewer sectors than that
-/// index takes (`TooSmall`), with a damaged log, or pages that can't be read, aren't a legal tree, or haven't what
-/// open transactions touched in its place (`Damaged`); `Device` where a read fails, and only then; and `Memory` where
-/// there is none for the copy, or for an opening of it: so of a device that is formatted for an index of the class, and
-/// of no other.
+/// Refused for the first of these that holds: there are fewer frames than 16 or more than 4,096 (`BadParameter`), the
+/// device has fewer sectors than the smallest index takes (`TooSmall`; no call is made before these two tests), the
+/// magic is missing (`NotFormatted`), the numbers are out of range or of another class (`BadParameter`), the device has
+/// fewer sectors than that index takes (`TooSmall`), its log is damaged, or its pages can't be read, aren't a legal
+/// tree, or don't have what open transactions touched in its place (`Damaged`). `Device` if a read fails, and only
+/// then. `Memory` if there is none for the copy or for its opening, which only a device that is formatted for an index
+/// of the class may meet.
 pub fn verify<D: SectorDisk, K: ReadKeys + Probing>(
     alloc: Global,
     disk: &mut D,

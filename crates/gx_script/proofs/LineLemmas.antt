@@ -170,7 +170,7 @@ pub unended-append : (u v : List ℕ) → IsUnended u → IsUnended v → IsUnen
 unended-append u v h k = list_any-append (λ b. eqb b 10) u v ∙ ap (λ (t : Bool). t || list_any (λ b. eqb b 10) v) h ∙ k
 
 module _ {B : Type 0} (k : Grammar B) where
-  -- what is kept of a line that was begun stands for all of it
+  -- what is kept of a line that was begun represents all of it
   pub asked-kept : (u t : List ℕ) → IsUnended u → asked k (u ++ t) ≡ asked k (kept u ++ t)
   asked-kept u t h =
       ap (λ ps. map (line_of k) ps) (lines-prepend u t h) ∙ sym (kept_same k u (lines t))

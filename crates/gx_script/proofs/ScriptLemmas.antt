@@ -137,7 +137,7 @@ module _ {B I : Type 0} (k : Grammar B) (answered : I → ℕ → Call B → Rep
       (subst (λ x. IsWritten k answered n (done ++ (l ∷ [])) start (w ++ waiting) x new) time.2 whole) in
       subst (λ x. IsWritten k answered n (done ++ (l ∷ [])) start x left new) (append_assoc w waiting time.0 ∙ ap (λ x. w ++ x) (sym time.1)) late
 
-  -- a line that was told is done
+  -- a line whose reply was written is done
   pub written_told : (n at : ℕ) (done : List (Line B)) (start old new : I) (w waiting left : List ℕ) (l : Line B) (held holds : Option (List ℕ))
       → IsWritten k answered n done start w waiting old → at ≡ n + length done
       → (told : IsToldWhole k answered at l old new held holds waiting left)

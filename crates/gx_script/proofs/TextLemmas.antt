@@ -76,7 +76,7 @@ refusal-unended HistoryFull = refl
 one_more : (n : ℕ) → suc n ≡ 1 + n
 one_more n = omega arith
 
--- a line that is told is one line
+-- a line that is written is one line
 told-one : (s : ℕ) (told more : List ℕ) → IsUnended told → length (lines (told_line s told ++ more)) ≡ 1 + length (lines more)
 told-one s told more h =
     let line : List ℕ = decimal s ++ (32 ∷ told) in

@@ -1,4 +1,4 @@
--- What holds of the corners of boxes.
+-- Laws of the corners of boxes.
 use Rattle.std.proofs.Common.{◌≡◌, ℤ, List, [], ◌∷◌, Bool, true, false, cond, length, refl, ap, ◌∙◌, arith, None, Some}
 use Rattle.std.specs.Prelude.{int_le, ◌&&◌}
 use Rattle.gx_geom.specs.Rectangles.{Rectangle, rectangle_of}

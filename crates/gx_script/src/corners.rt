@@ -18,14 +18,14 @@ pub trait Corners: Shape {
     /// Whether each of these numbers may be a corner.
     ghost fit: { List ℤ → Bool };
 
-    /// The key with these corners. None where they are reversed.
+    /// The key with these corners. None if they are reversed.
     ghost made: { List ℤ → Option Self };
 
     /// Whether each of these numbers may be a corner.
     fn fits(numbers: &[i64]) -> bool
         ensures { result ≡ fit numbers.now };
 
-    /// The key with these corners. `BadBox` where they are reversed.
+    /// The key with these corners. `BadBox` if they are reversed.
     fn make(numbers: &[i64]) -> Result<Self, Refusal>
         requires as_many { length numbers.now ≡ COUNT }
         requires fits { fit numbers.now ≡ true }

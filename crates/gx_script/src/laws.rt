@@ -1,4 +1,4 @@
-//! What the grammar of scripts means.
+//! Laws of the grammar of scripts.
 ghost use Rattle.std.specs.Prelude.{◌≡◌, ◌≢◌, ◌+◌, ◌<◌, ◌^◌, ℕ, ℤ, List, [], ◌∷◌, ◌++◌};
 ghost use Rattle.std.specs.Prelude.{true, length, map, codes, decimal, Some, None, FitsSigned};
 ghost use Rattle.std.specs.List.{All};

@@ -4,7 +4,7 @@ use gx_machine::Call;
 /// What a line of a script is.
 #[derive(Clone, Copy, Debug, PartialEq, Eq)]
 pub enum Line<B> {
-    /// It has no words, and is answered by nothing.
+    /// It has no words, and gets no reply.
     Blank,
     /// It is too long, or no line of the table.
     Bad,

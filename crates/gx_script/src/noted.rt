@@ -32,7 +32,7 @@ pub struct Noted<T> {
 }
 
 impl<T> Noted<T> {
-    /// No call was made yet.
+    /// Wraps a reader or a writer of which no call was made yet.
     pub fn new(inner: T) -> Self
         ensures { result ≡ record { inner = inner; last = None; kind = None; calls = 0 } }
     {
@@ -93,7 +93,7 @@ impl<R: Read> Noted<R> {
 }
 
 impl<W: Write> Noted<W> {
-    /// Writes once, and notes how that ended. What was moved is a front of the bytes.
+    /// Writes once, and notes how that ended. The bytes that were written are at the front.
     pub fn write(&mut self, bytes: &[u8]) -> Transfer
         ensures taken { IsTaken (W.contents self.old.inner) (W.contents self.new.inner) bytes.now result }
         ensures last { self.new.last ≡ Some result }

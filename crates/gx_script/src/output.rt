@@ -41,7 +41,7 @@ impl Model for Output {
 }
 
 impl Output {
-    /// Nothing waits.
+    /// An output of which nothing waits.
     pub(crate) fn new() -> Self
         ensures { result ≡ [] }
     {
@@ -63,7 +63,7 @@ impl Output {
         Ok(())
     }
 
-    /// Makes room for a line, by a write where there is none.
+    /// Makes room for a line: writes what waits if there is none.
     pub(crate) fn make_room<W: Write>(&mut self, writer: &mut Noted<W>) -> Result<(), ScriptFault>
         ensures ok { OnOk result ((length self.new + LONGEST ≤ WAITING)
             × IsPut (W.contents writer.old.inner) (W.contents writer.new.inner) self.old [] self.new) }
@@ -180,8 +180,8 @@ impl Output {
 
 /// Writes all of the bytes, in as many writes as it takes. One that was interrupted is made again.
 ///
-/// `Write` where the writer's last call failed or took nothing, or where 2^32 calls of it were made; a front of the
-/// bytes is written then.
+/// `Write` if the writer's last call failed or took nothing, or 2^32 calls of it were made; a beginning of the bytes is
+/// written then.
 pub fn write_whole<W: Write>(writer: &mut Noted<W>, bytes: &[u8]) -> Result<(), ScriptFault>
     ensures ok { OnOk result (Appends (W.contents writer.old.inner) (W.contents writer.new.inner) bytes.now) }
     ensures cut { IfErr result (λ e. (e ≡ ScriptFault.Write) × IsCut

@@ -11,7 +11,7 @@ use crate::{Corners, Noted, ScriptFault};
 use gx_machine::{Entry, Reply};
 use std::io::Write;
 
-/// Adds the lines of a reply, and writes what there is no room for.
+/// Adds the lines of a reply, and writes what waits if there is no room.
 pub(crate) fn put_reply<B: Corners, W: Write>(
     writer: &mut Noted<W>,
     output: &mut Output,

@@ -25,8 +25,8 @@ const PIECE: usize = 16384;
 /// Reads a script to its end, asks the index for the calls of its lines, and writes the replies.
 ///
 /// Each reply is written before the next call is asked. An interrupted read or write is made again. The script ends
-/// well where the reader's last call gave nothing; with `Read` where that failed, or 2^32 calls were made of the
-/// reader; and with `Write` where the writer's last call failed or took nothing, or 2^32 calls were made of the writer.
+/// well when the reader's last call gave nothing; with `Read` if that call failed, or 2^32 calls of the reader were
+/// made; and with `Write` if the writer's last call failed or took nothing, or 2^32 calls of the writer were made.
 pub fn run<B: Corners, R: Read, W: Write, I: Answers<B>>(
     reader: &mut Noted<R>,
     writer: &mut Noted<W>,

@@ -1,4 +1,4 @@
--- What a hold hands on and records, of any engine.
+-- What a hold returns and records, for any engine.
 use Rattle.std.proofs.Common.{arith, ◌≡◌, ℕ, ◌⊎◌, inl, inr, List, [], ◌∷◌, ◌++◌, refl, sym, subst}
 use Rattle.gx_machine.specs.declared.call.Call.{Call}
 use Rattle.gx_machine.specs.declared.item.Item.{Item}
@@ -26,7 +26,7 @@ module _ {B : Type 0} where
   as_moved P s CheckpointStep own other p = absurd own
   as_moved P s (Sweep page) own other p = absurd own
 
-  -- an outcome without a reply is handed on
+  -- an outcome without a reply is returned unchanged
   pub told_alone : (o : Outcome B) → replied o ≡ 0 → IsHandedOn o o
   told_alone (Replied r) none = let no : ⊥ = omega (arith, none) in absurd no
   told_alone More none = refl

@@ -81,7 +81,7 @@ module _ {B : Type 0} where
       sum_by-set f xs (s - 1) y Idle (omega (arith, bounds.0, bounds.1, eight)) in
       ap (λ (x : Session B). sum_by f (slice_set xs (s - 1) y) + f x) (at_place s xs is) ∙ sum
 
-  -- a session with an open call is there
+  -- a session with an open call exists
   pub is_there : (s : ℕ) (xs : List (Session B)) → open_of (session_at s xs) ≡ 1 → is_session s ≡ true
   is_there s xs one = session_there s xs (λ idle. let none : open_of (session_at s xs) ≡ 0 = ap open_of idle in let no : ⊥ = omega (arith, none, one) in no) (is_session s) refl
 
@@ -423,7 +423,7 @@ module _ {B : Type 0} (k : Keys B) where
   moved_items s x y outcome.Nothing none = (refl, refl)
   moved_items s x y (outcome.Refused why) none = (refl, refl)
 
-  -- what is handed on of a reply that isn't a search's is that reply
+  -- a reply that isn't a search's is returned unchanged
   pub handed_same : (r handed : Reply B) → IsHanded r handed → is_found r ≡ false → handed ≡ r
   handed_same (reply.Found entries) handed h none = let no : ⊥ = cc in absurd no
   handed_same reply.Ok handed h none = h
@@ -433,7 +433,7 @@ module _ {B : Type 0} (k : Keys B) where
   handed_same reply.Aborted handed h none = h
   handed_same (reply.Refused why) handed h none = h
 
-  -- a reply that is handed on ends the call as the reply does
+  -- a reply as it is returned ends the call as the reply does
   pub handed_ends : (s : ℕ) (r handed : Reply B) (m n : Machine B) → IsHanded r handed → Ends k s r m n → Ends k s handed m n × (is_fault handed ≡ is_fault r)
   handed_ends s (reply.Found entries) handed m n h e = elim h [
     | inl p ↦ (subst (λ (x : Reply B). Ends k s x m n) (sym p) e, ap (λ (x : Reply B). is_fault x) p)

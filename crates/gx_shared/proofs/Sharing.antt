@@ -1,5 +1,5 @@
 -- Sessions that are made, and the holds of a call.
-use Rattle.std.proofs.Common.{arith, ◌≡◌, ℕ, ◌+◌, ◌≤◌, ◌<◌, inl, inr, Bool, true, false, Option, Some, None, List, [], ◌∷◌, length, refl, ap, sym, ◌∙◌, subst}
+use Rattle.std.proofs.Common.{arith, ◌≡◌, ℕ, ◌+◌, ◌≤◌, ◌<◌, ◌⊎◌, inl, inr, Bool, true, false, Option, Some, None, List, [], ◌∷◌, length, refl, ap, sym, ◌∙◌, subst}
 use Rattle.std.proofs.Common.{get_or, suc, ◌++◌, if◌then◌else◌}
 use Rattle.std.specs.List.{remove}
 use Rattle.std.proofs.lemmas.List.Sums.{sum_by-remove}
@@ -8,9 +8,7 @@ use Rattle.gx_geom.specs.declared.refusal.Refusal.{Refusal}
 use Rattle.gx_geom.specs.declared.refusal.Refusal.TheVariants as refusal
 use Rattle.gx_machine.specs.declared.item.Item.{Item}
 use Rattle.gx_machine.specs.declared.call.Call.{Call}
-use Rattle.gx_machine.specs.declared.call.Call.TheVariants.{Begin}
 use Rattle.gx_machine.specs.declared.reply.Reply.{Reply}
-use Rattle.gx_machine.specs.declared.reply.Reply.TheVariants as reply
 use Rattle.gx_machine.specs.Keys.{Keys}
 use Rattle.gx_machine.specs.Machine.{Machine, fresh_machine}
 use Rattle.gx_events.specs.declared.engine.Events.{Ghosts}
@@ -25,11 +23,12 @@ use Rattle.gx_events.specs.Driven.{next_of}
 use Rattle.gx_events.specs.Replay.{At}
 use Rattle.gx_events.specs.Work.{is_work, replied}
 use Rattle.gx_events.proofs.Follows.{stands_itself}
+use Rattle.gx_shared.specs.declared.hold.Hold.{Hold}
 use Rattle.gx_shared.specs.declared.record.TheConstants.{RECORD}
 use Rattle.gx_shared.specs.declared.flush.Part.{Part}
 use Rattle.gx_shared.specs.declared.flush.Part.TheVariants as part
-use Rattle.gx_shared.specs.Books.{IsBook, IsHold, IsKept, IsMade, IsOf, IsWorked, MayBeShared}
-use Rattle.gx_shared.specs.Sharing.{RefusesToGiveUp, InCall, GoesOn, Known, Follows, IsCalled, IsRun, after_hold, asked_by, told_by, flusher_event, given_up, shares_of, fresh_sessions, stops}
+use Rattle.gx_shared.specs.Books.{IsHold, IsKept, IsMade, IsOf, IsWorked, MayBeShared}
+use Rattle.gx_shared.specs.Sharing.{RefusesToGiveUp, InCall, ComesBehind, Known, Follows, IsCalled, IsRun, after_hold, after_reply, hold_of, flusher_event, given_up, shares_of, fresh_sessions, stops}
 use Rattle.gx_shared.proofs.Opening.{owed_by_open}
 
 -- an engine that is seen as the machine with nothing committed may be shared by a run that starts at it
@@ -82,19 +81,6 @@ pub own_event : {B : Type 0} (s : ℕ) (event : Event B) → InCall s event → 
 own_event s event (inl own) none = own
 own_event s event (inr work) none = let both : true ≡ false = sym work ∙ none in let no : ⊥ = cc in absurd no
 
-unshared : {B : Type 0} (old new : Known B) (asked : Call B) → new ≡ ((old.0.0, old.0.1 + 0), (asked, old.1.1)) → new ≡ (old.0, (asked, old.1.1))
-unshared old new asked share = share ∙ (λ i. ((old.0.0, none_more 0 old.0.1 refl i), (asked, old.1.1)))
-
--- what follows a hold
-pub follows_hold : {B : Type 0} (old new : Known B) (event : Event B) (o : Outcome B) → new ≡ after_hold old event o → RefusesToGiveUp o → Follows old event (next_of old.0.0 o) new
-follows_hold old new event (Replied r) share h = inl share
-follows_hold old new event More share h = (unshared old new (asked_by event old.1.0) share, refl)
-follows_hold old new event (Help need.Log) share h = (unshared old new (asked_by event old.1.0) share, tt)
-follows_hold old new event (Help (need.Write page)) share h = (unshared old new (asked_by event old.1.0) share, tt)
-follows_hold old new event (Help need.Checkpoint) share h = (unshared old new (asked_by event old.1.0) share, tt)
-follows_hold old new event Nothing share h = (unshared old new (asked_by event old.1.0) share, refl)
-follows_hold old new event (Refused why) share h = inr (unshared old new (asked_by event old.1.0) share, h)
-
 abbrev is_work_of : {B : Type 0} → Option (Event B) → Bool
 is_work_of None = true
 is_work_of (Some event) = is_work event
@@ -143,10 +129,6 @@ replies_as (Help need) = refl
 replies_as Nothing = refl
 replies_as (Refused why) = stopped_replies _ why (stops why)
 
-stopped_tells : (B : Type 0) (why : Refusal) (b : Bool) (r : Reply B) → told_by (stopped {B = B} why b) r ≡ r
-stopped_tells B why true r = refl
-stopped_tells B why false r = refl
-
 stopped_refuses : (B : Type 0) (why : Refusal) (b : Bool) → stops why ≡ b → RefusesToGiveUp (stopped {B = B} why b)
 stopped_refuses B why true is = is
 stopped_refuses B why false is = refl
@@ -159,46 +141,22 @@ refuses_as Nothing = tt
 refuses_as (Refused why) = stopped_refuses _ why (stops why) refl
 
 -- it refuses to give the call up
-pub given_up_refuses : {B : Type 0} (o given : Outcome B) → given ≡ given_up o → RefusesToGiveUp given
-given_up_refuses o given is = subst RefusesToGiveUp (sym is) (refuses_as o)
+pub given_up_refuses : {B : Type 0} (o ended given : Outcome B) → ended ≡ given_up o → given ≡ ended → RefusesToGiveUp given
+given_up_refuses o ended given is same = subst RefusesToGiveUp (sym (same ∙ is)) (refuses_as o)
 
-tells_as : {B : Type 0} (o : Outcome B) (r : Reply B) → told_by (given_up o) r ≡ told_by o r
-tells_as (Replied x) r = refl
-tells_as More r = refl
-tells_as (Help need) r = refl
-tells_as Nothing r = refl
-tells_as (Refused why) r = stopped_tells _ why (stops why) r
+-- after an event that is no session's, whose outcome has no reply, a session notes the hold alone
+pub share_of_work : {B : Type 0} (event : Event B) (o ended given : Outcome B) (old new : Known B) → replied o ≡ 0 → ended ≡ given_up o → given ≡ ended
+    → new ≡ (old.0, hold_of event given ∷ old.1) → new ≡ after_hold old event given
+share_of_work event o ended given old new none is same noted =
+    let n : old.0.1 + replied given ≡ old.0.1 = none_more (replied given) old.0.1 (ap replied (same ∙ is) ∙ replies_as o ∙ none) in
+    noted ∙ sym (λ i. ((old.0.0, n i), hold_of event given ∷ old.1))
 
-untold : {B : Type 0} (o : Outcome B) (r : Reply B) → replied o ≡ 0 → told_by o r ≡ r
-untold (Replied x) r none = let no : ⊥ = omega (arith, none) in absurd no
-untold More r none = refl
-untold (Help need) r none = refl
-untold Nothing r none = refl
-untold (Refused why) r none = refl
-
-unasked : {B : Type 0} (event : Event B) (call : Call B) → is_work event ≡ true → asked_by event call ≡ call
-unasked (Ask s x) call work = let no : ⊥ = cc in absurd no
-unasked (Move s) call work = refl
-unasked LogStep call work = refl
-unasked (WritePage page) call work = refl
-unasked CheckpointStep call work = refl
-unasked (Sweep page) call work = refl
-
--- one without a reply, of an event that is no session's, leaves a session as it is
-pub share_of_work : {B : Type 0} (event : Event B) (o given : Outcome B) (session : Known B) (b : Bool) → b ≡ is_work event → b ≡ true → replied o ≡ 0 → given ≡ given_up o
-    → session ≡ after_hold session event given
-share_of_work event o given session b of work none is =
-    let n : session.0.1 + replied given ≡ session.0.1 = none_more (replied given) session.0.1 (ap replied is ∙ replies_as o ∙ none) in
-    let a : asked_by event session.1.0 ≡ session.1.0 = unasked event session.1.0 (sym of ∙ work) in
-    let t : told_by given session.1.1 ≡ session.1.1 = ap (λ x. told_by x session.1.1) is ∙ tells_as o session.1.1 ∙ untold o session.1.1 none in
-    sym (λ i. ((session.0.0, n i), (a i, t i)))
-
--- and else the session is as the outcome that came says
-pub share_of_own : {B : Type 0} (event : Event B) (old new : Known B) (o given : Outcome B) → new ≡ after_hold old event o → given ≡ given_up o → new ≡ after_hold old event given
-share_of_own event old new o given share is =
-    let n : replied o ≡ replied given = sym (replies_as o) ∙ ap replied (sym is) in
-    let t : told_by o old.1.1 ≡ told_by given old.1.1 = sym (tells_as o old.1.1) ∙ ap (λ x. told_by x old.1.1) (sym is) in
-    share ∙ (λ i. ((old.0.0, old.0.1 + n i), (asked_by event old.1.0, t i)))
+-- and after one of its own, it has finished a call too where that was replied to
+pub share_of_own : {B : Type 0} (event : Event B) (old middle new : Known B) (o ended given : Outcome B) → middle ≡ after_reply old o → ended ≡ given_up o → given ≡ ended
+    → new ≡ (middle.0, hold_of event given ∷ middle.1) → new ≡ after_hold old event given
+share_of_own event old middle new o ended given share is same noted =
+    let n : replied o ≡ replied given = sym (replies_as o) ∙ ap replied (sym (same ∙ is)) in
+    noted ∙ (λ i. ((share i).0, hold_of event given ∷ (share i).1)) ∙ (λ i. ((old.0.0, old.0.1 + n i), hold_of event given ∷ old.1))
 
 pub own_of : {B : Type 0} (s : ℕ) (event : Event B) (b : Bool) → InCall s event → b ≡ is_work event → b ≡ false → IsOf s event
 own_of s event b call is none = own_event s event call (sym is ∙ none)
@@ -207,77 +165,89 @@ pub work_of : {B : Type 0} (event : Event B) (b : Bool) → b ≡ is_work event 
 work_of event b is work = sym is ∙ work
 
 -- a hold of a call that made an event as `apply` does
-pub run_by_work : {B E : Type 0} (k : Keys B) (engine : Ghosts E B) (old new : E × List (Item B)) (event : Event B) (o given : Outcome B) (b : Bool)
-    → b ≡ is_work event → b ≡ true → IsWorked k engine old event o new → given ≡ given_up o → IsRun k engine old event given new
-run_by_work k engine old new event o given b is work worked told =
+pub run_by_work : {B E : Type 0} (k : Keys B) (engine : Ghosts E B) (old new : E × List (Item B)) (event : Event B) (o ended given : Outcome B) (b : Bool)
+    → b ≡ is_work event → b ≡ true → IsWorked k engine old event o new → ended ≡ given_up o → given ≡ ended → IsRun k engine old event given new
+run_by_work k engine old new event o ended given b is work worked becomes same =
     let other : is_work event ≡ false → ⊥ = λ none. let both : true ≡ false = sym work ∙ is ∙ none in cc in
-    record { given = o; outcome_is = told; worked = λ _. worked; made = λ none. absurd (other none); hold = λ none. absurd (other none) }
+    record { given = o; outcome_is = same ∙ becomes; worked = λ _. worked; made = λ none. absurd (other none); hold = λ none. absurd (other none) }
 
 -- and as `apply_for` does
-pub run_by_own : {B E : Type 0} (k : Keys B) (engine : Ghosts E B) (old new : E × List (Item B)) (event : Event B) (o given : Outcome B) (b : Bool)
-    → b ≡ is_work event → b ≡ false → IsMade engine.makes old event o new → (engine.granted → IsHold k engine.sees old event o new) → given ≡ given_up o
-    → IsRun k engine old event given new
-run_by_own k engine old new event o given b is own made hold told =
+pub run_by_own : {B E : Type 0} (k : Keys B) (engine : Ghosts E B) (old new : E × List (Item B)) (event : Event B) (o ended given : Outcome B) (b : Bool)
+    → b ≡ is_work event → b ≡ false → IsMade engine.makes old event o new → (engine.granted → IsHold k engine.sees old event o new) → ended ≡ given_up o
+    → given ≡ ended → IsRun k engine old event given new
+run_by_own k engine old new event o ended given b is own made hold becomes same =
     let other : is_work event ≡ true → ⊥ = λ work. let both : true ≡ false = sym work ∙ sym is ∙ own in cc in
-    record { given = o; outcome_is = told; worked = λ work. absurd (other work); made = λ _. made; hold = λ _. hold }
+    record { given = o; outcome_is = same ∙ becomes; worked = λ work. absurd (other work); made = λ _. made; hold = λ _. hold }
 
 -- what follows a hold, as the driver says it
 pub follows_next : {B : Type 0} (old new : Known B) (event : Event B) (o : Outcome B) (driver : ℕ) (next : Next B) → next ≡ next_of driver o → driver ≡ old.0.0
     → new ≡ after_hold old event o → RefusesToGiveUp o → Follows old event next new
-follows_next {B} old new event o driver next is leads share refuses =
-    subst (λ (x : Next B). Follows old event x new) (sym (is ∙ ap (λ (s : ℕ). next_of s o) leads)) (follows_hold old new event o share refuses)
+follows_next old new event o driver next is leads share refuses =
+    record { outcome = o; refuses = refuses; next_is = is ∙ ap (λ (s : ℕ). next_of s o) leads; new_is = share }
 
--- an event that goes on is in the call, and asks none
-pub in_call : {B : Type 0} (s : ℕ) (event : Event B) → GoesOn s event → InCall s event
-in_call s (Ask t call) none = absurd none
-in_call s (Move t) own = inl own
-in_call s LogStep on = inr refl
-in_call s (WritePage page) on = inr refl
-in_call s CheckpointStep on = inr refl
-in_call s (Sweep page) on = inr refl
+-- what an outcome names is in the call, and it replies nothing
+abbrev Names : {B : Type 0} → ℕ → ℕ → Next B → Type 0
+Names s replies (Run event) = InCall s event × (replies ≡ 0)
+Names s replies (Done r) = Unit {0}
 
-pub asks_none : {B : Type 0} (s : ℕ) (event : Event B) (call : Call B) → GoesOn s event → asked_by event call ≡ call
-asks_none s (Ask t x) call none = absurd none
-asks_none s (Move t) call own = refl
-asks_none s LogStep call on = refl
-asks_none s (WritePage page) call on = refl
-asks_none s CheckpointStep call on = refl
-asks_none s (Sweep page) call on = refl
+names : {B : Type 0} (s : ℕ) (o : Outcome B) → Names s (replied o) (next_of s o)
+names s (Replied r) = tt
+names s More = (inl refl, refl)
+names s (Help need.Log) = (inr refl, refl)
+names s (Help (need.Write page)) = (inr refl, refl)
+names s (Help need.Checkpoint) = (inr refl, refl)
+names s Nothing = (inl refl, refl)
+names s (Refused why) = tt
 
--- Amid a call: the session is as at its start but for what it asked, and with its next event it has asked the call.
+-- so is a move in its place
+own_next : {B : Type 0} (s : ℕ) (named next : Event B) → InCall s named → (next ≡ named) ⊎ (next ≡ Move s) → InCall s next
+own_next s named next own (inl same) = subst (λ e. InCall s e) (sym same) own
+own_next s named next own (inr move) = subst (λ e. InCall s e) (sym move) (inl refl)
+
+-- Amid a call: the holds up to now are noted behind those of before, and this event comes behind them.
 pub record IsAmid {B : Type 0} (start : Known B) (call : Call B) (now : Known B) (event : Event B) : Type 0 where
-  pub share : now.0 ≡ start.0
-  pub told : now.1.1 ≡ start.1.1
-  pub asked : asked_by event now.1.0 ≡ call
+  pub earlier : List (Hold B)
+  pub now_is : now ≡ (start.0, earlier ++ start.1)
+  pub comes : ComesBehind start.0.0 call earlier event
   pub own : InCall start.0.0 event
+
+-- it is asked
+pub asked_first : {B : Type 0} (start : Known B) (call : Call B) (s : ℕ) → s ≡ start.0.0 → IsAmid start call start (Ask s call)
+asked_first start call s is = record { earlier = []; now_is = refl; comes = ap (λ (n : ℕ). Ask n call) is; own = inl is }
+
+-- what the outcome of a hold amid a call names
+leads_to : {B : Type 0} (start old new : Known B) (call : Call B) (event : Event B) (next : Next B) (f : Follows old event next new) → IsAmid start call old event
+    → next_of start.0.0 f.outcome ≡ next
+leads_to {B} start old new call event next f amid = ap (λ (x : Known B). next_of x.0.0 f.outcome) (sym amid.now_is) ∙ sym f.next_is
 
 -- a call that ends, and one that goes on
 pub done_of : {B : Type 0} (start old new : Known B) (call : Call B) (event : Event B) (next : Next B) (r : Reply B) → Follows old event next new → next ≡ Done r → IsAmid start call old event
     → IsCalled start call r new
-done_of {B} start old new call event next r follows is amid =
-    let called : IsCalled old (asked_by event old.1.0) r new = subst (λ (x : Next B). Follows old event x new) is follows in
-    let same : (old.0, (asked_by event old.1.0, old.1.1)) ≡ (start.0, (call, start.1.1)) = λ i. (amid.share i, (amid.asked i, amid.told i)) in
-    subst (λ (x : Known B). IsCalled x x.1.0 r new) same called
+done_of {B} start old new call event next r f is amid = record {
+  earlier = amid.earlier;
+  last = hold_of event f.outcome;
+  comes = amid.comes;
+  ends = leads_to start old new call event next f amid ∙ is;
+  refuses = f.refuses;
+  new_is = f.new_is ∙ ap (λ (x : Known B). after_hold x event f.outcome) amid.now_is;
+}
 
 pub run_of : {B : Type 0} (start old new : Known B) (call : Call B) (event named next : Event B) (ran : Next B) → Follows old event ran new → ran ≡ Run named → IsAmid start call old event
-    → GoesOn start.0.0 next → IsAmid start call new next
-run_of {B} start old new call event named next ran follows is amid on =
-    let h : (new ≡ (old.0, (asked_by event old.1.0, old.1.1))) × GoesOn old.0.0 named = subst (λ (x : Next B). Follows old event x new) is follows in
+    → (next ≡ named) ⊎ (next ≡ Move start.0.0) → IsAmid start call new next
+run_of {B} start old new call event named next ran f is amid either =
+    let o = f.outcome in
+    let leads : next_of start.0.0 o ≡ Run named = leads_to start old new call event ran f amid ∙ is in
+    let own : InCall start.0.0 named × (replied o ≡ 0) = subst (λ (x : Next B). Names start.0.0 (replied o) x) leads (names start.0.0 o) in
+    let more : start.0.1 + replied o ≡ start.0.1 = none_more (replied o) start.0.1 own.1 in
     record {
-      share = ap (λ (x : Known B). x.0) h.0 ∙ amid.share;
-      told = ap (λ (x : Known B). x.1.1) h.0 ∙ amid.told;
-      asked = asks_none start.0.0 next new.1.0 on ∙ ap (λ (x : Known B). x.1.0) h.0 ∙ amid.asked;
-      own = in_call start.0.0 next on;
+      earlier = hold_of event o ∷ amid.earlier;
+      now_is = f.new_is ∙ ap (λ (x : Known B). after_hold x event o) amid.now_is ∙ (λ i. ((start.0.0, more i), hold_of event o ∷ (amid.earlier ++ start.1)));
+      comes = ((named, leads, either), amid.comes);
+      own = own_next start.0.0 named next own.0 either;
     }
 
-pub on_of : {B : Type 0} (start old new : Known B) (call : Call B) (event named : Event B) (ran : Next B) → Follows old event ran new → ran ≡ Run named → IsAmid start call old event
-    → GoesOn start.0.0 named
-on_of {B} start old new call event named ran follows is amid =
-    let h : (new ≡ (old.0, (asked_by event old.1.0, old.1.1))) × GoesOn old.0.0 named = subst (λ (x : Next B). Follows old event x new) is follows in
-    subst (λ (s : ℕ × ℕ). GoesOn s.0 named) amid.share h.1
-
 pub call_of : {B : Type 0} (start old : Known B) (call : Call B) (event : Event B) → IsAmid start call old event → InCall old.0.0 event
-call_of start old call event amid = subst (λ (s : ℕ × ℕ). InCall s.0 event) (sym amid.share) amid.own
+call_of {B} start old call event amid = subst (λ (x : Known B). InCall x.0.0 event) (sym amid.now_is) amid.own
 
 -- no sessions, no shares
 pub none_shared : {B : Type 0} (xs : List (Known B)) → length xs ≡ 0 → shares_of xs ≡ 0
@@ -285,7 +255,7 @@ none_shared [] none = refl
 none_shared (x ∷ xs) none = let away : ⊥ = omega (arith, none) in absurd away
 
 -- one session more
-pub next_sessions : {B : Type 0} (n m : ℕ) (old new : List (Known B)) (s : Known B) → m ≡ suc n → s ≡ ((m, 0), (Begin, reply.Ok)) → old ≡ fresh_sessions n → new ≡ old ++ s ∷ []
+pub next_sessions : {B : Type 0} (n m : ℕ) (old new : List (Known B)) (s : Known B) → m ≡ suc n → s ≡ ((m, 0), []) → old ≡ fresh_sessions n → new ≡ old ++ s ∷ []
     → new ≡ fresh_sessions m
 next_sessions n m old new s next is before after =
-    after ∙ (λ i. before i ++ (is ∙ ap (λ (k : ℕ). ((k, 0), (Begin, reply.Ok))) next) i ∷ []) ∙ ap fresh_sessions (sym next)
+    after ∙ (λ i. before i ++ (is ∙ ap (λ (k : ℕ). ((k, 0), [])) next) i ∷ []) ∙ ap fresh_sessions (sym next)

@@ -24,6 +24,6 @@ owed_of (Committing number) = 1
 abbrev pub owed : {B : Type 0} → List (Session B) → ℕ
 owed sessions = sum_by owed_of sessions
 
--- three items for a call, and for each that is open, still fit
+-- the record has room for three items for a new call and for each open one
 abbrev pub HasRoom : {B : Type 0} → List (Item B) → Machine B → Type 0
 HasRoom calls m = length calls + 3 * (open_calls m.sessions + 1) ≤ RECORD

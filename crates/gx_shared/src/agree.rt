@@ -1,4 +1,4 @@
-//! Whether a record has the replies that a session was handed.
+//! Compares a record with the replies that a session's calls returned.
 ghost use Rattle.std.specs.Prelude.{◌≡◌, MatchBool, MatchOption, [], ◌∷◌};
 ghost use Rattle.gx_shared.specs.Agreed.{replies_of};
 

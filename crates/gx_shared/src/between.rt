@@ -1,10 +1,10 @@
 //! What happens between two events, while no lock is held.
 
-/// Is called between two events of a call, and after each event of a flusher, while no lock is held. It must not wait
-/// for a commit of another session, which may wait for this call to end.
+/// Called between two events of a call, and after each event of a flusher, while no lock is held. It must not wait for
+/// a commit of another session, since that may wait for this call to end.
 pub trait Between {
-    /// Comes after an event of this session, 0 for a flusher: the first has step 1, and each further one the next
-    /// number, up to 2^64 - 1.
+    /// Called after an event of this session (0 for a flusher). `step` counts these events from 1, and stays at 2^64 -
+    /// 1.
     fn between(&self, session: u8, step: u64);
 }
 

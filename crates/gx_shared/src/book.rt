@@ -1,5 +1,5 @@
-//! What lies under the lock.
-ghost use Rattle.std.specs.Prelude.{◌≡◌, ℕ, ◌+◌, ◌-◌, ◌*◌, ◌<◌, ◌≤◌, ◌^◌, ◌++◌, ◌∷◌, []};
+//! The state that the lock guards.
+ghost use Rattle.std.specs.Prelude.{◌≡◌, ◌+◌, ◌-◌, ◌*◌, ◌<◌, ◌≤◌, ◌^◌, ◌++◌, ◌∷◌, []};
 ghost use Rattle.std.specs.Prelude.{true, MatchBool, MatchResult, vec_len, vec_capacity};
 ghost use Rattle.gx_machine.specs.declared.item.Item.TheVariants as item;
 ghost use Rattle.gx_events.specs.declared.outcome.Outcome.TheVariants as outcome;
@@ -20,7 +20,7 @@ use std::alloc::{AllocError, Global};
 use std::marker::Model;
 use std::sync::ledger::{Book as Tally, Ledger, Share};
 
-/// Whether three items for a call, and for each that is open, still fit.
+/// Whether the record has room for three items for a new call and for each open one.
 fn has_room(calls: usize, opened: u64) -> bool
     requires { calls ≤ RECORD }
     ensures { MatchBool result (calls + 3 * (opened + 1) ≤ RECORD) (calls + 3 * (opened + 1) ≤ RECORD → ⊥) }
@@ -28,7 +28,7 @@ fn has_room(calls: usize, opened: u64) -> bool
     opened < RECORD as u64 && calls as u64 + 3 * (opened + 1) <= RECORD as u64
 }
 
-/// An outcome's reply, where it ends a call.
+/// An outcome's reply, if it ends a call.
 fn ended<B: Shape>(last: Outcome<B>) -> Result<Reply<B>, Outcome<B>>
     ensures { MatchResult result (λ r. last ≡ outcome.Replied r) (λ o. (last ≡ o) × (replied o ≡ 0)) }
 {
@@ -38,8 +38,7 @@ fn ended<B: Shape>(last: Outcome<B>) -> Result<Reply<B>, Outcome<B>>
     }
 }
 
-/// Records a session's reply, counts the call as finished, and answers what is handed to the caller, which is what was
-/// recorded.
+/// Records a session's reply, counts the call as finished, and returns the reply that was recorded.
 fn keep_reply<B: Shape, R: Ledger>(
     calls: &mut Vec<Item<B>>,
     tally: &mut Tally<R>,
@@ -52,10 +51,10 @@ fn keep_reply<B: Shape, R: Ledger>(
     ensures items { calls.new.items ≡ calls.old.items ++ item.Replied session.old.0.0 result ∷ [] }
     ensures capacity { vec_capacity calls.old ≤ vec_capacity calls.new }
     ensures counted { tally.new.total ≡ tally.old.total + 1 }
-    ensures share { session.new ≡ ((session.old.0.0, session.old.0.1 + 1), (session.old.1.0, result)) }
+    ensures share { session.new ≡ ((session.old.0.0, session.old.0.1 + 1), session.old.1) }
 {
     let (reply, copy) = handed(*calls.allocator(), reply);
-    session.finish(tally, &reply);
+    session.finish(tally);
     append(calls, Item::Replied(session.number(), copy));
     reply
 }
@@ -70,8 +69,8 @@ fn stops(why: Refusal) -> bool
     )
 }
 
-/// An outcome as it ends a call: a refusal for anything but a fault or a full record, which is of a move of a call that
-/// isn't open, becomes `Damaged`.
+/// Returns an outcome as it ends a call: a refusal for anything but a fault or a full record becomes `Damaged`. Only a
+/// move of a call that isn't open is refused so.
 fn given_up<B: Shape>(last: Outcome<B>) -> Outcome<B>
     ensures { result ≡ given_up last }
 {
@@ -87,7 +86,7 @@ fn given_up<B: Shape>(last: Outcome<B>) -> Outcome<B>
     }
 }
 
-/// Whether an event is no session's.
+/// Whether an event belongs to no session.
 fn is_work<B: Shape>(event: &Event<B>) -> bool
     ensures { result ≡ is_work event.now }
 {
@@ -97,7 +96,8 @@ fn is_work<B: Shape>(event: &Event<B>) -> bool
     }
 }
 
-/// How many calls are open once one was given this reply: one less, unless a fault leaves it open or there was none.
+/// How many calls are open after this reply: one less, unless it is a fault, which leaves its call open, or no call was
+/// open.
 fn open_after<B: Shape>(reply: &Reply<B>, opened: u64) -> u64
     ensures { MatchBool (is_fault reply.now) (result ≡ opened) (result ≡ opened - 1) }
 {
@@ -110,9 +110,8 @@ fn open_after<B: Shape>(reply: &Reply<B>, opened: u64) -> u64
 
 /// An engine, and the record of all that its sessions asked and were replied. Contracts see it as both.
 ///
-/// Whenever it is looked at, the ledger's total is the number of replies in the record. Where what has to be granted of
-/// the engine is granted, the record replays, from the machine that the run names, as the machine that the engine is
-/// seen as.
+/// At every moment the ledger's total is the number of replies in the record. If the engine's assumptions hold,
+/// replaying the record from the machine that the run names gives the machine that the engine is seen as.
 #[derive(Drop)]
 pub struct Book<B: Shape, E: Events<B>, R: Run<B>> {
     engine: E,
@@ -136,7 +135,7 @@ impl<B: Shape, E: Events<B>, R: Run<B>> Model for Book<B, E, R> {
 }
 
 impl<B: Shape, E: Events<B>, R: Run<B>> Book<B, E, R> {
-    ghost use Rattle.std.specs.Prelude.{length, IfOk, IfErr, MatchOption};
+    ghost use Rattle.std.specs.Prelude.{IfOk, IfErr};
     ghost use Rattle.gx_machine.specs.Keys.{keys_of};
     ghost use Rattle.gx_events.specs.Items.{finished};
     ghost use Rattle.gx_shared.specs.Sharing.{InCall, IsFlushed, IsRun, after_hold, after_reply};
@@ -144,8 +143,8 @@ impl<B: Shape, E: Events<B>, R: Run<B>> Book<B, E, R> {
     ghost use Rattle.gx_shared.specs.Agreed.{replies_of};
     ghost use Rattle.gx_shared.specs.Books.{MayBeShared, Stands, IsOf, IsHold, IsMade, IsWorked};
 
-    /// A book over an engine, with nothing recorded. It takes all room of the record; without that the engine comes
-    /// back.
+    /// Makes a book over an engine, with an empty record. It allocates the whole record; if memory is refused, it
+    /// returns the engine.
     #[tactic(auto, using(crate::proofs::Sharing::begun))]
     pub(crate) fn new(alloc: Global, tally: Tally<R>, engine: E) -> Result<Self, E>
         requires starts { E.granted → MayBeShared E.sees R.starts engine }
@@ -171,7 +170,7 @@ impl<B: Shape, E: Events<B>, R: Run<B>> Book<B, E, R> {
         self.calls.as_slice()
     }
 
-    /// The engine, as the holds left it; the record is gone.
+    /// Returns the engine, as the holds left it, and drops the record.
     pub fn into_engine(self) -> E
         ensures { result ≡ self.0 }
     {
@@ -185,8 +184,8 @@ impl<B: Shape, E: Events<B>, R: Run<B>> Book<B, E, R> {
         &self.engine
     }
 
-    /// Compares a share with the ledger: the calls that it counts are finished, and a share with all parts counts all
-    /// of them.
+    /// Compares a share with the ledger: the record has at least as many finished calls as the share counts, and
+    /// exactly as many if the share has all parts.
     pub(crate) fn audit(&mut self, share: &mut Share<R>)
         ensures same { self.new ≡ self.old }
         ensures bound { share.old.amount ≤ finished self.old.1 }
@@ -195,16 +194,16 @@ impl<B: Shape, E: Events<B>, R: Run<B>> Book<B, E, R> {
         self.tally.audit(share);
     }
 
-    /// What a book keeps, where what has to be granted of the engine is granted: its record replays, from the machine
-    /// that the run names, as the machine that its engine is seen as.
+    /// The book's invariant, if the engine's assumptions hold: replaying its record from the machine that the run names
+    /// gives the machine that its engine is seen as.
     pub fn stands(&self)
         ensures { E.granted → Stands (keys_of B.Shape) E.sees R.starts self.now.0 self.now.1 }
     {
         let _ = &self.engine;
     }
 
-    /// Applies an event that is no session's, of the log, of a page or of a checkpoint: the engine makes it, once. The
-    /// outcome is the engine's, which is no reply, and nothing is recorded.
+    /// Applies an event that belongs to no session: of the log, of a page or of a checkpoint. The engine makes it once.
+    /// Returns the engine's outcome, which is no reply; nothing is recorded.
     pub fn apply(&mut self, event: Event<B>) -> Outcome<B>
         requires { is_work event ≡ true }
         ensures worked { IsWorked (keys_of B.Shape) E.Events self.old event result self.new }
@@ -213,7 +212,7 @@ impl<B: Shape, E: Events<B>, R: Run<B>> Book<B, E, R> {
         self.engine.step(event)
     }
 
-    /// Asks a call of the session, where there is room for it.
+    /// Asks a call for the session, if the record has room for it.
     fn ask(&mut self, session: &mut Session<B, R>, call: Call<B>) -> Outcome<B>
         ensures hold { E.granted → IsHold (keys_of B.Shape) E.sees self.old (Ask session.old.0.0 call) result self.new }
         ensures made { IsMade E.makes self.old (Ask session.old.0.0 call) result self.new }
@@ -237,7 +236,7 @@ impl<B: Shape, E: Events<B>, R: Run<B>> Book<B, E, R> {
         }
     }
 
-    /// Goes on with the session's call.
+    /// Continues the session's call.
     fn go_on(&mut self, session: &mut Session<B, R>) -> Outcome<B>
         ensures hold { E.granted → IsHold (keys_of B.Shape) E.sees self.old (Move session.old.0.0) result self.new }
         ensures made { IsMade E.makes self.old (Move session.old.0.0) result self.new }
@@ -262,33 +261,30 @@ impl<B: Shape, E: Events<B>, R: Run<B>> Book<B, E, R> {
         }
     }
 
-    /// Applies an event of the session, an ask or a move, in one hold of the lock: the engine makes it, once. The
-    /// outcome is the engine's, and what it adds is recorded: the call that is asked, the number under which a commit
-    /// is sealed, the reply that ends a call. A reply that is handed out is the item that was recorded. The session's
-    /// share rises by one where a reply is recorded, and in no other case.
+    /// Applies an event of the session, an ask or a move, in one hold of the lock: the engine makes it, once. Returns
+    /// the engine's outcome, and records what it adds: the call that is asked, the number under which a commit is
+    /// sealed, the reply that ends a call. A reply that is returned is the one recorded. The session's share rises by
+    /// one exactly when a reply is recorded.
     ///
-    /// An ask is refused with `HistoryFull`, neither applied nor recorded, unless three items for it and for each open
-    /// call still fit. What a search found becomes `Memory`, here and in the record, where its copy is refused memory.
-    /// The reply of an engine that a fault has ended, to a call that it has refused before, is `Refused(Failed)` once
-    /// the record is full.
+    /// An ask is refused with `HistoryFull`, and neither applied nor recorded, unless the record has room for three
+    /// items for it and for each open call. If the copy of a search's result is refused memory, the reply is `Memory`,
+    /// here and in the record. Once the record is full, an engine that a fault has ended replies `Refused(Failed)` to a
+    /// call that it has refused before.
     pub fn apply_for(&mut self, session: &mut Session<B, R>, event: Event<B>) -> Outcome<B>
         requires { IsOf session.old.0.0 event }
         ensures hold { E.granted → IsHold (keys_of B.Shape) E.sees self.old event result self.new }
         ensures made { IsMade E.makes self.old event result self.new }
-        ensures share { session.new ≡ after_hold session.old event result }
+        ensures share { session.new ≡ after_reply session.old result }
     {
         match event {
-            Event::Ask(_, call) => {
-                session.note(&self.tally, &call);
-                self.ask(session, call)
-            }
+            Event::Ask(_, call) => self.ask(session, call),
             _ => self.go_on(session),
         }
     }
 
-    /// Applies an event of a session's call, which is the session's own or no session's, in one hold of the lock, and
-    /// nothing else. The session's share rises by one where a reply is recorded. Where the outcome refuses, it is for a
-    /// fault or for a record that is full.
+    /// Applies one event of a session's call, which belongs to the session or to none, in one hold of the lock. The
+    /// session's share rises by one if a reply is recorded, and it notes the hold. An outcome that refuses does so for
+    /// a fault or for a full record.
     #[tactic(auto, using(crate::proofs::Sharing::run_by_work, crate::proofs::Sharing::run_by_own, crate::proofs::Sharing::share_of_work, crate::proofs::Sharing::share_of_own, crate::proofs::Sharing::given_up_refuses, crate::proofs::Sharing::own_of, crate::proofs::Sharing::work_of))]
     pub(crate) fn run(&mut self, session: &mut Session<B, R>, event: Event<B>) -> Outcome<B>
         requires { InCall session.old.0.0 event }
@@ -297,13 +293,15 @@ impl<B: Shape, E: Events<B>, R: Run<B>> Book<B, E, R> {
         ensures refuses { RefusesToGiveUp result }
     {
         if is_work(&event) {
-            given_up(self.apply(event))
+            let outcome = given_up(self.apply(event));
+            session.note(&self.tally, event, outcome)
         } else {
-            given_up(self.apply_for(session, event))
+            let outcome = given_up(self.apply_for(session, event));
+            session.note(&self.tally, event, outcome)
         }
     }
 
-    /// Applies the event of a flusher's part in a round, where it has one.
+    /// Applies the event of a flusher's part in a round, if it has one.
     #[tactic(auto, using(crate::proofs::Sharing::flusher_works, crate::proofs::Sharing::only_pages_lack))]
     pub(crate) fn flush(&mut self, part: Part, round: u64) -> Option<Outcome<B>>
         ensures flushed { IsFlushed (keys_of B.Shape) E.Events part round self.old result self.new }

@@ -1,5 +1,4 @@
-//! Calls of sessions and rounds of flushers, one hold of the lock an event.
-ghost use Rattle.std.specs.Prelude.{◌≡◌};
+//! Calls of sessions and rounds of flushers. Each event takes one hold of the lock.
 ghost use Rattle.gx_shared.specs.Sharing.{InCall, Follows};
 
 use crate::flush::{Part, ROUND};
@@ -11,8 +10,8 @@ use gx_machine::{Call, Reply};
 use std::sync::Wait;
 use std::sync::ledger::Ledger;
 
-/// One hold of the lock for a session's call, and what follows it. Behind a step of the log or of a checkpoint the file
-/// is synced, once the lock is free.
+/// Makes one event of a session's call in one hold of the lock. After a step of the log or of a checkpoint it syncs the
+/// file, once the lock is free.
 #[tactic(auto, using(crate::proofs::Sharing::follows_next))]
 fn hold<B: Shape, E: Events<B>, R: Run<B>, W: Wait>(
     rt: &W,
@@ -32,8 +31,8 @@ fn hold<B: Shape, E: Events<B>, R: Run<B>, W: Wait>(
     driver.next(outcome)
 }
 
-/// One hold of the lock for a flusher's part of a round, and a sync as behind one of a call; none has an outcome that
-/// has no event.
+/// Makes the event of a flusher's part of a round in one hold of the lock, and syncs the file as after an event of a
+/// call. Returns no outcome if the part has no event.
 fn flush<B: Shape, E: Events<B>, R: Run<B>, W: Wait>(
     rt: &W,
     shared: &Shared<B, E, R>,
@@ -50,17 +49,18 @@ fn flush<B: Shape, E: Events<B>, R: Run<B>, W: Wait>(
 impl<B: Shape, R: Ledger> Session<B, R> {
     ghost use Rattle.gx_shared.specs.Sharing.{IsCalled};
 
-    /// Asks a call and runs its events to the end, one hold of the lock for each; `between` comes between two of them,
-    /// while no lock is held, and so does an early sync behind a step of the log or of a checkpoint, where the `Shared`
-    /// has a handle for it. The session is used with the `Shared` that made it.
+    /// Asks a call and runs its events to the end, one hold of the lock for each. Between two of them, while no lock is
+    /// held, it calls `between`, and after a step of the log or of a checkpoint it makes an early sync, if the `Shared`
+    /// has a handle for it. The session must be used with the `Shared` that made it.
     ///
-    /// It waits for the lock, and with a sealed commit for the end of a round that another session leads; never for a
-    /// time. Before the log is stepped for a sealed commit others get a turn to seal theirs.
+    /// It waits for the lock, and with a sealed commit for the end of a round that another session leads; it never
+    /// sleeps for a time. Before it steps the log for a sealed commit it lets other sessions seal theirs.
     ///
-    /// It asks the given call, in a hold. The reply is the one that was recorded, and the session's share rises by one.
-    /// Or the call is given up, and its share is as before: with `Device`, `Failed` or `Damaged` where an event of the
-    /// log or of a page met a fault, with `Failed` where the record is full of such refusals, with `HistoryFull` where
-    /// the record has no room for the call.
+    /// The first hold asks the call, and each further one makes the event that the last outcome names, or a move. The
+    /// reply is that of the last hold, which was recorded, and the session's share rises by one. Or the call is given
+    /// up with the refusal of its last hold, and the session's share stays: with `Device`, `Failed` or `Damaged` if an
+    /// event of the log or of a page met a fault, with `Failed` if the record is full of such refusals, with
+    /// `HistoryFull` if the record has no room for the call.
     #[tactic(auto, using(crate::proofs::Sharing::done_of, crate::proofs::Sharing::run_of, crate::proofs::Sharing::call_of))]
     pub fn call<E: Events<B>, G: Between, W: Wait>(
         &mut self,
@@ -100,8 +100,8 @@ impl<B: Shape, R: Ledger> Session<B, R> {
 }
 
 /// Runs so many rounds of a flusher: in each the next step of a checkpoint, the next step of the log, the write of a
-/// page where one may be written, and the sweep of a page, each in a hold of the lock of its own. `between` comes after
-/// each of them, while no lock is held. It ends before that where one is refused.
+/// page if one may be written, and the sweep of a page, each in a separate hold of the lock. It calls `between` after
+/// each of them, while no lock is held. It stops early if one is refused.
 pub fn flusher<B: Shape, E: Events<B>, R: Run<B>, G: Between, W: Wait>(
     rt: &W,
     shared: &Shared<B, E, R>,

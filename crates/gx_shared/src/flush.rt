@@ -1,4 +1,4 @@
-//! What a flusher does: events that are no session's, round after round.
+//! The rounds of a flusher: events that belong to no session.
 ghost use Rattle.std.specs.Prelude.{◌≡◌, ◌<◌};
 ghost use Rattle.gx_shared.specs.Sharing.{flusher_event};
 
@@ -20,8 +20,8 @@ pub(crate) enum Part {
 /// The parts of a round, in their order.
 pub(crate) const ROUND: [Part; 4] = [Part::Checkpoint, Part::Log, Part::Page, Part::Leaf];
 
-/// The event of a part in a round, where so many pages are used and this one may be written. A page's part has none
-/// where no page may be written; leaves are swept in turn, a page a round.
+/// The event of a part in a round, if so many pages are in use and this one may be written. The part that writes a page
+/// has no event if no page may be written. Leaves are swept in turn, one page a round.
 pub(crate) fn flusher_event<B>(
     part: Part,
     round: u64,

@@ -1,5 +1,5 @@
-//! Replies handed to a caller, with a copy for the record.
-ghost use Rattle.std.specs.Prelude.{◌≡◌, IfOk, MatchOption, ⊤};
+//! Replies for a caller, with a copy for the record.
+ghost use Rattle.std.specs.Prelude.{◌≡◌, IfOk, ⊤};
 ghost use Rattle.gx_shared.specs.Books.{IsHanded};
 
 use gx_geom::{Refusal, Shape};
@@ -15,8 +15,8 @@ fn copied<B: Shape>(alloc: Global, entries: &[Entry<B>]) -> Result<Vec<Entry<B>>
     Ok(copy)
 }
 
-/// A reply for the caller and the same one for the record. Where what a search found can't be copied for want of
-/// memory, both say so; every other reply is copied without memory.
+/// Returns a reply for the caller and the same one for the record. If a search's result can't be copied because memory
+/// is refused, both are `Memory`; every other reply is copied without taking memory.
 pub(crate) fn handed<B: Shape>(alloc: Global, reply: Reply<B>) -> (Reply<B>, Reply<B>)
     ensures same { result.1 ≡ result.0 }
     ensures handed { IsHanded reply result.0 }

@@ -1,8 +1,8 @@
-//! Sessions in threads over one engine: a lock round the engine and the record of its calls.
+//! Sessions in threads over one engine: a lock guards the engine and the record of its calls.
 //!
-//! One hold of the lock applies one event, which the engine makes once. `Book` is what lies under the lock: it keeps
-//! that its record, replayed from the machine that the engine was at first, is the engine, where what has to be granted
-//! of the engine is granted. `Session` counts its own finished calls by its part of a ledger.
+//! One hold of the lock applies one event, which the engine makes once. `Book` is what the lock guards. Its invariant
+//! says, if the engine's assumptions hold, that its record, replayed from the engine's first machine, gives the
+//! engine's present one. `Session` counts its own finished calls by its part of a ledger.
 #![tactic(auto)]
 
 mod agree;
@@ -11,12 +11,13 @@ mod book;
 mod call;
 mod flush;
 mod handed;
+mod hold;
 pub mod laws;
 mod record;
 mod run;
-mod seen;
 mod session;
 mod shared;
+mod trail;
 mod turns;
 
 pub use between::{Between, NoBetween};

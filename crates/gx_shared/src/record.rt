@@ -1,4 +1,4 @@
-//! The record of calls: items put behind the last, in room that was taken before.
+//! The record of calls: items are appended, in memory that was allocated before.
 ghost use Rattle.std.specs.Prelude.{◌≡◌, ◌<◌, ◌≤◌, ◌⊎◌, ◌++◌, ◌∷◌, [], vec_len, vec_capacity, ◌+◌, length};
 ghost use Rattle.gx_machine.specs.declared.item.Item.TheVariants as item;
 ghost use Rattle.gx_events.specs.Items.{items_sealed};
@@ -10,7 +10,7 @@ use gx_machine::Item;
 /// The most items that a record has.
 pub const RECORD: usize = 65_536;
 
-/// Puts an item behind the last, where there is room for it.
+/// Appends an item, if there is room for it.
 pub(crate) fn append<B: Shape>(calls: &mut Vec<Item<B>>, item: Item<B>)
     requires { vec_len calls.old < vec_capacity calls.old }
     ensures items { calls.new.items ≡ calls.old.items ++ item ∷ [] }
@@ -19,8 +19,7 @@ pub(crate) fn append<B: Shape>(calls: &mut Vec<Item<B>>, item: Item<B>)
     let _ = calls.push(item);
 }
 
-/// Puts behind the last item that a commit was sealed, where the number of the last commit rose and the record isn't
-/// full.
+/// Appends that a commit was sealed, if the number of the last commit rose and the record isn't full.
 pub(crate) fn append_sealed<B: Shape>(
     calls: &mut Vec<Item<B>>,
     session: u8,

@@ -1,4 +1,4 @@
-//! What a run of sessions is named by.
+//! The name of a run of sessions.
 ghost use Rattle.std.specs.Prelude.{◌≡◌};
 ghost use Rattle.gx_machine.specs.Machine.{Machine, fresh_machine};
 

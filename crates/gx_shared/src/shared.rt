@@ -31,7 +31,7 @@ fn all_sessions<B, R: Ledger>(
     Ok(sessions)
 }
 
-/// A share with the parts of these sessions too, and with their finished calls.
+/// Adds the parts of these sessions to a share, with their finished calls.
 #[tactic(auto, using(crate::proofs::Sharing::taken_first))]
 fn gathered<B, R: Ledger>(first: Share<R>, sessions: Vec<Session<B, R>>) -> Share<R>
     ensures parts { result.parts ≡ first.parts + length sessions.items }
@@ -46,7 +46,7 @@ fn gathered<B, R: Ledger>(first: Share<R>, sessions: Vec<Session<B, R>>) -> Shar
     all
 }
 
-/// An engine under a lock, with the record of its calls, for sessions in threads of their own.
+/// An engine under a lock, with the record of its calls, for sessions in separate threads.
 #[derive(Drop)]
 pub struct Shared<B: Shape, E: Events<B>, R: Run<B>> {
     pub(crate) book: Mutex<Book<B, E, R>>,
@@ -59,12 +59,12 @@ impl<B: Shape, E: Events<B>, R: Run<B>> Shared<B, E, R> {
     ghost use Rattle.gx_events.specs.Items.{finished};
     ghost use Rattle.gx_shared.specs.Books.{MayBeShared};
 
-    /// Puts an engine under a lock, with an empty record, and makes its eight sessions, of which none has a call
-    /// finished. The blank is that of the run's ledger, in eight parts. Where what has to be granted of the engine is
-    /// granted, it is seen as the run's machine, in which no call is open.
+    /// Puts an engine under a lock, with an empty record, and makes its eight sessions, each with no finished call.
+    /// `blank` is the empty ledger of the run, in eight parts. If the engine's assumptions hold, it must be seen as the
+    /// run's machine, in which no call is open.
     ///
-    /// It takes all room that the record will need, 65,536 items. Without that memory it answers `Memory`, and the
-    /// engine comes back; the blank is spent.
+    /// It allocates all that the record will need, 65,536 items. If memory is refused, it returns `Memory` and the
+    /// engine; the blank is used up.
     pub fn new(
         alloc: Global,
         blank: Blank,
@@ -93,22 +93,22 @@ impl<B: Shape, E: Events<B>, R: Run<B>> Shared<B, E, R> {
         }
     }
 
-    /// The same, with a handle of the file that the engine works on, if there is one. A call or a flusher that wrote to
-    /// the log syncs the file by it between two events, while no lock is held.
+    /// Adds a handle of the file that the engine works on, if there is one. A call or a flusher that wrote to the log
+    /// syncs the file by it between two events, while no lock is held.
     pub fn with_sync_ahead(self, ahead: Option<SyncAhead>) -> Self {
         let Shared { book, turns, .. } = self;
         Shared { book, turns, ahead }
     }
 
-    /// Syncs the file where a write of the log isn't settled, by the handle for it.
+    /// Syncs the file by its handle, if a write of the log isn't durable yet.
     pub(crate) fn sync_ahead(&self) {
         if let Some(ahead) = &self.ahead {
             ahead.sync();
         }
     }
 
-    /// Ends the sharing: the sessions come back, and the book with them. Its record has as many finished calls as the
-    /// shares of all eight sessions add up to; where fewer come back, at least as many as theirs.
+    /// Ends the sharing: takes the sessions back, and returns the book. If all eight sessions are given back, the
+    /// record has exactly as many finished calls as their shares add up to; if fewer are, at least as many.
     pub fn close(self, sessions: Vec<Session<B, R>>) -> Book<B, E, R>
         requires { R.parts ≡ SESSIONS }
         ensures least { shares_of sessions.items ≤ finished result.1 }

@@ -1,30 +1,30 @@
-//! When the log is stepped for sealed commits: sessions lead in turn, so that many commits share a batch.
+//! Group commit: sessions take turns to step the log for sealed commits, so that many commits share a batch.
 //!
-//! One session leads a round. It steps the log for its own commit until that is answered; with it the commits become
-//! durable that were sealed before its batch was closed. Every other session whose commit is sealed steps nothing for
-//! it. It sleeps until the round ends and then makes a move, which answers it, or says that its batch is still to come.
-//! Then it leads, or sleeps through one round more.
+//! One session leads a round. It steps the log until its own commit is replied to; the commits that were sealed before
+//! its batch was closed become durable with it. Every other session whose commit is sealed doesn't step the log. It
+//! sleeps until the round ends and then makes a move, which either ends its commit or says that its batch is still to
+//! come. Then it leads, or sleeps through one more round.
 //!
-//! So it is decided when holds come, and whether a sealed commit makes the event that it was named or a move. Both are
-//! events of its call, and contracts say no more.
+//! This decides only when a session takes the lock, and whether a sealed commit makes the event that its last outcome
+//! named or a move. Both are events of its call, so contracts say nothing about it.
 //!
 //! # Why no wake-up is lost
 //!
-//! `round` is odd while a session leads. A call reads it before each hold, and takes the lead only by changing that
-//! very number: so no round has ended between its hold and its lead. It sleeps only where the number shows, after the
-//! hold, that the same round is still led. Then the leader has yet to change the number, and wakes all sleepers behind
-//! that; the system compares the number once more before a thread sleeps. A round that ended since the number was read
-//! may have made the commit durable: then the call doesn't sleep, but makes a move.
+//! `round` is odd while a session leads. A call reads it before each hold, and takes the lead only by a
+//! compare-and-swap from the number that it read: so no round has ended between its hold and its lead. It sleeps only
+//! if `round` shows, after the hold, that the same round is still led. Then the leader has yet to change the number,
+//! and wakes all sleepers after that; the system compares the number once more before a thread sleeps. A round that
+//! ended since the number was read may have made the commit durable: then the call doesn't sleep, but makes a move.
 //!
-//! A leader never sleeps, and it ends its round where its call ends, by a reply or given up. It can be kept from that
-//! only by the lock, and by its own `Between`. No session sleeps here while it holds the lock. So every sleeper is
-//! woken if threads get the lock.
+//! A leader never sleeps, and it ends its round when its call ends, by a reply or given up. Only the lock and its own
+//! `Between` can delay that. No session sleeps here while it holds the lock. So every sleeper is woken if every thread
+//! that waits for the lock gets it.
 //!
 //! Each round gates one batch at least, since its leader's commit wasn't durable. At most two batches are under way,
 //! one in flight and one that fills, and they are gated in order. So a sealed commit is durable after two rounds.
 
 ghost use Rattle.std.specs.Prelude.{◌≡◌, ◌⊎◌};
-ghost use Rattle.gx_shared.specs.Sharing.{GoesOn};
+ghost use Rattle.gx_events.specs.declared.event.Event.TheVariants.{Move};
 
 use gx_events::Event;
 use gx_geom::Shape;
@@ -33,26 +33,26 @@ use std::sync::Wait;
 use std::sync::atomic::{AtomicU64, Ordering};
 use std::thread;
 
-/// How often a leader looks in vain for commits that others may seal.
+/// After so many looks in a row without a change a leader stops waiting for commits that others may seal.
 const LOOKS: u32 = 400;
 
-/// How often it looks at most.
+/// How often a leader looks at most.
 const ALL_LOOKS: u32 = 16 * LOOKS;
 
-/// What sessions know of each other's commits without the lock. A set of sessions has a bit for each.
+/// What sessions share about their commits outside the lock. A set of sessions has a bit for each.
 #[derive(Drop)]
 pub(crate) struct Turns {
-    /// How many rounds have begun and how many have ended, together: odd while a session leads.
+    /// The number of rounds begun plus the number of rounds ended: odd while a session leads.
     round: AtomicU64,
     /// The sessions that have asked a commit and not sealed it.
     asked: AtomicU64,
-    /// Those that have sealed one since the last batch was closed.
+    /// The sessions that have sealed a commit since the last batch was closed.
     sealed: AtomicU64,
-    /// Those with a commit in the last batch that was closed.
+    /// The sessions with a commit in the last batch that was closed.
     last: AtomicU64,
-    /// Those with one in the batch before.
+    /// The sessions with a commit in the batch before that.
     former: AtomicU64,
-    /// Those with one in the last batch and in one of the two before it.
+    /// The sessions with a commit in the last batch and in one of the two before it.
     regular: AtomicU64,
 }
 
@@ -61,14 +61,14 @@ pub(crate) struct Turns {
 enum Turn {
     /// It leads.
     Lead,
-    /// Another one leads this round.
+    /// Another session leads this round.
     Follow(u64),
     /// A round has ended since it looked.
     Move,
 }
 
 impl Turns {
-    /// No commit is asked.
+    /// The state in which no commit is asked.
     pub(crate) fn new() -> Self {
         Turns {
             round: AtomicU64::new(0),
@@ -80,18 +80,18 @@ impl Turns {
         }
     }
 
-    /// Sessions have sealed their commits.
+    /// Notes that sessions have sealed their commits.
     fn seal(&self, sessions: u64) {
         self.sealed.fetch_or(sessions, Ordering::SeqCst);
         self.forget(sessions);
     }
 
-    /// Sessions have no commit any longer that is asked and not sealed.
+    /// Notes that sessions no longer have a commit that is asked and not sealed.
     fn forget(&self, sessions: u64) {
         self.asked.fetch_and(!sessions, Ordering::SeqCst);
     }
 
-    /// Makes a session the leader, where no round is led and none has begun since this number was read.
+    /// Makes a session the leader, if no round is led and none has begun since this number was read.
     fn take(&self, seen: u64) -> Turn {
         let round = if seen % 2 == 0 {
             let led = seen.wrapping_add(1);
@@ -119,8 +119,8 @@ impl Turns {
         (asked | regular) & !self.sealed.load(Ordering::SeqCst)
     }
 
-    /// Looks for commits that may soon be sealed, with a yield between two looks. It ends where there are none, or
-    /// where nothing came of so many looks. Then the batch may be closed: returns the sessions in it.
+    /// Looks for commits that may soon be sealed, with a yield between two looks. It stops if there are none, or after
+    /// `LOOKS` looks without a change. Then the batch may be closed. Returns the sessions in it.
     fn gather(&self) -> u64 {
         let mut known = 0;
         let mut looks = 0;
@@ -158,16 +158,16 @@ impl Turns {
     }
 }
 
-/// How far a call is on its way to a durable commit.
+/// The stages of a call on its way to a durable commit.
 #[derive(Clone, Copy, Debug, PartialEq, Eq)]
 enum CommitStage {
     /// It isn't a commit.
     Other,
-    /// It is, and not sealed.
+    /// It is a commit, and not sealed.
     Unsealed,
     /// It is sealed, and may not be durable.
     Sealed,
-    /// So, and its session leads a round, whose batch has these sessions.
+    /// It is sealed, and its session leads a round, whose batch has these sessions.
     Leads(u64),
 }
 
@@ -181,7 +181,7 @@ pub(crate) struct CallTurn {
 }
 
 impl CallTurn {
-    /// A call of a session begins.
+    /// Starts a call of a session.
     pub(crate) fn begin_call<B>(session: u8, call: &Call<B>, turns: &Turns) -> Self {
         let mut turn = CallTurn {
             session,
@@ -200,12 +200,12 @@ impl CallTurn {
         1 << (self.session % 32)
     }
 
-    /// Looks which round it is, before a hold.
+    /// Reads the number of the round, before a hold.
     pub(crate) fn look(&mut self, turns: &Turns) {
         self.seen = turns.round.load(Ordering::SeqCst);
     }
 
-    /// A move of the call did its work, and another one comes: by the first of a commit that does, it is sealed.
+    /// Notes that a move of the call succeeded and another one follows. The first such move of a commit seals it.
     pub(crate) fn moved(&mut self, turns: &Turns) {
         if self.stage == CommitStage::Unsealed {
             self.stage = CommitStage::Sealed;
@@ -213,9 +213,9 @@ impl CallTurn {
         }
     }
 
-    /// The event of the session's call that comes next, where this one was named. For a sealed commit whose session
-    /// doesn't lead it is no step of the log or of a checkpoint and no write of a page: the session takes the lead, or
-    /// it waits for the end of the round, and moves.
+    /// The next event of the session's call, if the last outcome named this one. If its commit is sealed and the event
+    /// is a step of the log or of a checkpoint or the write of a page, the session makes that event only as the leader:
+    /// it takes the lead, or waits for the end of the round and makes a move.
     pub(crate) fn next<B: Shape, W: Wait>(
         &mut self,
         rt: &W,
@@ -223,8 +223,7 @@ impl CallTurn {
         session: u8,
         named: Event<B>,
     ) -> Event<B>
-        requires { GoesOn session named }
-        ensures { GoesOn session result }
+        ensures { (result ≡ named) ⊎ (result ≡ Move session) }
     {
         if self.stage != CommitStage::Sealed || matches!(named, Event::Move(_)) {
             return named;
@@ -240,7 +239,7 @@ impl CallTurn {
         Event::Move(session)
     }
 
-    /// The call ends, with a reply or given up.
+    /// Ends the call, with a reply or given up.
     pub(crate) fn end_call(&self, turns: &Turns) {
         match self.stage {
             CommitStage::Leads(batch) => turns.end_round(batch),

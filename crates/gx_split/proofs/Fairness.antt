@@ -21,7 +21,7 @@ below_or_not i p = elim (leb_tells p i) [ inl w ↦ inr w.1 | inr w ↦ inl w.1 
 same_or_not : (a b : ℕ) → (a ≡ b) ⊎ (a ≢ b)
 same_or_not a b = elim (eqb_tells a b) [ inl w ↦ inl w.1 | inr w ↦ inr w.1 ]
 
--- a place that reads false whatever stands for its absence is there
+-- a place that reads false, while one outside would read true, is in the list
 pub in_range : (xs : List Bool) (i : ℕ) → get_or xs i true ≡ false → i < length xs
 in_range [] i h = cc
 in_range (x ∷ xs) zero h = omega arith
@@ -126,7 +126,7 @@ first_greatest_is xs h =
     let same : suc (length xs - 1) ≡ length xs = omega arith in
     rw (first_greatest-is xs) (subst (λ k. IsFirstGreatest xs k (greatest_upto xs k)) same (greatest_upto_is xs (length xs - 1)))
 
--- what the choice of a side tells of the numbers
+-- what the choice of a side says of the numbers
 second_tells : (x y l : ℕ) (t : Bool) → cond (nat_le x l) false (cond (nat_le y l) true t) ≡ true → l < x
 second_tells x y l t h = grind (arith, nat_tests)
 

@@ -1,4 +1,4 @@
--- Each placement is one in words, and the split is placements.
+-- Each placement is one as defined, and the split is placements.
 use Rattle.std.proofs.Common.{◌≡◌, ℕ, zero, suc, ◌+◌, ◌-◌, ◌*◌, ◌<◌, ◌≤◌, Bool, true, false, cond, refl, ap, arith, add-one, List, length, [], ◌∷◌, map, get_or, remove, All, Some, slice_index}
 use Rattle.std.specs.Prelude.{nat_le, nat_lt, slice_get}
 use Rattle.std.proofs.lemmas.Bool.Decides.{nat_tests}

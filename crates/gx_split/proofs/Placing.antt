@@ -1,4 +1,4 @@
--- One placement: what is kept after it stands for the groups after it.
+-- One placement: what is kept after it represents the groups after it.
 use Rattle.std.proofs.Common.{◌≡◌, ℕ, suc, ◌+◌, ◌<◌, Bool, true, false, refl, ap, sym, ◌∙◌, subst, arith, add-one, List, length, [], ◌∷◌, ◌++◌, map, get_or, take, drop, Some, slice_get, slice_index, remove, All}
 use Rattle.std.specs.Int.{abs_diff}
 use Rattle.std.proofs.lemmas.List.{get_or-map, length-map, map-append, take-map, drop-map}
@@ -75,7 +75,7 @@ pub grown_first : {K : Type 0} (m : Measure K) (c : Covers K) (w : Waiting K) (g
 grown_first m c w grows apart true is e far = cc
 grown_first m c w grows apart false is e far = ap (λ a. record w { first = grows; apart = a }) far ∙ ap (with_first w) e
 
--- beside a cover that covered the key that went to it, growths are as they were
+-- beside a cover that covered the key that went to it, growths are unchanged
 stays_second : {K : Type 0} (m : Measure K) (c : Covers K) (cover : K) (w : Waiting K) → cover ≡ c.second → HasGrowths m c w
     → with_second w (growth m cover (Some w.key.now)) ≡ w
 stays_second m c cover w same is =
@@ -111,7 +111,7 @@ put_is : {K : Type 0} (m : Measure K) (keys : List K) (c : Covers K) (ws ws' : L
 put_is m keys c ws ws' sides place slot key true is rest = rw (is, rest)
 put_is m keys c ws ws' sides place slot key false is rest = rw (is, rest)
 
--- what is kept after a placement stands for the groups after it
+-- what is kept after a placement represents the groups after it
 pub placed_by : {K : Type 0} (m : Measure K) (keys : List K) (c c' : Covers K) (ws ws' : List (Waiting K)) (sides sides' : List Bool) (least place : ℕ) (next : Waiting K) (side : Bool)
     → IsKept m keys c ws → place < length ws → place ≡ first_greatest (map gap_of ws) → next ≡ get_or ws place next
     → side ≡ goes_second m (groups_of c ws []) least next.first next.second

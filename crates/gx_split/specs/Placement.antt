@@ -1,4 +1,4 @@
--- The quadratic split in words: how one key is placed, and that a split is nothing but such placements.
+-- The quadratic split: how one key is placed, and that a split is nothing but such placements.
 use Rattle.std.specs.Prelude.{◌≡◌, ℕ, ◌+◌, ◌<◌, ◌≤◌, Bool, true, false, List, [], Some, length, remove, slice_get, slice_index, slice_set}
 use Rattle.gx_split.specs.Split.{Measure, Groups, begun, difference, growth_at, seeds}
 

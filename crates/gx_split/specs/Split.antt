@@ -82,7 +82,7 @@ greatest_upto xs (suc k) =
 unfoldable pub first_greatest : List ℕ → ℕ
 first_greatest xs = greatest_upto xs (length xs)
 
--- true where the second number is less, false where the first is
+-- true if the second number is less, false if the first is
 abbrev pub second_less : ℕ → ℕ → Bool → Bool
 second_less a b tie = if nat_lt b a then true else (if nat_lt a b then false else tie)
 

@@ -1,4 +1,4 @@
-//! What the definition of the split comes to.
+//! Laws: what the definition of the split means.
 ghost use Rattle.std.specs.Prelude.{◌≡◌, ◌≤◌, ◌<◌, ◌*◌, ℕ, ℤ, All, List, length};
 ghost use Rattle.gx_split.specs.Split.{measure, first_greatest, place_one, worst_pair, seeds, split_sides, Groups};
 ghost use Rattle.gx_split.specs.Fair.{IsFairSplit, IsFirstGreatest, IsFirstWorst};
@@ -23,9 +23,9 @@ pub fn split_is_fair<M: Measure>()
         (split_sides (measure M.joined M.extent) keys least) }
 {}
 
-/// Each placement, in words: the first of the waiting keys at which the growths are farthest apart goes to the group
-/// that needs all that wait, else to the one that grows less, else to the smaller, else to the one of fewer keys, else
-/// to the first (Guttman 1984, PickNext).
+/// Each placement: the first of the waiting keys at which the growths are farthest apart goes to the group that needs
+/// all that wait, else to the one that grows less, else to the smaller, else to the one of fewer keys, else to the
+/// first (Guttman 1984, PickNext).
 pub fn each_placement<M: Measure>()
     ensures { (keys : List M) (least : ℕ) (g : Groups M) → 0 < length g.rest → All (λ slot. slot < length keys) g.rest
         → (p : Placing M) × IsPlacement (measure M.joined M.extent) keys least g

@@ -25,7 +25,7 @@ pub trait Measure: Copy {
         ensures value { result ≡ joined self.now other.now }
         ensures no_smaller { extent self.now ≤ extent (joined self.now other.now) };
 
-    /// True only where the union of the two is this key.
+    /// True only if the union of the two is this key.
     fn covers(&self, other: &Self) -> bool
         ensures { result ≡ true → joined self.now other.now ≡ self.now };
 

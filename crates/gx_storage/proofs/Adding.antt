@@ -13,7 +13,7 @@ use Rattle.gx_node.proofs.AlikeTrees.{standing_too}
 use Rattle.gx_node.specs.Reading.{Format}
 use Rattle.gx_tree.specs.Writing.{Appends, live}
 use Rattle.gx_tree.proofs.Marking.{adding}
-use Rattle.gx_events.specs.Events.{Inserts}
+use Rattle.gx_events.specs.Happenings.{Inserts}
 use Rattle.gx_events.specs.Slots.{Note, WithNote, Working, slot_at}
 use Rattle.gx_recovery.specs.Coming.{IsSaid}
 use Rattle.gx_recovery.specs.Logged.{all_records, appended}
@@ -44,7 +44,7 @@ module _ {B D : Type 0} (c : Class B) (law : IsLawful c) (said : List ℕ → B)
   abbrev shown_now : Tree B
   shown_now = stepping.shown_now c law said f passes d e v w bodies old whole
 
-  -- the pair stands nowhere yet
+  -- the pair is in no leaf yet
   pub absent : standing (is_entry c.rules entry.row entry.key) shown ≡ 0
   absent =
       standing_too c.rules (tree_now c old) shown (shows c law said f passes d e v w bodies old whole keeps) (is_legal c law old whole) (is_of c entry)

@@ -56,7 +56,7 @@ by_contents (Some k) c is formed = subst {A = Option Contents} is_formed is (for
 still_formed : (old new : State) → ((q : ℕ) → contents_of (kept new q) ≡ contents_of (kept old q)) → AreFormed old → AreFormed new
 still_formed old new same formed q j is = by_contents (kept old q) j.page (sym (same q) ∙ ap contents_of is) (λ k there. formed q k there)
 
--- frames that are told how far the log is have the same pages
+-- frames in which a gated batch is noted have the same pages
 told_pages : (stage : Stage) (used : ℕ) (frames : State) (p : ℕ) → kept (told stage used frames) p ≡ kept frames p
 told_pages GateSync used frames p = told_kept frames (used - 1) p
 told_pages Body used frames p = refl

@@ -134,7 +134,7 @@ module _ {B D : Type 0} (c : Class B) (law : IsLawful c) (said : List ℕ → B)
         let there = ap (λ q. (t.node q).level) (is ∙ sym pick.2) in
         omega (arith, level, there)
 
-    -- what is shown is what all records leave, and is as it was
+    -- what is shown is what all records leave, and is unchanged
     pub goes_by : next.seen ≡ v.shelf.counter → IsDescent c.rules shown next entry.key → GoesTo old item.page next
     goes_by seen descent =
         let now : t.counter ≡ next.seen = keeps.counter ∙ sym seen in

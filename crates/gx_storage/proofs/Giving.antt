@@ -45,7 +45,7 @@ use Rattle.gx_storage.proofs.Imaging.{given_last}
 use Rattle.gx_storage.proofs.Recording.{AreNodes, stays_with, stored_kept}
 use Rattle.gx_storage.proofs.Writing.{Stepped}
 
--- a page that is taken has these contents in its frame, which have an image
+-- a page in use has these contents in its frame, which have an image
 pub record IsThere (frames : State) (used : ℕ) (change : ℕ × Contents) : Type 0 where
   pub j : Kept
   pub is : kept frames change.0 ≡ Some j
@@ -100,7 +100,7 @@ module _ {B D : Type 0} (k : Known (Entry B) (Page B)) (said : List ℕ → B) (
     (d e : Device) (v : Volume D) (batch : ℕ) (room : Bool) (t : Shelf D) (bodies : List (List (Record (Entry B) (Page B)))) (s : Logged (Entry B) (Page B))
     (l : IsLawful k) (keeps : Keeps k (reading_of said f) f passes d v bodies s) (on : GoesOn passes d e (record v.shelf { batch = batch; has_room = room }) t)
     (least : batch ≡ v.log.used) (right : AreNodes f passes t) where
-  -- some pages, which a record gives with the numbers as they are now
+  -- some pages, which a record gives with the present numbers
   pub pages_stay_with : (known : Limits → Known (Entry B) (Page B)) (limits : Limits) → known limits ≡ k → (changes : List (ℕ × Contents)) (log : Log) (most : ℕ) (imaged : List Bool) → imaged ≡ all_imaged (images_of changes) v.imaged → AreThere t.frames t.used changes
       → IsLast known (reading_of said f) (Pages t.counter t.used (images_of changes)) v.log log
       → ((q : ℕ) → list_any (λ i. i.page == q) (images_read (reading_of said f) (images_of changes)) ≡ false → IsAsItWas d e v.shelf.frames t.frames q)

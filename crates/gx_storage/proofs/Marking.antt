@@ -18,7 +18,7 @@ module _ {B : Type 0} (wants : Pair B → Bool) (old new : Store B) (a : ℕ) (m
   pub unmarked_stays : (sought : Sought) (next : ℕ) → sought ≡ Right next → SetsMark wants old new a marked sought → new ≡ old
   unmarked_stays sought next is did = (subst {A = Sought} (λ s. SetsMark wants old new a marked s) is did).1
 
--- what was sought in a leaf that is as it was
+-- what was sought in a leaf that is unchanged
 pub found_here : {B : Type 0} (wants : Pair B → Bool) (node : Node B) (sought : Sought) (slot : ℕ) (before : Bool) → sought ≡ Here slot before → Seeks wants node sought → HasWanted wants node
 found_here wants node sought slot before is seeks = (slot, before, subst {A = Sought} (λ s. Seeks wants node s) is seeks)
 

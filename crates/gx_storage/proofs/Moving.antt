@@ -85,7 +85,7 @@ module _ {B D : Type 0} (k : Known (Entry B) (Page B)) (r : Reading (Entry B) (P
       let some : IsSome (stamp_of (kept v.shelf.frames p)) = rw was refl in
       keeps.formed p j (sym (same.dirty some) ∙ is)
 
-  -- a page that is as it was has an image
+  -- a page that is unchanged has an image
   pub now_formed : (p : ℕ) (j : Kept) → kept t.frames p ≡ Some j → IsAsItWas d e v.shelf.frames t.frames p → IsWellFormed j.page
   now_formed p j is same = formed_by p j.stamp j is refl same
 

@@ -29,7 +29,7 @@ module _ {D : Type 0} (passes : ℕ → Contents → Bool) (state : D → Device
       from s (begins passes (state v.shelf.disk) s q)
 
 module _ {B D : Type 0} (known : Limits → Known (Entry B) (Page B)) (r : Reading (Entry B) (Page B)) (f : Format B) (passes : ℕ → Contents → Bool) (state : D → Device) (v : Volume D) (t : Shelf D) where
-  -- whatever place and room the event was told that it has
+  -- whatever place and room the event was given
   pub begun_reads : (batch : ℕ) (room : Bool) → ((q : ℕ) → IsSince passes (state v.shelf.disk) (state t.disk) (record v.shelf { batch = batch; has_room = room }) t q)
       → Stays (IsSteady (state v.shelf.disk) v.shelf.frames) (store_of f (state v.shelf.disk).seen v.shelf) (store_of f (state t.disk).seen t)
       → IsUnlogged known r f passes (record v.shelf { batch = batch; has_room = room }) (state v.shelf.disk) (state t.disk) v (record { log = v.log; shelf = t; most = v.most; imaged = v.imaged })

@@ -44,7 +44,7 @@ use Rattle.gx_storage.proofs.Imaging.{given_last, imaged_more}
 use Rattle.gx_storage.proofs.Moving.{now_formed, now_none_later, now_readable, now_said, now_seen, now_stamped, now_steady, now_stored, now_up, only_later}
 use Rattle.gx_storage.proofs.Shown.{stored_shows}
 
--- what the log tells with one record more
+-- what the log gives with one record more
 pub told_more : {E P : Type 0} (k : Known E P) (s : Logged E P) (x : Record E P) → analysis k (all_records (appended x s)) ≡ analysis k (all_records s ++ x ∷ [])
 told_more {E} {P} k s x = ap (λ (log : List (Record E P)). analysis k log) (one_more s x)
 

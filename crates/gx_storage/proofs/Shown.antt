@@ -48,7 +48,7 @@ module _ {B : Type 0} (said : List ℕ → B) (f : Format B) where
   bytes_shown None on_device formed = refl
   bytes_shown (Some k) on_device formed = read-image k.page (formed k refl)
 
-  -- a page of the device is stored as the node that stands there
+  -- a page of the device is stored as the node that is there
   pub stored_stands : (pages : ℕ) (frames : State) (seen : List ℕ) (p : ℕ) → 1 ≤ p → p ≤ pages → IsBacked frames seen → AreFormed frames
       → (stored (reading_of said f) pages frames seen p).node ≡ node_of f (standing frames seen p)
   unfolding stored

@@ -1,4 +1,4 @@
--- What the record of an added pair says of its leaf, by the leaf's bit, and that it is so.
+-- What the record of an added pair says of its leaf, by the leaf's bit, and that this is true.
 use Rattle.std.proofs.Common.{◌≡◌, ◌∙◌, sym, ap, refl, inl, inr, ℕ, ◌^◌, ◌≤◌, ◌<◌, Bool, true, false, ◌&&◌, ◌||◌, List, [], ◌∷◌, length, arith}
 use Rattle.std.specs.Prelude.{nat_lt, not}
 use Rattle.std.specs.List.{list_any}
@@ -34,7 +34,7 @@ use Rattle.gx_storage.proofs.Recording.{AreNodes}
 use Rattle.gx_storage.proofs.SmallFits.{add_fits}
 use Rattle.gx_storage.proofs.SmallLeaf.{bytes_then, leaf_is, leaf_node, node_level, node_then, passing_then}
 
--- what it says: the change alone, or the leaf as it then stands
+-- what it says: the change alone, or the leaf after it
 abbrev pub add_told : {B D : Type 0} → (B → List ℕ) → Format B → Bool → Entry B → ℕ → List ℕ → Shelf D → Said (Page B)
 add_told spelling f true entry leaf seen s = Small (change_of f (AddPair entry.row (spelling entry.key)))
 add_told spelling f false entry leaf seen s = Whole (page_of f (image_at seen s leaf))
@@ -87,7 +87,7 @@ module _ {B D : Type 0} (k : Known (Entry B) (Page B)) (said : List ℕ → B) (
     (bodies : List (List (Record (Entry B) (Page B)))) (s : Logged (Entry B) (Page B)) (keeps : Keeps k (reading_of said f) f passes d v bodies s) (was : AreNodes f passes v.shelf)
     (page : ℕ) (used : Used (tree_of (store_of f d.seen v.shelf)) page) (low : 1 ≤ page) (high : page ≤ v.shelf.used)
     (r : Rules B) (means : PairsMean f r) (legal : Legal r (tree_of (store_of f d.seen v.shelf))) (leaf : ((tree_of (store_of f d.seen v.shelf)).node page).level ≡ 0) where
-  -- the leaf as it is read
+  -- the leaf that was read
   abbrev then_read : Contents
   then_read = read_of (bytes_then k said f passes d v bodies s keeps was page low high)
 
@@ -106,7 +106,7 @@ module _ {B D : Type 0} (k : Known (Entry B) (Page B)) (said : List ℕ → B) (
   its_pairs : node.pairs ≡ (leaf_of f then_read).pairs
   its_pairs = ap (λ (n : Node B). n.pairs) (node_then k said f passes d v bodies s keeps was page low high ∙ leaf_node f then_read its_level)
 
-  -- A pair that stands nowhere fits a leaf that has room.
+  -- A pair that is in no leaf fits a leaf that has room.
   pair_fits_there : (row : ℕ) (key : B) (bytes : List ℕ) → row < 2 ^ 64 → Spells f bytes key → standing (is_entry r row key) (tree_of (store_of f d.seen v.shelf)) ≡ 0
       → length node.pairs < k.most → pair_fits f k.most row bytes then_read ≡ true
   pair_fits_there row key bytes fits spells absent room =

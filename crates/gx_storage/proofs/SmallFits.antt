@@ -1,4 +1,5 @@
--- A small change of a page whose bit is set fits what the log gives of that page, where it fits the page as it stands.
+-- A small change of a page whose bit is set fits what the log gives of that page, if it fits the page's present
+-- contents.
 use Rattle.std.proofs.Common.{◌≡◌, ◌∙◌, sym, ap, refl, ℕ, ◌≤◌, Bool, true, false, List, Option, None, Some, arith}
 use Rattle.std.specs.Prelude.{is_some}
 use Rattle.gx_machine.specs.declared.entry.Entry.{Entry}

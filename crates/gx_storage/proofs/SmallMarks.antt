@@ -264,7 +264,7 @@ module _ {B D : Type 0} (shape : Members B) (proper : B → Bool) (said : List �
 
 -- ---- what it says of its leaf
 
--- by the leaf's bit: the change alone, or the leaf as it then stands
+-- by the leaf's bit: the change alone, or the leaf after it
 abbrev pub mark_told : {B D : Type 0} → (B → List ℕ) → Format B → Bool → Entry B → Bool → ℕ → List ℕ → Shelf D → Said (Page B)
 mark_told spelling f true entry marked leaf seen s = Small (change_of f (SetMark entry.row (spelling entry.key) marked))
 mark_told spelling f false entry marked leaf seen s = Whole (page_of f (image_at seen s leaf))
@@ -278,7 +278,7 @@ mark_read {B} said spelling f true transaction entry before marked leaf seen s b
 mark_read {B} said spelling f false transaction entry before marked leaf seen s back =
     ap (λ k. (let x : Record (Entry B) (Page B) = Write transaction (record { row = entry.row; key = k }) before marked leaf (mark_told spelling f false entry marked leaf seen s) in x)) back
 
--- it is so of the leaf, whose pair's mark was set
+-- this is true of the leaf, whose pair's mark was set
 module _ {B D : Type 0} (shape : Members B) (k : Known (Entry B) (Page B)) (said : List ℕ → B) (f : Format B) (passes : ℕ → Contents → Bool) (d : Device) (v : Volume D)
     (bodies : List (List (Record (Entry B) (Page B)))) (s : Logged (Entry B) (Page B)) (keeps : Keeps k (reading_of said f) f passes d v bodies s) (was : AreNodes f passes v.shelf)
     (IsKey : B → Type 0) (spelling : B → List ℕ) (most : ℕ) (reads : ReadsMarks IsKey spelling f shape most) (entry : Entry B) (of_class : IsKey entry.key)

@@ -254,7 +254,7 @@ module _ {B D : Type 0} (known : Limits → Known (Entry B) (Page B)) (r : Readi
     why = why;
   }
 
--- a sweep whose plan was refused, which isn't for want of room
+-- a sweep whose plan was refused, but not for lack of room
 pub plan_refused : {B D : Type 0} (known : Limits → Known (Entry B) (Page B)) (r : Reading (Entry B) (Page B)) (f : Format B) (passes : ℕ → Contents → Bool) (state : D → Device) (v w : Volume D)
     (IsTest : (Entry B → Bool) → Type 0) (page : ℕ) (fault : StepFault StoreFault) → fault ≢ Pages NoRoom
     → IsUnlogged known r f passes (begun v (sweep_room (is_imaged v.imaged page) 0)) (state v.shelf.disk) (state w.shelf.disk) v w

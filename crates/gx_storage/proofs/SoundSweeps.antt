@@ -1,4 +1,4 @@
--- What the sweep of a leaf tells of an index.
+-- What the sweep of a leaf means for an index.
 use Rattle.std.proofs.Common.{◌≡◌, ◌∙◌, sym, refl, ℕ, ◌≤◌, Bool, true, false, List, [], ◌∷◌, arith}
 use Rattle.gx_machine.specs.declared.entry.Entry.{Entry}
 use Rattle.gx_disk.specs.Device.{Device}

@@ -1,4 +1,4 @@
--- What a change that is logged tells of an index: what frames and device show to be a step of the tree is that step of the log's
+-- What a logged change means for an index: a step of the tree that frames and device show is that step of the log's
 -- tree.
 use Rattle.std.proofs.Common.{◌≡◌, ◌≢◌, ◌∙◌, ap, refl, ℕ, ◌<◌, ◌≤◌, Bool, true, false, ◌||◌, ◌==◌, List, [], ◌∷◌, arith}
 use Rattle.std.specs.Prelude.{nat_le, nat_lt}
@@ -69,7 +69,7 @@ module _ {B D : Type 0} (c : Class B) (law : IsLawful c) (said : List ℕ → B)
   abbrev pub shown_now : Tree B
   shown_now = tree_shown (known_of c) r f passes e w
 
-  -- a page that a record doesn't speak of is as the log had it
+  -- a page that a record doesn't name is as the log had it
   beside : (x : Record (Entry B) (Page B)) (q : ℕ) → speaks_of q x ≡ false → (tree_now c (with_record x old)).node q ≡ (tree_now c old).node q
   beside x q apart =
       let area = old.log.area in
@@ -98,7 +98,7 @@ module _ {B D : Type 0} (c : Class B) (law : IsLawful c) (said : List ℕ → B)
     pub stands : shown_now.used ≡ w.shelf.used
     stands = nodes_long (standing_node f w.shelf.frames e.seen) w.shelf.used
 
-    -- a record speaks of pages in use alone
+    -- a record names only pages in use
     pub logged_step : (x : Record (Entry B) (Page B)) → StaysWith (known_of c) r f passes d e w bodies old.log x
         → ((q : ℕ) → (Used shown_now q → ⊥) → speaks_of q x ≡ false)
         → (step : Step B) → IsStep c.rules shown step shown_now → IsStep c.rules (tree_now c old) step (tree_now c (with_record x old))

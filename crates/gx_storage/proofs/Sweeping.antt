@@ -111,7 +111,7 @@ begun_anew passes state s read batch before room q since =
 pub held_anew : {D : Type 0} (read : Shelf D) (batch page : ℕ) (room : Bool) → IsHeld read page → IsHeld (record read { batch = batch; has_room = room }) page
 held_anew read batch page room held = record { from = held.from; to = held.to; kept = held.kept; stays = held.stays }
 
--- why pages were refused, told otherwise
+-- why pages were refused, in another form
 pub whys : {A : Type 0} (old new : StoreFault → Type 0) → ((why : StoreFault) → old why → new why) → (result : Result A (StepFault StoreFault)) → IfErr result (IsWhy old) → IfErr result (IsWhy new)
 whys old new goes (Ok done) is = tt
 whys old new goes (Err Damaged) is = tt

@@ -63,13 +63,13 @@ are_slots least (slot ∷ slots) rise fit =
 
 -- ---- what a sweep takes
 
--- a plan's slots are those of the leaf as it stood, where it was read as it stood
+-- a plan's slots are those of the leaf before the sweep, if that was read
 pub planned_slots : {B : Type 0} (plan : Planned) (test : Entry B → Bool) (read old : Store B) (page : ℕ) → read ≡ old → PlansSweep test ((tree_of read).node page) plan
     → slots_of plan ≡ swept_slots test ((tree_of old).node page)
 planned_slots {B} plan test read old page same plans =
     ap (λ bs. slots_from 0 bs) plans.sides ∙ ap (λ (s : Store B). swept_slots test ((tree_of s).node page)) same
 
--- what holds of what stands at each place holds of each
+-- what holds of the item at each place holds of each item
 each_at : {X : Type 0} (P : X → Type 0) (xs : List X) → ((k : ℕ) (x : X) → slice_get xs k ≡ Some x → P x) → Each P xs
 each_at P [] all = tt
 each_at P (x ∷ xs) all = (all 0 x refl, each_at P xs (λ k y at. all (suc k) y at))

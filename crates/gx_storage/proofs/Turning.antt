@@ -45,7 +45,7 @@ use Rattle.gx_storage.specs.Imaged.{AllImaged, imaged_after}
 use Rattle.gx_storage.proofs.Calling.{keeps_on, rests_none}
 use Rattle.gx_storage.proofs.Imaging.{nothing_imaged, same_imaged}
 
--- frames that are told of a turn have the same pages
+-- frames in which a turn is noted have the same pages
 turned_pages : (call : Turn) (frames : State) (p : ℕ) → kept (told_turn call frames) p ≡ kept frames p
 turned_pages turn.Done frames p = told_kept frames 0 p
 turned_pages turn.Closed frames p = refl
@@ -133,7 +133,7 @@ module _ {B : Type 0} (k : Known (Entry B) (Page B)) (r : Reading (Entry B) (Pag
         safely = now.safely;
       }
 
-  -- a record of the head: the shelf is as it was
+  -- a record of the head: the shelf is unchanged
   pub head_keeps : (x : Rec) (result : Appended) → w.shelf ≡ v.shelf → w.imaged ≡ v.imaged → PutsFirst (spelling x) v.log w.log result → HeadStaysUp k r v.log w.log → KeepsOn k r f passes d d v w
   head_keeps x result shelf bits puts up bodies s l old =
       let S : Shelf D → Type 0 = λ y. Keeps k r f passes d (record { log = w.log; shelf = y; most = w.most; imaged = w.imaged }) bodies s in

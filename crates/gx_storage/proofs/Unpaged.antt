@@ -76,7 +76,7 @@ no_image (rec.Add tx row k leaf) imaged is = absurd is
 no_image (rec.Widen page slot k) imaged is = absurd is
 no_image (rec.Sweep page slots) imaged is = absurd is
 
--- the tree is as it was
+-- the tree is unchanged
 same_after : {E P : Type 0} (k : Known E P) (y : Record E P) (s : Logged E P) → Leaves k y → tree_of k s.area (all_records (appended y s)) ≡ tree_of k s.area (all_records s)
 same_after {E} {P} k y s leaves =
     let all = all_records s in

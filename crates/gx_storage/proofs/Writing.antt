@@ -74,7 +74,7 @@ module _ {B : Type 0} (known : Limits → Known (Entry B) (Page B)) (r : Reading
 
 -- ---- a page that is held
 
--- what is lent of it is what stands there
+-- what is lent of it is its contents
 pub held_stands : {D : Type 0} (s : Shelf D) (seen : List ℕ) (page : ℕ) (c : Contents) → IsHeld s page → IfSome (kept s.frames page) (λ k. c ≡ k.page) → c ≡ standing s.frames seen page
 held_stands s seen page c held is = let one = lent s.frames page c held.kept is in one.same ∙ sym (stands_kept s.frames seen page one.k held.stays one.is)
 
@@ -82,7 +82,7 @@ held_stands s seen page c held is = let one = lent s.frames page c held.kept is 
 pub held_number : {D : Type 0} (passes : Contents → Bool) (s : Shelf D) (page : ℕ) (c : Contents) → IsPassed passes s.frames → IsHeld s page → IfSome (kept s.frames page) (λ k. c ≡ k.page) → c.number ≡ page
 held_number passes s page c passed held is = let one = lent s.frames page c held.kept is in ap (λ (p : Contents). p.number) one.same ∙ (passed page one.k one.is).0
 
--- so its image, as it stands, has that number as its own
+-- so its present image has that number as its own
 pub held_own : {D : Type 0} (passes : Contents → Bool) (s : Shelf D) (seen : List ℕ) (page : ℕ) (c : Contents) → IsPassed passes s.frames → IsHeld s page → IfSome (kept s.frames page) (λ k. c ≡ k.page)
     → IsWellFormed c → HasOwnNumber seen s page
 held_own passes s seen page c passed held is well =
@@ -140,7 +140,7 @@ module _ {D : Type 0} (passes : ℕ → Contents → Bool) (state : D → Device
     others = λ q other. (since q (apart page q other)).same;
   }
 
-  -- each page is as it was
+  -- each page is unchanged
   pub unstepped : (u : Shelf D) → u ≡ begun v size → ((was : Shelf D) (q : ℕ) → IsSince passes (state was.disk) (state u.disk) was u q → IsSince passes (state was.disk) (state t.disk) was t q)
       → (q : ℕ) → IsSince passes (state v.shelf.disk) (state t.disk) (begun v size) t q
   unstepped u is keeps q = since_begun passes state v t u v.log.used q (has_room v.log size) is (λ was. keeps was q)
@@ -203,7 +203,7 @@ module _ {B D : Type 0} (known : Limits → Known (Entry B) (Page B)) (said : Li
 
 -- ---- the stamp of an added pair
 
--- a page that stands as it stood has the node that it had
+-- an unchanged page has the node that it had
 pub same_node : {B D : Type 0} (f : Format B) (one other : List ℕ) (s t : Shelf D) (page : ℕ) → 1 ≤ page → page ≤ s.used → page ≤ t.used → standing t.frames one page ≡ standing s.frames other page
     → (tree_of (store_of f one t)).node page ≡ (tree_of (store_of f other s)).node page
 same_node f one other s t page low high now same =

@@ -48,8 +48,9 @@ module _ {B : Type 0} (known : Limits → Known (Entry B) (Page B)) (r : Reading
     pub placed : AppendPlaces old new (At old.used)
 
   module _ (f : Format B) (passes : ℕ → Contents → Bool) where
-    -- A change that is logged by a record of so many bytes: the log is longer by just that record. Each page that it doesn't speak of is
-    -- as it was; the volume keeps the state with it; and the pages of which it has an image get their bits.
+    -- A change that is logged by a record of so many bytes: the log is longer by just that record. Each page that the
+    -- record doesn't name is unchanged; the volume keeps the state with it; and the pages of which it has an image get
+    -- their bits.
     pub record IsLogged {D : Type 0} (size : ℕ) (d e : Device) (v w : Volume D) (x : Rec) : Type 0 where
       pub logs : Logs x v.log w.log
       pub keeps : (l : Limits) → KeepsWith (known l) r f passes d e v w x
@@ -58,7 +59,7 @@ module _ {B : Type 0} (known : Limits → Known (Entry B) (Page B)) (r : Reading
       pub most : w.most ≡ v.most
       pub imaged : w.imaged ≡ imaged_with x v.imaged
 
-    -- Nothing is logged: each page is as it was, and the volume keeps the same state.
+    -- Nothing is logged: each page is unchanged, and the volume keeps the same state.
     pub record IsUnlogged {D : Type 0} (old : Shelf D) (d e : Device) (v w : Volume D) : Type 0 where
       pub log : w.log ≡ v.log
       pub keeps : (l : Limits) → KeepsTheSame (known l) r f passes d e v w

@@ -29,11 +29,11 @@ use Rattle.gx_durable.specs.Steps.{with_batch, stepped, bodies_stepped, turned, 
 use Rattle.gx_durable.specs.Pages.{rewritten}
 use Rattle.gx_durable.specs.Calls.{GoesSafely}
 use Rattle.gx_durable.specs.Turns.{Until}
+use Rattle.gx_events.specs.declared.outcome.Need.{Need}
+use Rattle.gx_events.specs.declared.outcome.Need.TheVariants as need
 use Rattle.gx_store.specs.declared.fault.StoreFault.{StoreFault}
 use Rattle.gx_store.specs.declared.fault.StoreFault.TheVariants.{NoRoom, TooFewFrames, Device as DeviceFault, Damaged}
 use Rattle.gx_store.specs.State.{Shelf}
-use Rattle.gx_storage.specs.declared.flusher.Help.{Help}
-use Rattle.gx_storage.specs.declared.flusher.Help.TheVariants as help
 use Rattle.gx_storage.specs.State.{Volume}
 use Rattle.gx_storage.specs.Keeps.{Keeps, KeepsWith, ShowsTheLogs, Logs}
 
@@ -43,19 +43,19 @@ IsLeastWritable s None = (q : ℕ) → IsWritable s q → ⊥
 IsLeastWritable s (Some p) = IsWritable s p × ((q : ℕ) → IsWritable s q → p ≤ q)
 
 -- what gives a clean frame: the write of that page; and where there is none, the log's next call
-abbrev pub frame_by : Option ℕ → Help
-frame_by None = help.Log
-frame_by (Some p) = help.Write p
+abbrev pub frame_by : Option ℕ → Need
+frame_by None = need.Log
+frame_by (Some p) = need.Write p
 
 -- what helps where frames are wanted: nothing where as many are clean by now, else what gives one
-pub record HelpsFrames (s : State) (wanted : ℕ) (result : Option Help) : Type 0 where
+pub record HelpsFrames (s : State) (wanted : ℕ) (result : Option Need) : Type 0 where
   pub enough : wanted ≤ clean_count s → result ≡ None
   pub few : clean_count s < wanted → (least : Option ℕ) × IsLeastWritable s least × (result ≡ Some (frame_by least))
 
--- What helps after a fault: where room lacked, the log's next call; where clean frames lacked, what gives one; and
--- nothing where the device fails or lies.
-abbrev pub Helps : {D : Type 0} → Shelf D → StoreFault → Option Help → Type 0
-Helps s NoRoom result = result ≡ Some help.Log
+-- What helps after a fault: if the log had no room, its next call; if too few frames were clean, the event that frees
+-- one; and nothing if the device fails or isn't honest.
+abbrev pub Helps : {D : Type 0} → Shelf D → StoreFault → Option Need → Type 0
+Helps s NoRoom result = result ≡ Some need.Log
 Helps s (TooFewFrames wanted) result = HelpsFrames s.frames wanted result
 Helps s DeviceFault result = result ≡ None
 Helps s Damaged result = result ≡ None
@@ -131,8 +131,8 @@ module _ {B : Type 0} (k : Known (Entry B) (Page B)) (r : Reading (Entry B) (Pag
   WritesGated d e v w = (bodies : List (List (Record (Entry B) (Page B)))) (s : Logged (Entry B) (Page B)) → IsLawful k → v.log.turn ≡ Closed → Keeps k r f passes d v bodies s
       → Rewrites d e w bodies s
 
-  -- A record that gives no page was appended: where it may come, the volume keeps the state with it; and where the tree that was shown
-  -- is the log's, the tree that is shown is the log's with it. The device is as it was.
+  -- A record that gives no page was appended: where it may come, the volume keeps the state with it; and where the tree
+  -- that was shown is the log's, the tree that is shown is the log's with it. The device is unchanged.
   pub record KeepsRecord {D : Type 0} (d : Device) (v w : Volume D) (x : Rec) : Type 0 where
     pub keeps : (bodies : List (List (Record (Entry B) (Page B)))) (s : Logged (Entry B) (Page B)) → IsLawful k → MayCome k s.area (all_records s) (record_read r x)
         → Keeps k r f passes d v bodies s → Keeps k r f passes d w bodies (appended (record_read r x) s)

@@ -87,7 +87,7 @@ module _ {C B D : Type 0} (class : Ghosts C B) (state : D → Device) where
   abbrev pub IsWhyOfSplitAs : Shelf D → Shelf D → SplitFault StoreFault → Type 0
   IsWhyOfSplitAs old new fault = owner.IsWhyOfSplit (FaultsAs old new) fault
 
-  -- the pages have gone on since an event began, and this one is as it was
+  -- the pages have gone on since an event began, and this one is unchanged
   abbrev pub IsSinceAs : Shelf D → Shelf D → ℕ → Type 0
   IsSinceAs old new page = IsSince (is_node (format_of class)) (state old.disk) (state new.disk) old new page
 

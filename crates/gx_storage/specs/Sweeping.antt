@@ -56,8 +56,8 @@ module _ {B : Type 0} (known : Limits → Known (Entry B) (Page B)) (r : Reading
     pub exact : IsSteady d v.shelf.frames → AreSwept slots
     pub logged : IsLoggedIf known r f passes (room_for slots) d e v w (sweep_said (is_imaged v.imaged page) page slots e.seen w.shelf) any
 
-  -- A sweep was refused, and nothing is logged: with `NoRoom` only where the log had no room for the record of just
-  -- these slots. They are no more than a record may have.
+  -- A sweep was refused, and nothing is logged: with `NoRoom` only if the log had no room for the record of just these
+  -- slots. They are no more than a record may have.
   pub record SweepIsRefused (fault : StepFault StoreFault) : Type 0 where
     pub slots : List ℕ
     pub exact : fault ≡ Pages NoRoom → IsSteady d v.shelf.frames → AreSwept slots

@@ -1,5 +1,5 @@
-//! Changes of a tree's pages, each with the record that gives it: a call makes one step of the tree and appends its
-//! record, or nothing has changed.
+//! Changes of a tree's pages, each with its log record: a call makes one step of the tree and appends its record, or
+//! changes nothing.
 
 mod add;
 mod added;

@@ -1,5 +1,5 @@
-//! The device calls of a checkpoint, one a call: the sync of the pages, the head of the renewed log, and the turn to
-//! the other extent.
+//! The parts of a checkpoint, each with at most one device call: the sync of the pages, the head of the renewed log,
+//! and the turn to the other extent.
 ghost use Rattle.std.specs.Prelude.{◌≡◌, ◌↔◌, ◌⊎◌, ◌≤◌, [], length, true, IfErr, OnOk};
 ghost use Rattle.std.specs.Bool.{OnTrue, OnFalse};
 ghost use Rattle.gx_disk.specs.Device.{Counts, IsSettled};
@@ -57,8 +57,8 @@ impl<D: SectorDisk, K: ReadKeys> Storage<D, K> {
         self.log.is_idle() && self.log.has_head() && self.store.dirty_frames() == 0
     }
 
-    /// Settles all that was written, in one device call. Pages and log don't change. Refused with `Device` exactly
-    /// where the device failed.
+    /// Makes all writes durable, in one device call. Pages and log don't change. Refused with `Device` exactly if the
+    /// device failed.
     ///
     /// Of an honest device, whether it succeeds or not: the same state is kept, and at each moment what a crash may
     /// leave stands for a kept set.
@@ -73,10 +73,10 @@ impl<D: SectorDisk, K: ReadKeys> Storage<D, K> {
         self.store.sync::<OfClass<K>>()
     }
 
-    /// Puts a record behind those of the head, which a turn makes the other extent's first batch: the counters first,
-    /// and then a note for each entry that an open transaction wrote, by transaction, row and key. Nothing is written
-    /// to the device. `NoRoom` exactly where the body has none for it, or a turn is under way; nothing then changes.
-    /// A batch that begins drops the head.
+    /// Appends a record to the head, which a turn makes the other extent's first batch: the counters first, and then a
+    /// note for each entry that an open transaction wrote, by transaction, row and key. Nothing is written to the
+    /// device. `NoRoom` exactly if the body has no room for it, or a turn is under way; nothing changes then. The start
+    /// of a batch drops the head.
     pub fn put_head(&mut self, logged: &Record<'_>) -> Result<(), StoreFault>
         requires in_range { IsInRange (rec_of logged.now) }
         requires idle { self.old.log.stage ≡ Stage.Idle }
@@ -91,9 +91,9 @@ impl<D: SectorDisk, K: ReadKeys> Storage<D, K> {
         }
     }
 
-    /// Puts the note of an entry that an open transaction wrote behind the records of the head, with its mark from
-    /// before and the leaf that it was last written on. Nothing is written to the device. `NoRoom` exactly as
-    /// `put_head`; nothing then changes.
+    /// Appends to the head the note of an entry that an open transaction wrote, with its mark from before and the leaf
+    /// on which it was last written. Nothing is written to the device. `NoRoom` exactly as `put_head`; nothing changes
+    /// then.
     pub fn put_note(
         &mut self,
         transaction: u64,
@@ -123,16 +123,15 @@ impl<D: SectorDisk, K: ReadKeys> Storage<D, K> {
         }
     }
 
-    /// Makes the next device call of the turn to the other extent, exactly one, in this order: its gates closed, its
-    /// first body, sync, its gate, sync, the selector, sync. Returns which call it was. With `Done` the log goes on in
-    /// the other extent behind the head, where no page has an image yet, and the frames begin again at batch 0. Pages
-    /// don't change. Refused with `Device` exactly where the device failed; the call is then still due.
+    /// Makes the next device call of the turn to the other extent, exactly one, in this order: the other extent's gates
+    /// closed, its first body, sync, its gate, sync, the selector, sync. Returns which call it was. With `Done` the log
+    /// goes on in the other extent behind the head, where no page has an image yet, and the frames count batches from 0
+    /// again. Pages don't change. Refused with `Device` exactly if the device failed; the call is then still due.
     ///
-    /// Of an honest device whose pages are settled, where the head is the log renewed: the same state is kept until
-    /// the last call, and after it the one with the renewed log alone. Whether it succeeds or not, no set changes,
-    /// and at each moment what a crash may leave stands for a kept set of the state before. That the turn may begin
-    /// is said for a state that is kept where pages are settled and the head is the log renewed; as long as it is
-    /// under way it may go on.
+    /// Of an honest device whose pages are synced, if the head restates the log: the same state is kept until the last
+    /// call, and after it the one with the renewed log alone. Whether it succeeds or not, no set changes, and at each
+    /// moment what a crash may leave stands for a kept set of the state before. The contract says that the turn may
+    /// begin in a kept state if pages are synced and the head restates the log; while it is under way it may go on.
     pub fn turn_step(&mut self) -> Result<Turn, Refusal>
         requires { ReadyToTurn self.old }
         ensures counts { Counts 1 (D.state self.old.shelf.disk) (D.state self.new.shelf.disk) result }

@@ -1,5 +1,5 @@
-//! What a flusher does: the log's next device call, a page's write, and the word of what is to be done where an event
-//! is refused.
+//! What a flusher does: the log's next device call and a page's write. Also which of these helps an event that was
+//! refused.
 ghost use Rattle.std.specs.Prelude.{◌≡◌, ◌+◌, ◌<◌, true, false, Some, Ok, IfErr, IfOk, OnOk, MatchResult};
 ghost use Rattle.gx_disk.specs.Device.{Counts};
 ghost use Rattle.gx_glog.specs.State.{calls_of, Goes};
@@ -19,58 +19,50 @@ use gx_class::ReadKeys;
 use gx_disk::SectorDisk;
 use gx_durable::OfClass;
 use gx_durable::calls::append;
+use gx_events::Need;
 use gx_geom::Refusal;
 use gx_glog::{Appended, Stage};
 use gx_record::Record;
 use gx_store::StoreFault;
 
-/// What an event waits for that was refused because room or clean frames lacked.
-#[derive(Clone, Copy, Debug, PartialEq, Eq)]
-pub enum Help {
-    /// The log's next device call.
-    Log,
-    /// The write of this page.
-    Write(u32),
-}
-
 impl<D: SectorDisk, K: ReadKeys> Storage<D, K> {
-    /// The least page that has changes, all of them in gated batches: one that `write_page` writes.
+    /// The least page that has changes, all of them in gated batches: `write_page` writes it.
     pub fn dirty(&self) -> Option<u32>
         ensures { IsLeastWritable self.now.shelf.frames result }
     {
         self.store.dirty()
     }
 
-    // What gives a clean frame, where fewer are clean than are wanted.
-    fn frame_help(&self, wanted: usize) -> Option<Help>
+    // The event that frees a frame, if fewer are clean than are needed.
+    fn frame_help(&self, wanted: usize) -> Option<Need>
         ensures { HelpsFrames self.now.shelf.frames wanted result }
     {
         if self.store.clean_frames() >= wanted {
             return None;
         }
         match self.store.dirty() {
-            Some(page) => Some(Help::Write(page)),
-            None => Some(Help::Log),
+            Some(page) => Some(Need::Write(page)),
+            None => Some(Need::Log),
         }
     }
 
-    /// What helps an event that was refused so. Where room in the log lacked: the log's next call, since its filling
-    /// buffer is emptied when a batch begins. Where clean frames lacked, and still do: the write of the least page
-    /// whose changes are all in gated batches, and where there is no such page, the log's next call, which gates more.
-    /// Nothing helps against a device that fails or lies, and nothing is to be done where as many frames are clean by
-    /// now.
-    pub fn help(&self, fault: StoreFault) -> Option<Help>
+    /// The event that helps one that was refused so. If the log had no room: the log's next call, since its filling
+    /// buffer is emptied when a batch begins. If too few frames were clean, and still are: the write of the least page
+    /// whose changes are all in gated batches, or if there is no such page, the log's next call, which gates more.
+    /// `None` if as many frames are clean by now, and for a device that fails or isn't honest, since nothing helps
+    /// then. It is never a checkpoint.
+    pub fn help(&self, fault: StoreFault) -> Option<Need>
         ensures { Helps self.now.shelf fault result }
     {
         match fault {
-            StoreFault::NoRoom => Some(Help::Log),
+            StoreFault::NoRoom => Some(Need::Log),
             StoreFault::TooFewFrames(wanted) => self.frame_help(wanted as usize),
             StoreFault::Device | StoreFault::Damaged => None,
         }
     }
 
-    /// How many places of the selected extent are taken, the one in flight too. A record goes into the next one, so
-    /// one has to be left.
+    /// How many places of the selected extent are taken, including the one in flight. A record goes into the next one,
+    /// so one has to be left.
     pub fn places(&self) -> u8
         ensures { result ≡ self.now.log.used }
     {
@@ -78,11 +70,11 @@ impl<D: SectorDisk, K: ReadKeys> Storage<D, K> {
     }
 
     /// Makes the log's next device call, at most one; once a gate is synced the frames learn of its batch. Returns
-    /// which call it was, and Idle where nothing is logged and none was made. Pages don't change. Refused with `Device`
-    /// exactly where the device failed; the call is then still due.
+    /// which call it was, or `Idle` if nothing is logged and none was made. Pages don't change. Refused with `Device`
+    /// exactly if the device failed; the call is then still due.
     ///
-    /// Of an honest device: what filled is in flight from its first call on, and its commits are durable from its
-    /// gate's sync on, and not before. Whether it succeeds or not, no set changes, and at each moment what a crash
+    /// Of an honest device: the batch that filled is in flight from its first call on, and its commits are durable from
+    /// its gate's sync on, and not before. Whether it succeeds or not, no set changes, and at each moment what a crash
     /// may leave stands for a kept set of the state before.
     pub fn log_step(&mut self) -> Result<Stage, Refusal>
         ensures counts { Counts (calls_of result) (D.state self.old.shelf.disk) (D.state self.new.shelf.disk) result }
@@ -100,13 +92,13 @@ impl<D: SectorDisk, K: ReadKeys> Storage<D, K> {
         self.store.log_step::<OfClass<K>>(&mut self.log)
     }
 
-    /// Writes a page to its sectors, where it has changes and all of them are in gated batches, and returns whether
-    /// that was so; else nothing is done. A page that was written is clean. Refused with `Device` exactly where the
-    /// device failed; the page is then kept as it was, with its changes.
+    /// Writes a page to its sectors if it has changes and all of them are in gated batches, and returns whether it did;
+    /// else does nothing. A page that was written is clean. Refused with `Device` exactly if the device failed; the
+    /// page is then kept unchanged, with its changes.
     ///
     /// Of an honest device, while no turn is under way: whether it succeeds or not, the records are the same, over the
-    /// page area that is read now, no set changes, and at each moment what a crash may leave stands for a kept set of
-    /// the state before.
+    /// new page area, no set changes, and at each moment what a crash may leave stands for a kept set of the state
+    /// before.
     pub fn write_page(&mut self, page: u32) -> Result<bool, Refusal>
         ensures answer { IfOk result (λ written. written ≡ is_gated self.old.shelf.frames.gated
             (stamp_of (kept self.old.shelf.frames page))) }
@@ -130,7 +122,7 @@ impl<D: SectorDisk, K: ReadKeys> Storage<D, K> {
         self.store.write_page::<OfClass<K>>(page)
     }
 
-    // Appends a record that gives no page.
+    // Appends a record without a page image.
     fn append(&mut self, logged: &Record<'_>) -> Result<(), StoreFault>
         requires in_range { IsInRange (rec_of logged.now) }
         requires place { self.old.log.used < PLACES }
@@ -145,7 +137,7 @@ impl<D: SectorDisk, K: ReadKeys> Storage<D, K> {
     }
 
     /// Appends the record that a transaction commits, as the commit of that number. Nothing is written to the device,
-    /// and no page changes. `NoRoom` exactly where the log has no room for it; nothing then changes.
+    /// and no page changes. `NoRoom` exactly if the log has no room for it; nothing changes then.
     pub fn append_commit(&mut self, transaction: u64, number: u64) -> Result<(), StoreFault>
         requires place { self.old.log.used < PLACES }
         ensures recorded { Recorded (rec.Commit transaction number) self.old self.new result }
@@ -159,7 +151,7 @@ impl<D: SectorDisk, K: ReadKeys> Storage<D, K> {
     }
 
     /// Appends the record that a transaction's undo is done. Nothing is written to the device, and no page changes.
-    /// `NoRoom` exactly where the log has no room for it; nothing then changes.
+    /// `NoRoom` exactly if the log has no room for it; nothing changes then.
     pub fn append_end(&mut self, transaction: u64) -> Result<(), StoreFault>
         requires place { self.old.log.used < PLACES }
         ensures recorded { Recorded (rec.End transaction) self.old self.new result }

@@ -1,4 +1,4 @@
-//! Of which pages an image was appended for the extent of the log that is selected.
+//! The pages that have an image in the selected extent of the log.
 ghost use Rattle.std.specs.Prelude.{◌≡◌};
 ghost use Rattle.gx_storage.specs.Imaged.{imaged_after, is_imaged, with_imaged};
 

@@ -17,8 +17,8 @@ pub fn a_volume_shows_the_logs_tree<D: SectorDisk, K: ReadKeys>()
     what_stands_is_legal::<K>();
 }
 
-/// Where a volume keeps a state and its store is in order, each key of the tree that frames and device show is a key
-/// of the class.
+/// If a volume keeps a state and its store is in order, each key of the tree that frames and device show is a key of
+/// the class.
 pub fn a_volume_shows_keys<D: SectorDisk, K: ReadKeys>()
     ensures { (l : Limits) (v : Volume D) → ShowsKeysAs K.Key.Shape K.ReadKeys D.state l v }
 {
@@ -27,7 +27,7 @@ pub fn a_volume_shows_keys<D: SectorDisk, K: ReadKeys>()
 }
 
 /// A store that has only gone on, with each page as it was, leaves the state that its volume keeps: the log is
-/// untouched, and nothing was taken or counted. So it is of what a look or a seek reads.
+/// untouched, and nothing was taken or counted. This holds of what a look or a seek reads.
 pub fn reads_keep<D: SectorDisk, K: ReadKeys>()
     ensures { (l : Limits) (v : Volume D) (t : Shelf D) → ReadsKeepAs K.Key.Shape K.ReadKeys D.state l v t }
 {}

@@ -11,5 +11,4 @@ mod pages;
 mod reads;
 mod storage;
 
-pub use flusher::Help;
 pub use storage::Storage;

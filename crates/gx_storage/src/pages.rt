@@ -55,11 +55,11 @@ fn any_removable<K: KeyClass, F: Fn(Entry<K::Key>) -> bool>(leaf: &Leaf<K>, clai
 }
 
 impl<D: SectorDisk, K: ReadKeys> Storage<D, K> {
-    /// Brings a page that is taken into a frame, where it is held until pages are brought again. Nothing is logged,
-    /// and whether it succeeds or not no node has changed.
+    /// Brings a page in use into a frame, where it is held until pages are brought again. Nothing is logged, and
+    /// whether it succeeds or not no node has changed.
     ///
-    /// Refused with `TooFewFrames` where no frame is clean, with `Device` where the device failed, and with `Damaged`
-    /// where what the device has there is no page of that number, or no node of the class.
+    /// Refused with `TooFewFrames` if no frame is clean, with `Device` if the device failed, and with `Damaged` if what
+    /// the device has there is no page of that number, or no node of the class.
     pub fn bring(&mut self, page: u32) -> Result<(), StoreFault>
         requires from { 1 ≤ page }
         requires to { page ≤ self.old.shelf.used }

@@ -19,11 +19,11 @@ use gx_store::StoreFault;
 use gx_tree::{Look, LookFault, Sought, StepFault, Wanted};
 
 impl<D: SectorDisk, K: ReadKeys + Probing> Storage<D, K> {
-    /// Reads the page of a look's next item, as the tree's `look_step` says. Nothing is logged and no room in the log
-    /// is asked for, and whether it succeeds or not no node has changed.
+    /// Reads the page of a look's next item, as the tree's `look_step` says. It logs nothing and asks for no room in
+    /// the log, and whether it succeeds or not it changes no node.
     ///
-    /// Refused with `Pages` where the page could not be brought, `Damaged` where the item names no page that is
-    /// taken: the look is then as it was. And with `Memory` where that is refused; the look is of no use then.
+    /// Refused with `Pages` if the page could not be brought, with `Damaged` if the item names no page in use: the look
+    /// is then unchanged. Refused with `Memory` if memory is refused; the look can't be used then.
     pub fn look_step(
         &mut self,
         wanted: &Wanted<K>,
@@ -47,11 +47,10 @@ impl<D: SectorDisk, K: ReadKeys + Probing> Storage<D, K> {
         gx_tree::look_step(&mut self.store, wanted, look)
     }
 
-    /// Looks for a pair in the leaf on a page, as the tree's `seek_step` says. Nothing is logged and no room in the
-    /// log is asked for, and whether it succeeds or not no node has changed.
+    /// Looks for a pair in the leaf on a page, as the tree's `seek_step` says. It logs nothing and asks for no room in
+    /// the log, and whether it succeeds or not it changes no node.
     ///
-    /// Refused with `Pages` where the page could not be brought, and with `Damaged` only where it isn't a leaf that
-    /// is taken.
+    /// Refused with `Pages` if the page could not be brought, and with `Damaged` only if it isn't a leaf in use.
     pub fn seek_step(
         &mut self,
         wanted: &Wanted<K>,

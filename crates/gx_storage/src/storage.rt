@@ -17,7 +17,7 @@ pub struct Storage<D: SectorDisk, K: ReadKeys> {
     pub(crate) log: Glog,
     pub(crate) store: PageStore<D, K>,
     pub(crate) most: usize,
-    // a key's bytes, as a record lends them
+    // a buffer for a key's bytes, which a record lends
     pub(crate) key: Vec<u8>,
     // whether the log's extent has an image of a page, by its number less one
     pub(crate) imaged: Imaged,
@@ -39,8 +39,9 @@ impl<D: SectorDisk, K: ReadKeys> Storage<D, K> {
     ghost use Rattle.gx_node.specs.Reading.{format_of, is_node};
     ghost use Rattle.gx_store.specs.State.{IsInOrder};
 
-    /// A log, the pages of a tree whose nodes have at most `most` entries, a buffer of a key's size, from which records
-    /// lend keys, and a bit for each of the device's pages, none set: no image was appended since the log was opened.
+    /// Joins a log, the pages of a tree whose nodes have at most `most` entries, a buffer of a key's size, from which
+    /// records lend keys, and a bit for each of the device's pages, none set: no image was appended since the log was
+    /// opened.
     pub fn new(
         log: Glog,
         store: PageStore<D, K>,
@@ -62,8 +63,8 @@ impl<D: SectorDisk, K: ReadKeys> Storage<D, K> {
         }
     }
 
-    /// What always holds of the pages: they fit the device, each that is kept is a node of the class under its own
-    /// number, and none is kept that isn't taken.
+    /// The invariant of the pages: they fit the device, each kept one is a node of the class under its own number, and
+    /// only pages in use are kept.
     pub fn in_order(&self)
         ensures { IsInOrder (is_node (format_of K.KeyClass) self.now.shelf.pages) (D.state self.now.shelf.disk).sectors
             self.now.shelf.frames self.now.shelf.used self.now.shelf.pages }
@@ -79,7 +80,7 @@ impl<D: SectorDisk, K: ReadKeys> Storage<D, K> {
         self.most
     }
 
-    /// The greatest page that is taken.
+    /// The greatest page in use.
     pub fn used(&self) -> u32
         ensures { result ≡ self.now.shelf.used }
     {
@@ -93,7 +94,7 @@ impl<D: SectorDisk, K: ReadKeys> Storage<D, K> {
         self.store.counter()
     }
 
-    /// The device, as the calls left it. What frames and buffers have that isn't written is lost.
+    /// Returns the device, as the calls left it. Changes in frames and buffers that aren't written are lost.
     pub fn into_disk(self) -> D
         ensures { result ≡ self.shelf.disk }
     {

@@ -63,7 +63,7 @@ module _ (passes : Contents → Bool) (d e : disk.Device) (s t : State) (pages :
   clean_was : (p : ℕ) → stamp_of (kept (holding s pages) p) ≡ None → stamp_of (kept s p) ≡ None
   clean_was p is = ap stamp_of (sym (same_held_kept s pages p)) ∙ is
 
-  -- whether it came, went, or stayed, a page is as it was
+  -- whether it came, went, or stayed, a page is unchanged
   pub brought_as_it_was : (p : ℕ) → IsAsItWas d e s t p
   brought_as_it_was p = ⊎_elim
       (λ same. record { stamp = ap stamp_of (same ∙ same_held_kept s pages p); dirty = λ is. same ∙ same_held_kept s pages p; stands = brought_stands p })
@@ -122,7 +122,7 @@ module _ {D : Type 0} (passes : ℕ → Contents → Bool) (d e : disk.Device) (
       → GoesOn passes d e s (record s { disk = disk'; frames = t })
   brought_goes_on result brought order = bringing_goes_on brought.brings brought.only_read (more_faults result brought.faults) order.passed
 
-  -- a page that is brought or isn't is as it was
+  -- a page that is brought or isn't is unchanged
   pub brought_same : (result : Result (Unit {0}) PoolFault) (q : ℕ) → BringsAll (passes s.pages) d e (holding s.frames pages) t pages result → IsAsItWas d e s.frames t q
   brought_same result q brought = brought_as_it_was (passes s.pages) d e s.frames t pages brought.brings brought.only_read q
 
@@ -181,7 +181,7 @@ bringing_told before after (Err pool.NoCleanFrame) is = is
 bringing_told before after (Err pool.Device) is = is
 bringing_told before after (Err pool.Damaged) is = is
 
--- what a bringing leaves of a store, told at once
+-- what a bringing leaves of a store, in one statement
 pub record Fetched {D : Type 0} (passes : ℕ → Contents → Bool) (d e : disk.Device) (s t : Shelf D) (pages : List ℕ) (result : Result (Unit {0}) PoolFault) : Type 0 where
   pub goes_on : GoesOn passes d e s t
   pub same : (q : ℕ) → IsAsItWas d e s.frames t.frames q

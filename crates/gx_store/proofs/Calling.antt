@@ -19,7 +19,7 @@ use Rattle.gx_durable.proofs.Stamping.{told_kept}
 use Rattle.gx_store.specs.State.{IsInOrder}
 
 module _ (passes : Contents → Bool) (sectors used pages : ℕ) (frames : State) (is : IsInOrder passes sectors frames used pages) where
-  -- frames that are told how far the log is
+  -- frames in which a gated batch is noted
   gated_in_order : (n : ℕ) → IsInOrder passes sectors (record frames { gated = n }) used pages
   gated_in_order n = record {
     few = is.few;

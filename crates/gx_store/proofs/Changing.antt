@@ -29,7 +29,7 @@ use Rattle.gx_store.specs.State.{Shelf, IsHeld, IsInOrder, may_go}
 use Rattle.gx_store.proofs.Listed.{more_nodes, node_there, set_nodes}
 use Rattle.gx_store.proofs.Shown.{dirty_stays, held_node, not_spare, stands_kept, stays_for}
 
--- a page that is kept alike, or isn't, stands alike
+-- a page that is kept with the same contents, or isn't kept, is shown alike
 pub same_stands : (s t : State) (seen : List ℕ) (page : ℕ) → kept t page ≡ kept s page → t.held ≡ s.held → standing t seen page ≡ standing s seen page
 unfolding standing
 same_stands s t seen page same held =
@@ -40,7 +40,7 @@ goes_by : (goes : Bool) (o : Option Kept) (on_device : Contents) → goes ≡ tr
 goes_by goes None on_device is = refl
 goes_by goes (Some k) on_device is = rw is refl
 
--- one that goes stands as before
+-- an evicted page is shown as before
 pub gone_stands : (s t : State) (seen : List ℕ) (page : ℕ) → Left s t page → standing t seen page ≡ standing s seen page
 unfolding standing
 gone_stands s t seen page left =
@@ -82,7 +82,7 @@ changed_at_frames : (s : State) (o : Option ℕ) (batch : ℕ) (w : Contents) �
 changed_at_frames s None batch w = refl
 changed_at_frames s (Some i) batch w = length-set s.marks i _
 
--- each other page is as it was
+-- each other page is unchanged
 pub change_as_it_was : (d : disk.Device) (s : State) (page q batch : ℕ) (w : Contents) → IsSound s → q ≢ page → IsAsItWas d d s (changed s page batch w) q
 change_as_it_was d s page q batch w sound ne = kept_alike d s (changed s page batch w) q (changed_other s page q batch w sound ne) (changed_held s page batch w)
 
@@ -215,7 +215,7 @@ pub is_ready : {D : Type 0} (s : Shelf D) (taken : ℕ) → s.has_room ≡ true 
 is_ready s zero room clean pages = omega arith
 is_ready s (suc n) room clean pages = let fits = pages (omega arith) in rw room (omega (arith, clean, fits))
 
--- one that has too few is told of no more than it may take
+-- an event with too few frames is refused with no more than it may take
 pub are_wanted : {D : Type 0} (s : Shelf D) (taken : ℕ) → taken ≤ 2 → clean_count s.frames < taken → (0 < taken → s.used + taken ≤ s.pages) → AreWanted s taken
 are_wanted s taken two more pages = let fits = pages (omega (arith, more)) in record { more = more; few = omega (arith, fits); two = two }
 

@@ -1,4 +1,4 @@
--- Pages as they stand.
+-- Pages as the store shows them.
 use Rattle.std.proofs.Common.{◌≡◌, ◌⊎◌, inl, inr, ℕ, List, refl, sym, ap, ◌∙◌, Bool, true, false, Option, Some, None, IsSome, IfSome, arith}
 use Rattle.std.specs.Prelude.{not, ◌&&◌, is_none}
 use Rattle.std.proofs.lemmas.Bool.{and_parts}
@@ -28,7 +28,7 @@ by_shown goes None bytes backed = refl
 by_shown true (Some k) bytes backed = (backed refl k refl).read
 by_shown false (Some k) bytes backed = refl
 
--- where each clean page is what the device has, a page stands as it is shown
+-- if each clean page is what the device has, a page is what the pool shows
 pub stands_shown : (frames : State) (seen : List ℕ) (page : ℕ) → IsBacked frames seen → standing frames seen page ≡ shown frames seen page
 unfolding standing
 stands_shown frames seen page backed = by_shown (may_go frames page) (kept frames page) (bytes_of seen page)
@@ -37,7 +37,7 @@ stands_shown frames seen page backed = by_shown (may_go frames page) (kept frame
 by_kept : (goes : Bool) (o : Option Kept) (k : Kept) (on_device : Contents) → goes ≡ false → o ≡ Some k → standing_by goes o on_device ≡ k.page
 by_kept goes o k on_device stays is = rw (stays, is) refl
 
--- a page that may not go stands as it is kept
+-- a page that may not be evicted is what is kept of it
 pub stands_kept : (frames : State) (seen : List ℕ) (page : ℕ) (k : Kept) → may_go frames page ≡ false → kept frames page ≡ Some k → standing frames seen page ≡ k.page
 unfolding standing
 stands_kept frames seen page k stays is = by_kept (may_go frames page) (kept frames page) k (read_of (bytes_of seen page)) stays is

@@ -36,7 +36,8 @@ is_taken used page = nat_le page used
 abbrev pub CanBeRead : {D : Type 0} → (ℕ → Contents → Bool) → disk.Device → Shelf D → Type 0
 CanBeRead passes d s = IsReadable (passes s.pages) (is_taken s.used) s.frames d.seen
 
--- so many clean frames are wanted: more than there are, two at most, and one alone, or no more than there are pages that aren't taken
+-- so many clean frames are wanted: more than there are, two at most, and one alone, or no more than there are free
+-- pages
 pub record AreWanted {D : Type 0} (s : Shelf D) (wanted : ℕ) : Type 0 where
   pub more : clean_count s.frames < wanted
   pub few : wanted ≤ max 1 (s.pages - s.used)

@@ -9,7 +9,7 @@ use Rattle.gx_store.specs.Faults.{CanBeRead}
 use Rattle.gx_store.specs.Standing.{standing}
 use Rattle.gx_store.specs.State.{Shelf, IsSteady}
 
--- A page is as it was: it has the same stamp, and what it has is the same where it is dirty. And on a device that reads
+-- A page is unchanged: it has the same stamp, and what it has is the same where it is dirty. And on a device that reads
 -- steadily the store shows it as before, though it may have come into a frame or gone from it.
 pub record IsAsItWas (d e : Device) (old new : State) (page : ℕ) : Type 0 where
   pub stamp : stamp_of (kept new page) ≡ stamp_of (kept old page)
@@ -20,8 +20,8 @@ pub record IsAsItWas (d e : Device) (old new : State) (page : ℕ) : Type 0 wher
 abbrev pub IsStamped : ℕ → State → State → ℕ → Type 0
 IsStamped batch old new page = stamp_of (kept new page) ≡ Some (later batch (stamp_of (kept old page)))
 
--- The device was only read, pages were taken and splits counted, and nothing else of the numbers changed. Each page is as it was, or
--- has a change of the event's batch. What was steady is, and what could be read can be.
+-- The device was only read, pages were taken and splits counted, and nothing else of the numbers changed. Each page is
+-- unchanged, or has a change of the event's batch. What was steady is, and what could be read can be.
 pub record GoesOn {D : Type 0} (passes : ℕ → Contents → Bool) (d e : Device) (old new : Shelf D) : Type 0 where
   pub device : OnlyRead d e
   pub faults : d.faults ≤ e.faults
@@ -36,7 +36,7 @@ pub record GoesOn {D : Type 0} (passes : ℕ → Contents → Bool) (d e : Devic
   pub steady : IsSteady d old.frames → IsSteady e new.frames
   pub readable : IsSteady d old.frames → CanBeRead passes d old → CanBeRead passes e new
 
--- So the store has gone on since a moment, and this page is as it was.
+-- So the store has gone on since a moment, and this page is unchanged.
 pub record IsSince {D : Type 0} (passes : ℕ → Contents → Bool) (d e : Device) (old new : Shelf D) (page : ℕ) : Type 0 where
   pub goes_on : GoesOn passes d e old new
   pub same : IsAsItWas d e old.frames new.frames page

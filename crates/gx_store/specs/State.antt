@@ -12,7 +12,7 @@ pub record Shelf (D : Type 0) : Type 0 where
   pub disk : D
   -- the pages in frames
   pub frames : State
-  -- the greatest page that is taken
+  -- the greatest page in use
   pub used : ℕ
   -- how many splits of nodes other than the root there were
   pub counter : ℕ

@@ -1,15 +1,12 @@
-//! What the owner of the log has the store's frames and device do.
+//! The calls that the log's owner makes of the store's frames and device.
 ghost use Rattle.std.specs.Prelude.{◌≡◌, ◌↔◌, ◌≤◌, ℕ, [], true, false, Ok};
 ghost use Rattle.std.specs.Prelude.{IfSome, IfNone, IfOk, IfErr, OnOk, length};
-ghost use Rattle.gx_disk.specs.Device.{Counts, IsSettled, SameDevice, CountsFault};
+ghost use Rattle.gx_disk.specs.Device.{Counts, IsSettled, CountsFault};
 ghost use Rattle.gx_glog.specs.Standing.{On};
 ghost use Rattle.gx_glog.specs.State.{calls_of, Goes, Turns};
 ghost use Rattle.gx_node.specs.Reading.{format_of, is_node};
 ghost use Rattle.gx_pool.specs.declared.frames.TheConstants.{FRAMES};
-ghost use Rattle.gx_pool.specs.Area.{IsPage};
 ghost use Rattle.gx_pool.specs.Elsewhere.{LeavesPages};
-ghost use Rattle.gx_pool.specs.Laws.{IsPassed};
-ghost use Rattle.gx_pool.specs.Readable.{StaysReadable};
 ghost use Rattle.gx_pool.specs.State.{IsSound, IsWritable, NoneDirty, clean_count, dirty_count};
 ghost use Rattle.gx_pool.specs.Writing.{WritesAtMost, may_be_written, WritesGated, StaysShown};
 ghost use Rattle.gx_recovery.specs.Known.{Limits};
@@ -52,7 +49,7 @@ impl<D: SectorDisk, K: KeyClass> PageStore<D, K> {
         self.pool.dirty_frames()
     }
 
-    /// The least page that has changes, all of them in gated batches: one that `write_page` writes.
+    /// The least page that has changes, all of them in gated batches: `write_page` writes it.
     pub fn dirty(&self) -> Option<u32>
         ensures found { IfSome result (λ page. IsWritable self.now.frames page
             × ((q : ℕ) → IsWritable self.now.frames q → page ≤ q)) }
@@ -64,7 +61,7 @@ impl<D: SectorDisk, K: KeyClass> PageStore<D, K> {
     /// Makes the next device call of a log on the store's device; once a gate is synced the frames learn of its batch.
     /// No page changes, in frames or on the device.
     ///
-    /// Refused as the log's own step.
+    /// Refused as the log's own step is.
     pub fn log_step<M: Spelled>(&mut self, log: &mut Glog) -> Result<Stage, Refusal>
         ensures counts { Counts (calls_of result) (D.state self.old.disk) (D.state self.new.disk) result }
         ensures goes { Goes log.old log.new result }
@@ -81,10 +78,10 @@ impl<D: SectorDisk, K: KeyClass> PageStore<D, K> {
         log_step::<M, NodeTest<K>, D>(log, &mut self.pool, &mut self.disk)
     }
 
-    /// Writes a page to its sectors, where it has changes and all of them are in gated batches, and returns whether
-    /// that was so; otherwise nothing is done. Once it is written it is clean. No page changes.
+    /// Writes a page to its sectors if it has changes and all of them are in gated batches, and returns whether it did;
+    /// otherwise does nothing. Once it is written it is clean. No page changes.
     ///
-    /// Refused with `Device` where the device failed. The page is then kept as it was, with its changes.
+    /// Refused with `Device` if the device failed. The page is then kept unchanged, with its changes.
     pub fn write_page<M: Spelled>(&mut self, page: u32) -> Result<bool, Refusal>
         ensures answer { IfOk result (λ written. written ≡ may_be_written self.old.frames page) }
         ensures idle { may_be_written self.old.frames page ≡ false → (result ≡ Ok false) × (self.new ≡ self.old) }
@@ -111,9 +108,9 @@ impl<D: SectorDisk, K: KeyClass> PageStore<D, K> {
         write_page::<M, NodeTest<K>, D>(&mut self.pool, &mut self.disk, page)
     }
 
-    /// Settles all that was written to the store's device. No page changes.
+    /// Makes all writes of the store's device durable. No page changes.
     ///
-    /// Refused with `Device` where the device failed.
+    /// Refused with `Device` if the device failed.
     pub fn sync<M: Spelled>(&mut self) -> Result<(), Refusal>
         ensures counts { Counts 1 (D.state self.old.disk) (D.state self.new.disk) result }
         ensures only { self.new ≡ record self.old { disk = self.new.disk } }
@@ -129,7 +126,7 @@ impl<D: SectorDisk, K: KeyClass> PageStore<D, K> {
     /// Makes the next device call of a log's turn to the other extent; the frames learn of one that has ended. No page
     /// changes; none is dirty.
     ///
-    /// Refused as the log's own step of a turn.
+    /// Refused as the log's own step of a turn is.
     pub fn turn_step<M: Spelled>(&mut self, log: &mut Glog) -> Result<Turn, Refusal>
         requires idle { log.old.stage ≡ Stage.Idle }
         requires quiet { log.old.filling ≡ [] }

@@ -1,4 +1,4 @@
-//! Why pages could not be had.
+//! Why a store refused pages.
 ghost use Rattle.std.specs.Prelude.{◌≡◌};
 ghost use Rattle.gx_store.specs.Faults.{told_of};
 
@@ -9,15 +9,15 @@ use gx_pool::PoolFault;
 pub enum StoreFault {
     /// The log has no room for the event's record.
     NoRoom,
-    /// Fewer frames are clean than the event takes, which are so many: a page has to be written first.
+    /// Fewer frames are clean than the event takes, which is this number: a page has to be written first.
     TooFewFrames(u32),
     /// The device failed.
     Device,
-    /// What the device has there is no page of that number, or no node of the class.
+    /// The sectors read don't hold a page of that number, or a node of the class.
     Damaged,
 }
 
-/// What a bringing answers, as the store's own answer.
+/// The pool's fault as the store's.
 pub(crate) fn store_result(brought: Result<(), PoolFault>) -> Result<(), StoreFault>
     ensures { result ≡ told_of brought }
 {

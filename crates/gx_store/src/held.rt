@@ -1,4 +1,4 @@
-//! A page that is held, as its frame has it.
+//! A held page, as its frame has it.
 ghost use Rattle.std.specs.Prelude.{◌≡◌, IfSome};
 ghost use Rattle.gx_pool.specs.State.{kept};
 ghost use Rattle.gx_store.specs.State.{IsHeld};
@@ -9,7 +9,7 @@ use gx_disk::SectorDisk;
 use gx_page::Page;
 
 impl<D: SectorDisk, K: KeyClass> PageStore<D, K> {
-    /// A page that is held: so a record has its image.
+    /// Lends a held page, so that a record has its image.
     pub fn held_page(&self, page: u32) -> &Page
         requires { IsHeld self.now page }
         ensures { IfSome (kept self.now.frames page) (λ k. result.now ≡ k.page) }

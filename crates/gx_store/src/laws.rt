@@ -10,8 +10,8 @@ ghost use Rattle.gx_store.specs.Standing.{StandsAsShown};
 use gx_class::KeyClass;
 use gx_disk::SectorDisk;
 
-/// Between a moment and itself each page is as it was, and two goings-on are one: so a caller of several steps of the
-/// tree learns what they leave in all.
+/// Between a moment and itself no page changes, and two spans of time are one: so a caller of several steps of the tree
+/// knows what they leave in all.
 pub fn going_on<D: SectorDisk, K: KeyClass>()
     ensures begins { (s : Shelf D) (page : ℕ)
         → IsSince (is_node (format_of K.KeyClass)) (D.state s.disk) (D.state s.disk) s s page }
@@ -30,8 +30,8 @@ pub fn a_store_starts<D: SectorDisk, K: KeyClass>()
         → IsSteady (D.state disk) frames }
 {}
 
-/// Where each clean page is what the device has, a page is what the pool shows of it: its last change, or what the
-/// device has.
+/// If each clean page is what the device has, a page is what the pool shows of it: its last change, or what the device
+/// has.
 pub fn steady_pages<D: SectorDisk>()
     ensures { (disk : D) → StandsAsShown (D.state disk) }
 {}

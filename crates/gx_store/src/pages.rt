@@ -1,5 +1,4 @@
-//! What the tree's steps that read ask of the store.
-ghost use Rattle.std.specs.Prelude.{◌≡◌};
+//! The store's calls for the tree's steps that read.
 
 use crate::fault::{StoreFault, store_result};
 use crate::store::PageStore;

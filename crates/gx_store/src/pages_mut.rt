@@ -1,4 +1,4 @@
-//! What the tree's steps that write ask of the store.
+//! The store's calls for the tree's steps that write.
 ghost use Rattle.std.specs.Prelude.{◌≡◌, ◌≤◌, ◌<◌, ◌+◌, length, IfErr, OnOk};
 ghost use Rattle.gx_node.specs.Reading.{format_of, is_node};
 ghost use Rattle.gx_store.specs.Changing.{prepared, ready_pages};

@@ -9,8 +9,8 @@ use gx_disk::SectorDisk;
 use gx_pool::Pool;
 use std::marker::Model;
 
-/// The pages of a tree in frames over a device. Its log is no part of it, so that no step of the tree touches that;
-/// `begin_event` says what the store has to know of the log.
+/// The pages of a tree in frames over a device. Its log is no part of it, so that no step of the tree touches the log;
+/// `begin_event` takes what the store has to know of it.
 #[derive(Drop)]
 pub struct PageStore<D: SectorDisk, K: KeyClass> {
     pub(crate) disk: D,
@@ -45,8 +45,8 @@ impl<D: SectorDisk, K: KeyClass> Model for PageStore<D, K> {
 }
 
 impl<D: SectorDisk, K: KeyClass> PageStore<D, K> {
-    /// A store of so many pages, of which so many are taken, with so many splits made.
-    /// Before its first event it has no room for a record.
+    /// Makes a store of so many pages, of which so many are in use, with so many splits made. Before its first event it
+    /// has no room for a record.
     pub fn new(
         disk: D,
         pool: Pool<NodeTest<K>>,
@@ -78,8 +78,8 @@ impl<D: SectorDisk, K: KeyClass> PageStore<D, K> {
         }
     }
 
-    /// What always holds of a store: its pages fit the device, each that is kept is a node of the class under its own
-    /// number, and none is kept that isn't taken.
+    /// The invariant of a store: its pages fit the device, each kept one is a node of the class under its own number,
+    /// and only pages in use are kept.
     pub fn in_order(&self)
         ensures { IsInOrder (is_node (format_of K.KeyClass) self.now.pages) (D.state self.now.disk).sectors
             self.now.frames self.now.used self.now.pages }
@@ -87,7 +87,8 @@ impl<D: SectorDisk, K: KeyClass> PageStore<D, K> {
         let _ = &self.used;
     }
 
-    /// Begins an event: its changes are of the batch of this place, and its record has room in the log, or hasn't.
+    /// Begins an event: `batch` is the place of the batch of its changes, and `has_room` whether the log has room for
+    /// its record.
     pub fn begin_event(&mut self, batch: u64, has_room: bool)
         ensures { self.new ≡ record self.old { batch = batch; has_room = has_room } }
     {
@@ -95,7 +96,7 @@ impl<D: SectorDisk, K: KeyClass> PageStore<D, K> {
         self.has_room = has_room;
     }
 
-    /// The device, as the calls left it. What frames have that isn't written is lost.
+    /// Returns the device, as the calls left it. Changes in frames that aren't written are lost.
     pub fn into_disk(self) -> D
         ensures { result ≡ self.disk }
     {

@@ -143,7 +143,7 @@ module _ {B : Type 0} (k : Keys B) where
   ends_by s call r old mid given true a is = (a.machine, (a.working, a.asks ∙ ap (λ (x : Given B). (x, a.machine)) is), a.stands)
   ends_by s call r old mid given false a isnt = λ m ends. isnt (ap (λ (p : Given B × Machine B). p.0) (sym a.asks ∙ ends.1))
 
-  -- where the replay stands, by the ask that waits there
+  -- a place of a replay, by the ask that waits there
 
   pub behind : (s : ℕ) (call : Call B) (item : Item B) (old new : Index B) (b : Bool)
       → ((r : Machine B) → StandsFor r old.machine → Follows (Fits k (Asking s call r) item) 1 item old b new)

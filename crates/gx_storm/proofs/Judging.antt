@@ -1,4 +1,4 @@
--- What follows of the least refusal that was told, and of a replay.
+-- What follows from the least refusal that is reported, and from a replay.
 use Rattle.std.proofs.Common.{arith, ◌≡◌, ◌∙◌, ◌<◌, ◌≤◌, ◌+◌, ℕ, Bool, true, false, List, [], ◌∷◌, Option, None, Some, refl, sym, subst, length, inl, inr, below_more}
 use Rattle.std.specs.Prelude.{if◌then◌else◌, nat_le, slice_get}
 use Rattle.std.proofs.lemmas.List.Elements.{All-cons, All-nil}
@@ -7,7 +7,6 @@ use Rattle.std.specs.List.{fold}
 use Rattle.gx_geom.specs.declared.refusal.Refusal.{Refusal}
 use Rattle.gx_geom.specs.declared.refusal.Refusal.TheVariants as refusal
 use Rattle.gx_geom.specs.Refusals.{refusal_number}
-use Rattle.gx_machine.specs.declared.limits.TheConstants.{LAST_NUMBER}
 use Rattle.gx_machine.specs.declared.reply.Reply.{Reply}
 use Rattle.gx_machine.specs.declared.reply.Reply.TheVariants as reply
 use Rattle.gx_machine.specs.declared.item.Item.{Item}
@@ -36,7 +35,7 @@ lesser_some a (Some b) = go (nat_le (refusal_number a) (refusal_number b))
     go true = (a, refl)
     go false = (b, refl)
 
--- where neither is there, the lesser isn't
+-- if neither exists, the lesser doesn't
 pub lesser_none : (x y : Option Refusal) → lesser x y ≡ None → (x ≡ None) × (y ≡ None)
 lesser_none None y e = (refl, e)
 lesser_none (Some a) y e = absurd (let more = lesser_some a y in let bad : Some more.0 ≡ None = rw more.1 at e in cc)
@@ -86,7 +85,7 @@ module _ {B : Type 0} where
   faultless_item (Sealed s number) e = refl
   faultless_item (Replied s r) e = faultless_reply r e
 
-  -- a record that tells of none is faultless
+  -- a record without such a refusal has no fault
   pub are_faultless : (items : List (Item B)) → least_told items ≡ None → AreFaultless items
   are_faultless [] e = All-nil (λ item. is_faultless item ≡ true)
   are_faultless (item ∷ items) e = go (told_of item) refl e (are_faultless items)

@@ -1,4 +1,4 @@
--- How a plain index follows the replay of a record, an item on.
+-- How a plain index follows the replay of a record by one item.
 use Rattle.std.specs.Prelude.{ℕ, ◌≡◌, ◌+◌, ◌≤◌, Bool, true, false, Option, None, Some}
 use Rattle.gx_geom.specs.declared.refusal.Refusal.TheVariants as refusal
 use Rattle.gx_machine.specs.declared.call.Call.{Call}
@@ -23,7 +23,7 @@ kind_of (reply.Refused refusal.BadSession) = Never
 kind_of (reply.Refused refusal.NoCall) = Never
 kind_of other = Answer
 
--- no fault gave the reply, and no want of numbers
+-- the reply is no fault, and not that numbers have run out
 abbrev pub is_faultless_reply : {B : Type 0} → Reply B → Bool
 is_faultless_reply (reply.Refused refusal.Device) = false
 is_faultless_reply (reply.Refused refusal.Failed) = false
@@ -42,28 +42,28 @@ asked_of (Asked s call) = Some (s, call)
 asked_of (Sealed s number) = None
 asked_of (Replied s r) = None
 
--- the ask that waits where a replay stands
+-- the ask that waits at a place of a replay
 abbrev pub waits : {B : Type 0} → Point B → Option (ℕ × Call B)
 waits (At m) = None
 waits (Asking s call m) = Some (s, call)
 
--- one where an ask waits
+-- one if an ask waits
 abbrev pub waiting : {B : Type 0} → Option (ℕ × Call B) → ℕ
 waiting None = 0
 waiting (Some ask) = 1
 
--- where an ask waits, the index has numbers left for it
+-- if an ask waits, the index has numbers left for it
 abbrev pub HasNumber : {B : Type 0} → Option (ℕ × Call B) → Index B → Type 0
 HasNumber None index = Unit {0}
 HasNumber (Some ask) index = is_used_up index ≡ false
 
--- where a replay stands, its machine stands for the index's
+-- at a place of a replay, its machine stands for the plain index's
 abbrev pub StandsAt : {B : Type 0} → Point B → Index B → Type 0
 StandsAt (At m) index = StandsFor m index.machine
 StandsAt (Asking s call m) index = StandsFor m index.machine
 
--- An item fits somewhere, and the index has gone along. Of the numbers no more than one is gone, and one for an ask that
--- had waited, where an ask that waits now counts as a number.
+-- An item fits somewhere, and the index has followed. It has used at most one number, and one more for an ask that had
+-- waited; an ask that waits now counts as a number.
 pub record GoesAlong {B : Type 0} (Fit : Point B → Type 0) (waited : ℕ) (item : Item B) (old new : Index B) : Type 0 where
   pub point : Point B
   pub fits : Fit point
@@ -72,7 +72,7 @@ pub record GoesAlong {B : Type 0} (Fit : Point B → Type 0) (waited : ℕ) (ite
   pub commits : newest new.machine + waiting (asked_of item) ≤ newest old.machine + waited + 1
   pub next : new.next + waiting (asked_of item) ≤ old.next + waited + 1
 
--- an item fits, and the index goes along; or it fits nowhere
+-- an item fits, and the index follows; or it fits nowhere
 abbrev pub Follows : {B : Type 0} → (Point B → Type 0) → ℕ → Item B → Index B → Bool → Index B → Type 0
 Follows Fit waited item old true new = GoesAlong Fit waited item old new
 Follows {B} Fit waited item old false new = (p : Point B) → Fit p → ⊥

@@ -10,7 +10,7 @@ use Rattle.gx_storm.specs.Following.{is_faultless}
 use Rattle.gx_storm.specs.declared.items.Mismatch.{Mismatch}
 use Rattle.gx_storm.specs.declared.items.Mismatch.TheVariants as mismatch
 
--- no fault gave a reply of the record, and no want of numbers
+-- no reply of the record is a fault, or that numbers have run out
 abbrev pub AreFaultless : {B : Type 0} → List (Item B) → Type 0
 AreFaultless items = All (λ item. is_faultless item ≡ true) items
 
@@ -31,7 +31,7 @@ pub record StopsAt {B : Type 0} (k : Keys B) (start : Machine B) (items : List (
   pub leads : Leads k (At start) (take place items) point
   pub nowhere : GoesNowhere k point (drop place items)
 
--- what a mismatch says: of want of memory nothing
+-- what a mismatch says: nothing if memory was refused
 abbrev pub IsMismatch : {B : Type 0} → Keys B → Machine B → List (Item B) → Mismatch → Type 0
 IsMismatch k start items (mismatch.At place) = StopsAt k start items place
 IsMismatch k start items mismatch.Memory = Unit {0}

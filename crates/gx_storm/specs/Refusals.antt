@@ -1,5 +1,5 @@
--- The refusals of which a storm tells: faults, and a record that is full. Of several it tells the least by number.
-use Rattle.std.specs.Prelude.{ℕ, nat_le, if◌then◌else◌, List, Option, None, Some}
+-- The refusals that a storm reports: faults, and a full record. Of several it reports the one with the least number.
+use Rattle.std.specs.Prelude.{nat_le, if◌then◌else◌, List, Option, None, Some}
 use Rattle.std.specs.List.{fold}
 use Rattle.gx_geom.specs.declared.refusal.Refusal.{Refusal}
 use Rattle.gx_geom.specs.declared.refusal.Refusal.TheVariants as refusal
@@ -10,7 +10,7 @@ use Rattle.gx_machine.specs.declared.item.Item.{Item}
 use Rattle.gx_machine.specs.declared.item.Item.TheVariants.{Asked, Sealed, Replied}
 use Rattle.gx_storm.specs.declared.handed.Handed.{Handed}
 
--- the refusal of which a storm tells, where a reply has one
+-- the refusal that a storm reports, if a reply has one
 abbrev pub told_reply : {B : Type 0} → Reply B → Option Refusal
 told_reply (reply.Refused refusal.Device) = Some refusal.Device
 told_reply (reply.Refused refusal.Failed) = Some refusal.Failed
@@ -18,7 +18,7 @@ told_reply (reply.Refused refusal.Damaged) = Some refusal.Damaged
 told_reply (reply.Refused refusal.HistoryFull) = Some refusal.HistoryFull
 told_reply other = None
 
--- the same of an item
+-- that of an item
 abbrev pub told_of : {B : Type 0} → Item B → Option Refusal
 told_of (Asked s call) = None
 told_of (Sealed s number) = None

@@ -1,4 +1,4 @@
-//! An item that is put to the plain index where no ask waits for it.
+//! Compares an item with the plain index if no ask waits for it.
 ghost use Rattle.std.specs.Prelude.{◌≡◌, IfOk, MatchBool, true};
 ghost use Rattle.gx_machine.specs.declared.item.Item.TheVariants.{Replied, Sealed};
 ghost use Rattle.gx_machine.specs.Keys.{keys_of};
@@ -12,20 +12,20 @@ use gx_machine::{Item, Reply, is_same_reply};
 use gx_plain::PlainIndex;
 use std::alloc::AllocError;
 
-/// What a reply of a record is to the replay.
+/// What a reply of a record means to the replay.
 #[derive(Clone, Copy)]
 pub(crate) enum Kind {
     /// An answer, which the plain index gives too.
     Answer,
-    /// A call closed for want of pages or of memory, of which the plain index knows nothing.
+    /// The call was closed because no page was free or memory was refused, which the plain index doesn't model.
     Closed,
-    /// A fault, of which the plain index knows nothing either.
+    /// A fault, which the plain index doesn't model either.
     Fault,
-    /// A reply that no open call is given.
+    /// A reply that never ends an open call.
     Never,
 }
 
-/// The kind of a reply.
+/// Returns the kind of a reply.
 fn kind_of<B: Shape>(reply: &Reply<B>) -> Kind
     ensures { result ≡ kind_of reply.now }
 {
@@ -50,7 +50,7 @@ fn seals<B: Shape>(session: u8, number: u64, index: &mut PlainIndex<B>) -> bool
     }
 }
 
-/// Whether an answer is that memory lacks.
+/// Whether an answer is that memory was refused.
 fn lacks_memory<B: Shape>(given: &Reply<B>) -> bool
     ensures { MatchBool result (given.now ≡ Reply.Refused Refusal.Memory)
         (given.now ≡ Reply.Refused Refusal.Memory → ⊥) }
@@ -61,7 +61,7 @@ fn lacks_memory<B: Shape>(given: &Reply<B>) -> bool
     }
 }
 
-/// Whether the session's answer is this one. A commit that isn't sealed has none.
+/// Whether this is the session's answer. A commit that isn't sealed has none.
 fn is_answer<B: Shape>(
     session: u8,
     reply: &Reply<B>,
@@ -83,7 +83,7 @@ fn is_answer<B: Shape>(
     Ok(is_same_reply(&given, reply))
 }
 
-/// Whether a reply fits. A fault is accepted as it stands, and closes the session's call where one is open.
+/// Whether a reply fits. A fault always fits, and closes the session's call if one is open.
 fn replies<B: Shape>(
     session: u8,
     reply: &Reply<B>,

@@ -1,4 +1,4 @@
-//! An ask, which is put to the plain index once the item behind it is looked at.
+//! An ask goes to the plain index only when the item behind it is known.
 ghost use Rattle.std.specs.Prelude.{◌≡◌, IfOk, MatchBool, false, true};
 ghost use Rattle.gx_machine.specs.declared.item.Item.TheVariants.{Replied};
 ghost use Rattle.gx_machine.specs.Keys.{keys_of};
@@ -44,7 +44,7 @@ fn refuses<B: Shape>(item: &Item<B>, session: u8) -> bool
     }
 }
 
-/// Whether an item fits behind an ask. An ask that is refused for a fault isn't put to the index.
+/// Whether an item fits behind an ask. An ask that is refused for a fault isn't put to the plain index.
 fn fits_behind<B: Shape>(
     session: u8,
     call: Call<B>,
@@ -65,7 +65,7 @@ fn fits_behind<B: Shape>(
     }
 }
 
-/// Whether an item fits, behind the ask that waits for it or where none waits.
+/// Whether an item fits, behind the ask that waits for it or if none waits.
 pub(crate) fn fits<B: Shape>(
     asking: Option<(u8, Call<B>)>,
     item: &Item<B>,
@@ -81,7 +81,7 @@ pub(crate) fn fits<B: Shape>(
     }
 }
 
-/// Whether a call is open once it was asked, and no reply came at once.
+/// Whether a call stays open after it was asked, because no reply came at once.
 fn is_open<B: Shape>(given: &Asked<B>) -> bool
     ensures { MatchBool result (given.now ≡ Asked.Open) (given.now ≡ Asked.Open → ⊥) }
 {
@@ -91,7 +91,7 @@ fn is_open<B: Shape>(given: &Asked<B>) -> bool
     }
 }
 
-/// Whether an ask has its call open.
+/// Whether an ask opens its call.
 fn is_opened<B: Shape>(session: u8, call: Call<B>, index: &mut PlainIndex<B>) -> bool
     ensures { is_used_up index.old ≡ false → (r : Machine B) → StandsFor r index.old.machine
         → EndsWith (EndsAt (keys_of B.Shape) (Asking session call r)) result index.new }

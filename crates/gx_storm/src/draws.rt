@@ -1,4 +1,4 @@
-//! Calls that are drawn.
+//! Random calls.
 ghost use Rattle.std.specs.Prelude.{◌<◌};
 
 use gx_geom::Box2;
@@ -7,7 +7,7 @@ use rand_core::SeedableRng;
 use rand_core::utils::NextWord;
 use rand_pcg::Pcg32;
 
-/// What a session draws its calls by.
+/// The random state of a session.
 #[derive(Drop)]
 pub(crate) struct Draws {
     words: Pcg32,
@@ -15,7 +15,7 @@ pub(crate) struct Draws {
 }
 
 impl Draws {
-    /// Draws by this seed; no transaction has begun.
+    /// Starts from this seed, with no transaction begun.
     pub(crate) fn new(seed: u64) -> Self {
         Draws {
             words: Pcg32::seed_from_u64(seed),
@@ -23,7 +23,7 @@ impl Draws {
         }
     }
 
-    /// A number below this one.
+    /// A random number below this one.
     fn below(&mut self, count: u32) -> u32
         requires { 0 < count }
         ensures { result < count }
@@ -31,7 +31,7 @@ impl Draws {
         self.words.next_word() % count
     }
 
-    /// A box of up to five by five, among few enough that sessions meet now and then.
+    /// A random box of up to five by five, in a space small enough that sessions' boxes meet now and then.
     fn place(&mut self) -> Box2 {
         let (x, y) = (self.below(48) as i32, self.below(48) as i32);
         let (wide, high) = (self.below(6) as i32, self.below(6) as i32);
@@ -41,7 +41,7 @@ impl Draws {
         }
     }
 
-    /// A call of any kind. Outside of a transaction most begin one.
+    /// A random call of any kind. Outside of a transaction most begin one.
     pub(crate) fn call(&mut self) -> Call<Box2> {
         let kind = self.below(16);
         let row = u64::from(self.below(4));
@@ -61,7 +61,7 @@ impl Draws {
         }
     }
 
-    /// Sees how a call ended, which tells whether a transaction is open.
+    /// Notes from a call and its reply whether a transaction is open.
     pub(crate) fn see(&mut self, reply: &Reply<Box2>) {
         match reply {
             Reply::Ok => self.begun = true,

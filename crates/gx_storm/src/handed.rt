@@ -1,12 +1,12 @@
-//! What a session of a storm was handed.
+//! The replies that a session of a storm got.
 use gx_geom::{Refusal, Shape};
 use gx_machine::Reply;
 
-/// What a session was handed.
+/// The replies that a session got.
 #[derive(Drop)]
 pub struct Handed<B: Shape> {
-    /// The replies with which its share rose, in their order: those that the record has.
+    /// The replies with which its share rose, in their order: the record has these.
     pub replies: Vec<Reply<B>>,
-    /// The least refusal by number with which a call was given up, its share as before.
+    /// The refusal with the least number with which a call was given up, if one was; the share doesn't count that call.
     pub given_up: Option<Refusal>,
 }

@@ -10,13 +10,13 @@ use gx_machine::Item;
 use gx_plain::PlainIndex;
 use std::alloc::AllocError;
 
-/// Where a record isn't what the plain index replays.
+/// Where a record differs from what the plain index replays.
 #[derive(Clone, Copy, Debug, PartialEq, Eq)]
 pub enum Mismatch {
-    /// At the item of this place, counted from 0; or at the record's length, where it ends between an ask that is given
-    /// a reply at once and that reply.
+    /// At the item of this place, counted from 0; or at the record's length, if it ends between an ask and the reply
+    /// that the ask gets at once.
     At(u64),
-    /// The plain index was refused memory, so nothing is known.
+    /// Memory was refused to the plain index, so nothing is known.
     Memory,
 }
 
@@ -33,14 +33,14 @@ impl From<AllocError> for Mismatch {
 
 /// Replays a record by a plain index, which is where the record began, and ends where the record does.
 ///
-/// Items are taken in their order. A sealed commit has the number that the index gives it. A reply is what the index
-/// gives, at once where it does, and for an open call once its commit is sealed; but a reply for want of pages or of
-/// memory closes the open call, as does a fault, whatever the index would answer, and an ask that is refused for a
-/// fault isn't put to it.
+/// Items are taken in their order. A sealed commit must have the number that the index gives it. A reply must be the
+/// one that the index gives, at once if it does so, and for an open commit once that is sealed. But a reply that no
+/// page was free or memory was refused closes the open call, and so does a fault, whatever the index would answer; and
+/// an ask that is refused for a fault isn't put to the index.
 ///
 /// For a record without `Device`, `Failed`, `Damaged` and `HistoryFull`, and an index whose numbers last for as many
-/// commits and transactions as the record has items, it returns `Ok` only where the replay is defined, and then the
-/// index is where it ends; and `At` of a place only where the replay goes up to that item and no further.
+/// commits and transactions as the record has items, it returns `Ok` only if the replay is defined, and then the index
+/// is where it ends; and `At` of a place only if the replay goes up to that item and no further.
 pub fn replay<B: Shape>(items: &[Item<B>], index: &mut PlainIndex<B>) -> Result<(), Mismatch>
     ensures { AreFaultless items.now → HasNumbersFor (length items.now) index.old
         → MatchResult result (λ done. ReplaysAs (keys_of B.Shape) index.old.machine items.now index.new.machine)

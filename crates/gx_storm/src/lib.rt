@@ -1,4 +1,4 @@
-//! Records of calls, replayed by the plain index; and storms: sessions in threads that draw their calls, beside a
+//! Records of calls, replayed by the plain index; and storms: sessions in threads that make random calls, beside a
 //! flusher, whose record is replayed.
 //!
 //! `replay` takes the items of a record in their order, puts each call that was asked to a plain index, and compares

@@ -1,4 +1,4 @@
-//! The refusals of which a storm tells: faults, and a record that is full.
+//! The refusals that a storm reports: faults, and a full record.
 ghost use Rattle.std.specs.Prelude.{◌≡◌, None};
 ghost use Rattle.std.specs.List.{fold};
 ghost use Rattle.gx_storm.specs.Refusals.{least_given_up, least_told, lesser, told_of, told_reply};
@@ -7,7 +7,7 @@ use crate::Handed;
 use gx_geom::{Refusal, Shape};
 use gx_machine::{Item, Reply};
 
-/// The refusal of which a storm tells, where a reply has one.
+/// The refusal that a storm reports, if a reply has one.
 pub(crate) fn told_reply<B: Shape>(reply: &Reply<B>) -> Option<Refusal>
     ensures { result ≡ told_reply reply.now }
 {
@@ -20,7 +20,7 @@ pub(crate) fn told_reply<B: Shape>(reply: &Reply<B>) -> Option<Refusal>
     }
 }
 
-/// The same of an item.
+/// The refusal that a storm reports, if an item has one.
 fn told_of<B: Shape>(item: &Item<B>) -> Option<Refusal>
     ensures { result ≡ told_of item.now }
 {
@@ -56,7 +56,7 @@ pub(crate) fn least_told<B: Shape>(items: &[Item<B>]) -> Option<Refusal>
         .fold(None, |least, item| lesser(least, told_of(item)))
 }
 
-/// The least refusal with which a call of any session was given up.
+/// The refusal with the least number with which a call of any session was given up.
 pub(crate) fn least_given_up<B: Shape>(all: &[Handed<B>]) -> Option<Refusal>
     ensures { result ≡ least_given_up all.now }
 {

@@ -1,6 +1,5 @@
 //! The threads of a storm.
 ghost use Rattle.std.specs.Prelude.{◌≡◌, ◌+◌, ◌≤◌, IfOk, vec_len};
-ghost use Rattle.gx_geom.specs.Rectangles.{Rectangle};
 ghost use Rattle.gx_machine.specs.Keys.{keys_of};
 ghost use Rattle.gx_machine.specs.declared.limits.TheConstants.{SESSIONS};
 ghost use Rattle.gx_shared.specs.Books.{MayBeShared};
@@ -19,10 +18,10 @@ use std::sync::Wait;
 use std::sync::ledger::{Blank, Ledger};
 use std::thread::{Threads, join, map_vec};
 
-/// A storm: the seed by which calls are drawn, how many sessions there are, 1 to 8, and how many calls each makes.
+/// A storm: the seed of the random calls, the number of sessions, 1 to 8, and the number of calls that each makes.
 #[derive(Clone, Copy)]
 pub struct Storm {
-    /// Session s draws by this number plus s.
+    /// Session s has this number plus s as its seed.
     pub seed: u32,
     /// How many sessions there are.
     pub sessions: u8,
@@ -30,7 +29,7 @@ pub struct Storm {
     pub calls: u32,
 }
 
-/// A session at work, with what it was handed.
+/// A session at work, with the replies that it got.
 #[derive(Drop)]
 struct Worker<R: Ledger> {
     session: Session<Box2, R>,
@@ -39,7 +38,7 @@ struct Worker<R: Ledger> {
 }
 
 impl<R: Ledger> Worker<R> {
-    /// A session that was handed nothing, with room for so many replies.
+    /// A session without replies yet, with room for so many.
     fn new(alloc: Global, session: Session<Box2, R>, storm: &Storm) -> Result<Self, AllocError> {
         let seed = u64::from(storm.seed) + u64::from(session.number());
         Ok(Worker {
@@ -52,7 +51,7 @@ impl<R: Ledger> Worker<R> {
         })
     }
 
-    /// One call, to its end. Its reply is kept where the session's share rose; else it was given up.
+    /// Makes one call. Keeps its reply if the session's share rose; else the call was given up.
     fn call<E: Events<Box2>, W: Wait>(
         &mut self,
         rt: &W,
@@ -73,7 +72,7 @@ impl<R: Ledger> Worker<R> {
         Ok(())
     }
 
-    /// Its calls, one after another.
+    /// Makes the session's calls, one after another.
     fn work<E: Events<Box2>, W: Wait>(
         self,
         rt: &W,
@@ -91,7 +90,7 @@ impl<R: Ledger> Worker<R> {
     }
 }
 
-/// The first sessions of all, made ready to work.
+/// Gets the first sessions of all ready to work.
 fn workers<R: Run<Box2>>(
     alloc: Global,
     sessions: &mut Vec<Session<Box2, R>>,
@@ -107,7 +106,7 @@ fn workers<R: Run<Box2>>(
     Ok(workers)
 }
 
-/// All workers' sessions, back among the others; what they were handed.
+/// Puts all workers' sessions back among the others, and returns the replies that they got.
 fn all_back<R: Run<Box2>>(
     alloc: Global,
     sessions: &mut Vec<Session<Box2, R>>,
@@ -130,7 +129,7 @@ fn all_back<R: Run<Box2>>(
     Ok(all)
 }
 
-/// All workers at work, each in a thread of its own.
+/// Runs all workers, each in a separate thread.
 fn all_work<E: Events<Box2> + Send, R: Run<Box2> + Send + Sync, W: Threads + Wait + Sync>(
     rt: &W,
     shared: &Shared<Box2, E, R>,
@@ -142,9 +141,9 @@ fn all_work<E: Events<Box2> + Send, R: Run<Box2> + Send + Sync, W: Threads + Wai
     map_vec(rt, workers, &|worker| worker.work(rt, shared, calls))
 }
 
-/// Sessions in threads over an engine, which draw their calls, beside a flusher in a thread of its own, which runs as
-/// many rounds as there are calls. Over a file `ahead` may be a handle of it for early syncs. Gives the book that was
-/// closed, and what each session was handed, from number 1 on.
+/// Runs sessions in threads over an engine, with random calls, beside a flusher in a separate thread, which runs as
+/// many rounds as there are calls. Over a file `ahead` may be a handle of it for early syncs. Returns the book once it
+/// is closed, and the replies that each session got, from number 1 on.
 pub fn run_storm<
     E: Events<Box2> + Drop + Send,
     R: Run<Box2> + Send + Sync,
@@ -178,7 +177,7 @@ pub fn run_storm<
     Ok((shared.close(sessions), all))
 }
 
-/// The same, and what is said of it.
+/// Runs the sessions so, and judges the storm.
 fn judged<E: Events<Box2> + Drop + Send, R: Run<Box2> + Send + Sync, W: Threads + Wait + Sync>(
     rt: &W,
     alloc: Global,
@@ -200,11 +199,11 @@ fn judged<E: Events<Box2> + Drop + Send, R: Run<Box2> + Send + Sync, W: Threads 
     Ok((verdict, book.into_engine()))
 }
 
-/// A storm over an engine in which no call is open: what is said of it, and the engine as the storm left it. The plain
-/// index that replays it begins with nothing committed, so with an engine that has commits it differs. Over a file
-/// `ahead` may be a handle of it for early syncs.
+/// Runs a storm over an engine in which no call is open. Returns the verdict, and the engine as the storm left it. The
+/// plain index that replays the record begins with nothing committed, so an engine that has commits gives a verdict
+/// that differs. Over a file `ahead` may be a handle of it for early syncs.
 ///
-/// Refused where memory lacks for the sessions, the record or a reply.
+/// The verdict is `Refused(Memory)` if there is no memory for the sessions, the record or a reply.
 pub fn storm_over<E: Events<Box2> + Drop + Send, W: Threads + Wait + Sync>(
     rt: &W,
     alloc: Global,

@@ -1,5 +1,5 @@
-//! What is said of a storm once it is over.
-ghost use Rattle.std.specs.Prelude.{◌≡◌, ◌+◌, ◌≤◌, ◌⊎◌, length, MatchBool, Some, slice_get};
+//! The verdict on a storm once it is over.
+ghost use Rattle.std.specs.Prelude.{◌+◌, ◌≤◌, length, MatchBool, Some};
 ghost use Rattle.gx_machine.specs.Keys.{keys_of};
 ghost use Rattle.gx_machine.specs.declared.limits.TheConstants.{SESSIONS};
 ghost use Rattle.gx_storm.specs.Verdicts.{AgreesAs, HasAll, HasReplies, LacksReplies, Says};
@@ -13,15 +13,15 @@ use gx_plain::PlainIndex;
 use gx_shared::{Book, RECORD, Run};
 use std::alloc::Global;
 
-/// What is said of a storm.
+/// The verdict on a storm.
 #[derive(Clone, Copy, PartialEq, Eq)]
 pub enum Verdict {
-    /// The plain index replays the record, which has each reply that the sessions were handed.
+    /// The plain index replays the record, which has each reply that the sessions got.
     Sound,
-    /// At the item of this place, from 0, the record isn't what the plain index replays; or at its length it isn't what
-    /// a session was handed.
+    /// At the item of this place, counted from 0, the record differs from what the plain index replays; or, if the
+    /// place is its length, it differs from the replies that a session got.
     Mismatch(u64),
-    /// Nothing differs, but a call was refused so: for a fault, or for a record that is full. Or memory lacked.
+    /// Nothing differs, but a call was refused so: for a fault, or for a full record. Or memory was refused.
     Refused(Refusal),
 }
 
@@ -61,7 +61,7 @@ fn has_all<B: Shape, E: Events<B>, R: Run<B>>(
     true
 }
 
-/// What is said of a storm whose record the plain index replays.
+/// The verdict on a storm whose record the plain index replays.
 fn agreed<B: Shape, E: Events<B>, R: Run<B>>(
     book: &Book<B, E, R>,
     calls: u32,
@@ -79,12 +79,12 @@ fn agreed<B: Shape, E: Events<B>, R: Run<B>>(
     }
 }
 
-/// What is said of a storm, by the book that was closed, and by what its sessions, from number 1 on, were handed of so
-/// many calls each.
+/// The verdict on a storm, by the book once it is closed, and by the replies that its sessions, from number 1 on, got
+/// to so many calls each.
 ///
-/// The plain index, with nothing committed, replays the record; then what each session was handed is compared with it;
-/// then the least refusal of `Device`, `Failed`, `Damaged` and `HistoryFull` that was answered is looked for.
-/// `Refused(Memory)` where memory lacks for the replay, and `Refused(HistoryFull)` for a record that is longer than
+/// The plain index, with nothing committed, replays the record; then the replies that each session got are compared
+/// with it; then the least refusal of `Device`, `Failed`, `Damaged` and `HistoryFull` is looked for. The verdict is
+/// `Refused(Memory)` if there is no memory for the replay, and `Refused(HistoryFull)` if the record is longer than
 /// records may be.
 pub fn judge<B: Shape, E: Events<B>, R: Run<B>>(
     alloc: Global,

@@ -45,7 +45,7 @@ fn given(asked: Asked<Box2>) -> Result<(), Refusal> {
     }
 }
 
-// What the tables are to answer for a call by the plain index, which answers it then.
+// The reply that the tables have to give to a call: the plain index's.
 fn plainly(plain: &mut PlainIndex<Box2>, s: u8, call: Call<Box2>) -> Result<(), Refusal> {
     let given = given(plain.ask(s, call));
     if given.is_ok() {

@@ -132,7 +132,7 @@ const SCRIPT: &[u8] = b"1 BEGIN\n1 INSERT 3 0 0 1 1\n1 COMMIT\n";
 
 const TEXT: &[u8] = b"1 ok\n1 inserted\n1 committed 1\n";
 
-// A reader or a writer is noted to have failed, with the last error that it gave, only where it was given one of these.
+// A reader or a writer is noted to have failed, with the last error that it gave, only if it was given one of these.
 fn is_noted<R: Abort, T>(rt: &R, noted: &Noted<T>, errors: &Errors, is_fault: bool) {
     let has_failed = noted.last == Some(Transfer::Failed);
     holds(rt, is_fault == has_failed);

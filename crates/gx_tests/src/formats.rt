@@ -1,4 +1,4 @@
-//! A format by the bytes that it lays down, and a stop at each of its calls.
+//! Tests a format by the bytes that it writes, and with a stop at each of its calls.
 use crate::asserts::{got, holds, same};
 use crate::images::image;
 use gx_class::Box2Class;

@@ -61,7 +61,7 @@ fn has_second(rt: &impl Abort, page: &Page, item: &[u8]) {
     same(rt, &page.get(1), &item);
 }
 
-/// Puts the item in. False where the page has no room.
+/// Puts the item in. False if the page has no room.
 fn try_put(rt: &impl Abort, page: &mut Page, slot: usize, item: &[u8]) -> bool {
     if page.count() < slot || item.is_empty() || 4060 < item.len() {
         panic!(rt; "a slot or an item that no page has")

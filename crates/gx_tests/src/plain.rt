@@ -173,7 +173,7 @@ fn ask_told(asked: Asked<Box2>) -> Told {
     }
 }
 
-// A session asks this, or is answered, and what comes of it.
+// A session asks this, or gets its reply; and the outcome.
 type Step = (u8, Option<Word>, Told);
 
 static STEPS: [Step; 16] = [

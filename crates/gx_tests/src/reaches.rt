@@ -1,7 +1,7 @@
 //! A small class, for tests: keys that reach from nothing up to a number.
 ghost use Rattle.gx_machine.specs.declared.query.Query.TheVariants.{Overlap, Within, Equal, Covers};
-ghost use Rattle.std.specs.Prelude.{◌≡◌, ◌≤◌, ◌<◌, ◌-◌, ◌/◌, ◌++◌, ◌∷◌, [], true};
-ghost use Rattle.std.specs.Prelude.{false, refl, length, replicate, nat_le, max};
+ghost use Rattle.std.specs.Prelude.{◌≡◌, ◌<◌, ◌-◌, ◌/◌, ◌∷◌, [], true};
+ghost use Rattle.std.specs.Prelude.{false, refl, length, nat_le, max};
 ghost use Rattle.std.proofs.Common.{ap, arith};
 ghost use Rattle.std.proofs.lemmas.Bool.Decides.{nat_tests};
 ghost use Rattle.gx_tests.specs.Halves.{halves, halves_leave_each};

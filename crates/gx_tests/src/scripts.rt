@@ -119,7 +119,7 @@ impl Write for Sip {
     }
 }
 
-// What a script comes to over a list.
+// The result of a script over a list.
 fn result_of<R: Read, W: Write>(
     list: &mut List,
     reader: &mut R,

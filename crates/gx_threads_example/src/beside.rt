@@ -42,7 +42,7 @@ struct Done<R: Ledger> {
     reads: Vec<u64>,
 }
 
-/// What every thread is told: what is done beside what, and how often by those that end the run.
+/// What every thread gets: which work runs beside which, and how often the threads that end the run do theirs.
 #[derive(Clone, Copy)]
 struct Plan {
     alloc: Global,

@@ -32,7 +32,7 @@ pub(crate) fn workers<R: Run<Box2>>(
     Ok(workers)
 }
 
-/// What a worker's session was handed: its number, the replies, and the first fault.
+/// What a worker's session got: its number, the replies, and the first fault.
 #[derive(Drop)]
 struct Handed {
     session: u8,
@@ -40,7 +40,7 @@ struct Handed {
     fault: Option<Refusal>,
 }
 
-/// All workers' sessions back among the others; what they were handed.
+/// Puts all workers' sessions back among the others, and returns what they got.
 fn all_back<R: Run<Box2>>(
     alloc: Global,
     sessions: &mut Vec<Session<Box2, R>>,

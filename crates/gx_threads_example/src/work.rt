@@ -37,7 +37,7 @@ impl Kind {
     }
 }
 
-/// A session with the replies that it was handed, in their order. A call that is given up, for a fault, has none in the
+/// A session with the replies that it got, in their order. A call that is given up, for a fault, has none in the
 /// record, and none here.
 #[derive(Drop)]
 pub(crate) struct Worker<R: Ledger> {
@@ -69,7 +69,7 @@ fn scattered(turn: u16) -> i32 {
 }
 
 impl<R: Ledger> Worker<R> {
-    /// A session that was handed none.
+    /// A session without replies yet.
     pub(crate) fn new(alloc: Global, session: Session<Box2, R>) -> Self {
         Worker {
             session,

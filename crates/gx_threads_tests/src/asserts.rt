@@ -10,7 +10,7 @@ pub(crate) fn holds(rt: &impl Abort, fact: bool, what: &'static str)
     assert!(rt; fact, "{what}");
 }
 
-/// What was asked for; fails with these words where it is refused.
+/// Returns the value; fails with these words if there is none.
 pub(crate) fn got<T, E: Drop>(rt: &impl Abort, answer: Result<T, E>, what: &'static str) -> T
     ensures { answer ≡ Ok result }
 {

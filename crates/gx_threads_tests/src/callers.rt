@@ -1,4 +1,4 @@
-//! A session with the replies that it was handed.
+//! Sessions with the replies that they got.
 ghost use Rattle.std.specs.Prelude.{◌≡◌};
 ghost use Rattle.gx_machine.specs.declared.limits.TheConstants.{SESSIONS};
 ghost use Rattle.gx_shared.specs.Books.{MayBeShared};
@@ -31,7 +31,7 @@ pub fn overlap(key: Box2) -> Call<Box2> {
     Call::Search(Query::Overlap(key))
 }
 
-/// A session, and the replies that it was handed, in their order.
+/// A session, and the replies that it got, in their order.
 #[derive(Drop)]
 pub struct Caller<R: Ledger> {
     pub session: Session<Box2, R>,
@@ -39,7 +39,7 @@ pub struct Caller<R: Ledger> {
 }
 
 impl<R: Ledger> Caller<R> {
-    /// A session that was handed none.
+    /// A session without replies yet.
     pub fn new(alloc: Global, session: Session<Box2, R>) -> Self {
         Caller {
             session,

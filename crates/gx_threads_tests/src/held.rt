@@ -17,7 +17,7 @@ fn comes(flag: &AtomicBool) -> bool {
     false
 }
 
-/// Holds a call after one of its events, until it is let go, and counts the events that it came after.
+/// Holds a call after one of its events, until it is released, and counts its events.
 #[derive(Drop)]
 pub struct Hold {
     after: u64,
@@ -41,7 +41,7 @@ impl Hold {
         }
     }
 
-    /// Waits until the call is held; false where it isn't, within a million turns.
+    /// Waits until the call is held; false if it isn't, within a million turns.
     pub fn is_reached(&self) -> bool {
         comes(&self.reached)
     }
@@ -51,7 +51,7 @@ impl Hold {
         self.free.store(true, Ordering::SeqCst);
     }
 
-    /// Whether the call went on before it was let go.
+    /// Whether the call went on before it was released.
     pub fn was_late(&self) -> bool {
         self.late.load(Ordering::SeqCst)
     }

@@ -275,7 +275,7 @@ pub fn search_hold<
     search_judged(rt, &hold, events, one.as_slice(), two.as_slice())
 }
 
-/// Fails unless the record has what both sessions were handed, each for its own session.
+/// Fails unless the record has the replies that both sessions got, each under its own session.
 fn paired<E: Events<Box2>, R: Run<Box2>>(
     rt: &impl Abort,
     book: &Book<Box2, E, R>,
@@ -299,7 +299,7 @@ fn paired<E: Events<Box2>, R: Run<Box2>>(
     );
 }
 
-/// Two sessions keep the replies that they were handed; the record has just these, and not others.
+/// Two sessions keep the replies that they got; the record has just these, and no others.
 pub fn pairing<
     E: Events<Box2> + Drop + Send,
     R: Run<Box2> + Send + Sync,

@@ -6,7 +6,7 @@ use gx_geom::{Box2, Refusal};
 use gx_machine::{Call, Entry, Item, Query, Reply};
 use std::process;
 
-/// A call that a session draws; a box by its corners.
+/// A random call of a session; a box by its corners.
 #[derive(Clone, Copy)]
 enum Drawn {
     Begin,
@@ -73,7 +73,7 @@ fn key(corners: [i32; 4]) -> Box2 {
     }
 }
 
-/// The call that is drawn.
+/// The random call.
 fn call(drawn: Drawn) -> Call<Box2> {
     match drawn {
         Begin => Call::Begin,
@@ -93,7 +93,7 @@ fn call(drawn: Drawn) -> Call<Box2> {
     }
 }
 
-/// Whether a reply is what is told.
+/// Whether a reply is the one that is expected.
 fn is_told(told: Told, reply: &Reply<Box2>) -> bool {
     match (told, reply) {
         (Done, Reply::Ok | Reply::Inserted | Reply::Deleted) => true,
@@ -105,7 +105,7 @@ fn is_told(told: Told, reply: &Reply<Box2>) -> bool {
     }
 }
 
-/// Whether an item is one of a call with what it is told.
+/// Whether an item is one of a call with its expected reply.
 fn fits(row: (Drawn, Told), item: &Item<Box2>) -> bool {
     match (item, row.1) {
         (Item::Asked(1, asked), _) => *asked == call(row.0),
@@ -115,7 +115,7 @@ fn fits(row: (Drawn, Told), item: &Item<Box2>) -> bool {
     }
 }
 
-/// Fails unless a record begins with these calls and what they are told.
+/// Fails unless a record begins with these calls and their expected replies.
 pub(crate) fn begins_as_known(rt: &impl process::Abort, calls: &[Item<Box2>]) {
     let mut place = 0;
     let mut known = 0_usize;

@@ -1,6 +1,5 @@
-//! Tests of sessions in threads over the engine of pages and a log: sessions that keep the replies that they were
-//! handed, calls that are held between two events, and random calls. What runs the threads takes any engine of
-//! events.
+//! Tests of sessions in threads over the engine of pages and a log: sessions that keep the replies that they got, calls
+//! that are held between two events, and random calls. The functions that run the threads take any engine of events.
 #![tactic(auto)]
 
 #[cfg(test)]

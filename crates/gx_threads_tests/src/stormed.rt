@@ -47,7 +47,7 @@ fn lose_reply(all: &mut [Handed<Box2>], place: usize) {
     }
 }
 
-/// What is made of what the sessions of a storm were handed before it is judged.
+/// What is changed of the replies that the sessions of a storm got, before it is judged.
 #[derive(Clone, Copy)]
 enum Change {
     Nothing,
@@ -97,7 +97,7 @@ fn judged<E: Events<Box2>, R: Run<Box2>>(
 }
 
 /// The plain index replays a storm. Its sessions' calls overlap, the flusher works amid them, and transactions are
-/// committed. Of two calls that are said to have been given up the lesser refusal is told, and a reply that a session
+/// committed. Of two calls that are marked as given up the lesser refusal is reported, and a reply that a session
 /// doesn't have is missed.
 pub(crate) fn stormed<
     E: Events<Box2> + Drop + Send,

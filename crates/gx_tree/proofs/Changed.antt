@@ -21,7 +21,7 @@ module _ {B : Type 0} where
       let one : suc p - 1 ≡ p = omega arith in
       ap (λ k. get_or (set nodes k n) q blank) one ∙ get_or-set_other nodes p q n blank (λ e. other (ap (λ k. suc k) e))
 
-  -- with another node for a page that is taken, nothing but its entries has changed
+  -- with another node for a page in use, nothing but its entries has changed
   pub changed_only : (s : Store B) (a : ℕ) (n : Node B) (pairs : List (Pair B)) (children : List (Child B)) → Used (tree_of s) a
       → n ≡ node_with (node_at s.nodes a) (node_at s.nodes a).nsn (node_at s.nodes a).right pairs children
       → ChangesOnly (tree_of s) (tree_of (with_node s a n)) a pairs children

@@ -31,7 +31,7 @@ part_of_sum f a (x ∷ xs) some = elim (cases_eq x a) [
 ]
 
 module _ {K : Type 0} (r : Rules K) where
-  -- in a leaf of a legal tree a row and key stand once at most
+  -- a leaf of a legal tree has a row and key once at most
   once_in : (t : Tree K) → Legal r t → (a row : ℕ) (key : K) → Used t a → (t.node a).level ≡ 0 → how_many (is_entry r row key) (t.node a).pairs ≤ 1
   once_in t legal a row key used leaf =
       let one = legal.once a used leaf in

@@ -20,7 +20,7 @@ module _ {B : Type 0} where
       ∙ ap (λ (x : Store B). with_node x p (f (node_at x.nodes p))) same
       ∙ ap (λ n. with_node t p (f n)) at
 
-  -- the root's two halves on pages of their own
+  -- the root's two halves on separate pages
   abbrev pub both_taken : Store B → List Bool → Store B
   both_taken s sides = with_page (with_page s (left_of sides (node_at s.nodes 1))) (right_of sides (node_at s.nodes 1))
 

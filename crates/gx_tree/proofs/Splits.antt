@@ -68,7 +68,7 @@ module _ {B : Type 0} where
       let one : suc p - 1 ≡ p = omega arith in
       ap (λ k. get_or (set s.nodes k a) q blank) one ∙ get_or-set_other s.nodes p q a blank (λ e. ne (ap suc e))
 
-  -- the node of a page that is taken
+  -- the node of a page in use
   pub at_taken : (s : Store B) (a : Node B) → node_at (with_page s a).nodes (suc (length s.nodes)) ≡ a
   at_taken s a = get_or-append_seam s.nodes a [] blank
 

@@ -1,4 +1,4 @@
--- What a sweep removes from a leaf, as it is planned.
+-- What a sweep removes from a leaf, by its plan.
 use Rattle.std.specs.Prelude.{◌≡◌, ℕ, suc, ◌==◌, Bool, true, false, List, [], ◌∷◌, length, map}
 use Rattle.gx_machine.specs.declared.entry.Entry.{Entry}
 use Rattle.gx_node.specs.Edits.{entry_of}

@@ -1,4 +1,4 @@
-//! A page is brought for a step.
+//! Brings a page for a step.
 ghost use Rattle.std.specs.Prelude.{◌≡◌, [], ◌∷◌, Err, IfErr, OnOk, OnErr};
 ghost use Rattle.gx_node.specs.Trees.{Used};
 ghost use Rattle.gx_node.specs.Owner.{CountsFaults, step_fails};
@@ -10,7 +10,7 @@ use gx_node::{Pages, StepFault};
 
 /// Brings one page, which a step names.
 ///
-/// Refused with `Pages` where it could not be brought, and with `Damaged` only where it isn't taken.
+/// Refused with `Pages` if it could not be brought, and with `Damaged` only if it isn't in use.
 pub(crate) fn bring_page<K: KeyClass, P: Pages<K>>(
     pages: &mut P,
     page: u32,

@@ -32,7 +32,7 @@ pub enum Way<B> {
     FullInner,
     /// An inner node that has room: down to this slot's child, on this page, whose bound covers the coming key.
     Down(usize, u32),
-    /// The same, once the bound is widened to this key.
+    /// Down to this slot's child, once its bound is widened to this key.
     Widen(usize, u32, B),
 }
 
@@ -74,7 +74,7 @@ fn are_same<B: Shape>(first: &B, second: &B) -> bool
 }
 
 /// The way down from an inner node: the child of least penalty, and of such children the first (Guttman 1984). `None`
-/// where it has no children.
+/// if it has no children.
 fn way_down<K: KeyClass>(inner: &Inner<K>, coming: &K::Key, most: usize) -> Option<Way<K::Key>>
     requires { 0 < inner.now.level }
     ensures way { (seen : ℕ) → inner.now.nsn ≤ seen
@@ -124,12 +124,13 @@ fn way_at<K: KeyClass>(
     }
 }
 
-/// Reads the page of a descent for a coming key, and says what the descent does there, where a node has at most `most`
-/// entries: it begins again where the page was split since; it goes down to the child whose bound has the least penalty
-/// for the key, and of such children the first, once that bound covers the key too; a full node is in its way.
+/// Reads the page of a descent for a coming key, and returns what the descent does there, if a node has at most `most`
+/// entries. It begins again if the page was split since its number was read. At a full node it stops; at a leaf with
+/// room the pair can be added. Else it goes down to the child whose bound has the least penalty for the key, and of
+/// such children the first, once that bound covers the key too.
 ///
-/// Refused with `Pages` where the page could not be brought, and with `Damaged` only where it isn't taken, or has a
-/// level above 0 and no entries.
+/// Refused with `Pages` if the page could not be brought, and with `Damaged` only if it isn't in use, or has a level
+/// above 0 and no entries.
 pub fn way_step<K: KeyClass, P: Pages<K>>(
     pages: &mut P,
     item: &TraversalItem,
@@ -160,11 +161,11 @@ pub fn way_step<K: KeyClass, P: Pages<K>>(
     }
 }
 
-/// Makes a step of a descent for a coming key at the page of its item, as `way_step` says: it goes down, and where the
+/// Makes a step of a descent for a coming key at the page of its item, as `way_step` says: it goes down, and if the
 /// child's bound doesn't cover the key it widens it first, to the union of the two, in a slot below `most`.
 ///
-/// Refused with `Pages` where the page could not be brought, or what the widening needs could not be had, and with
-/// `Damaged` only where `way_step` is: nothing has changed then.
+/// Refused with `Pages` if the page could not be brought, or what the widening needs could not be had, and with
+/// `Damaged` only if `way_step` is: nothing has changed then.
 pub fn descend_step<K: KeyClass, P: PagesMut<K>>(
     pages: &mut P,
     item: &TraversalItem,

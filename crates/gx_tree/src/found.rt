@@ -2,7 +2,7 @@
 
 use gx_machine::Entry;
 
-/// A pair that a look found, and the leaf in which it was then.
+/// A pair that a look found, and the leaf in which it found it.
 #[derive(Clone, Copy)]
 pub struct Found<B> {
     /// The row and its key.

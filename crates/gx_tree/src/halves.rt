@@ -68,7 +68,7 @@ fn united<K: KeyClass>(union: Option<K::Key>, key: K::Key) -> K::Key
     K::union(union, key)
 }
 
-/// The union of a side's keys. `None` where there are none.
+/// The union of a side's keys. `None` if there are none.
 fn union_of<K: KeyClass>(keys: &[K::Key], sides: &[bool], side: bool) -> Option<K::Key>
     requires { length sides.now ≡ length keys.now }
     ensures { UnitesAny K.Key.inside result (on_side side sides.now keys.now) }
@@ -82,7 +82,7 @@ fn union_of<K: KeyClass>(keys: &[K::Key], sides: &[bool], side: bool) -> Option<
     union
 }
 
-/// Splits a full node's keys by the class's PickSplit. `None` where there are fewer than `most`.
+/// Splits a full node's keys by the class's PickSplit. `None` if there are fewer than `most`.
 fn halves_of<K: KeyClass>(keys: &[K::Key], most: usize) -> Option<Halves<K::Key>>
     requires most { (4 ≤ most) × (most ≤ MAX_ENTRIES) }
     requires few { length keys.now ≤ MAX_ENTRIES }
@@ -140,11 +140,11 @@ fn node_keys<K: KeyClass>(page: &Page, room: u32, keys: &mut [K::Key])
     }
 }
 
-/// Splits the entries of a full node by the class's PickSplit (Guttman 1984), where a node has at most `most`
-/// entries, with at least two fifths of `most`, and two, on each side. `None` where the node isn't full, or has more
-/// than `MAX_ENTRIES`.
+/// Splits the entries of a full node by the class's PickSplit (Guttman 1984), where a node has at most `most` entries,
+/// with at least two fifths of `most`, and two, on each side. `None` if the node isn't full, or has more than
+/// `MAX_ENTRIES`.
 ///
-/// The node's keys are written over the first of `keys`.
+/// The node's keys overwrite the first of `keys`.
 #[tactic(auto, using(crate::proofs::Parted::size_is))]
 pub(crate) fn halve<K: KeyClass>(
     page: &Page,

@@ -1,5 +1,5 @@
-//! What the steps come to, by the laws of trees. Each function is its contract alone.
-ghost use Rattle.std.specs.Prelude.{◌≡◌, ◌≢◌, ◌≤◌, ◌<◌, ◌∷◌, ℕ, Bool, true, false, List, length, slice_get, slice_set};
+//! Laws of the steps, by the laws of trees. Each function is its contract alone.
+ghost use Rattle.std.specs.Prelude.{◌≡◌, ◌≢◌, ◌≤◌, ◌<◌, ℕ, Bool, true, false, List, length, slice_get, slice_set};
 ghost use Rattle.std.specs.Prelude.{Some, IfSome};
 ghost use Rattle.gx_machine.specs.declared.entry.Entry.{Entry};
 ghost use Rattle.gx_node.specs.Edits.{bounded_by, entry_of};
@@ -26,7 +26,7 @@ ghost use Rattle.gx_tree.specs.declared.seek.Sought.TheVariants.{Here};
 use gx_class::KeyClass;
 use gx_geom::Shape;
 
-/// Keys with their relations are as the laws of trees want them.
+/// Keys with their relations satisfy the premises of the laws of trees.
 pub fn keys_are_lawful<B: Shape>()
     ensures { (most : ℕ) → 2 ≤ most → IsLawful (rules_of B.Shape most) }
 {}
@@ -125,16 +125,16 @@ pub fn never_damaged<K>()
         → length (t.node a).children ≢ 0 }
 {}
 
-/// A live pair that is appended to a leaf is added to the tree, where no pair has its row and key yet and each entry
-/// that names the leaf covers the key.
+/// A live pair that is appended to a leaf is added to the tree, if no pair has its row and key yet and each entry that
+/// names the leaf covers the key.
 pub fn adding_is_a_step<K>()
     ensures { (r : Rules K) (old new : Tree K) → Legal r old → (a : ℕ) (entry : Entry K)
         → Appends r.most old new a entry → standing (is_entry r entry.row entry.key) old ≡ 0
         → EntriesCover r old a entry.key → IsAdding r old new a (live entry) }
 {}
 
-/// A mark that is set in a leaf is that of the one pair of its row and key, where what is wanted of the leaf's pairs
-/// is just that row and key.
+/// A mark that is set in a leaf is that of the one pair of its row and key, if exactly that row and key is wanted of
+/// the leaf's pairs.
 pub fn marking_is_a_step<K>()
     ensures { (r : Rules K) (old new : Store K) → Legal r (tree_of old) → (a row : ℕ) (key : K) (wants : Pair K → Bool)
         → Each (λ x. wants x ≡ is_entry r row key x) ((tree_of old).node a).pairs
@@ -142,8 +142,8 @@ pub fn marking_is_a_step<K>()
         → IsMarking r (tree_of old) (tree_of new) a row key marked }
 {}
 
-/// What a planned sweep takes out of its leaf is the tree's step, where something goes: as many pairs go as the leaf
-/// has to sweep, and each slot is that of such a pair.
+/// A planned sweep that removes something from its leaf is the tree's step: it removes as many pairs as the leaf has to
+/// sweep, and each slot is that of such a pair.
 pub fn taking_out_is_a_sweep<K>()
     ensures sweep { (claimed : Entry K → Bool) (plan : Planned) (old new : Store K)
         → PlansSweep claimed ((tree_of old).node plan.page) plan → TakesOut plan old new → takes_none plan ≡ false
@@ -155,7 +155,7 @@ pub fn taking_out_is_a_sweep<K>()
         → (x : Pair K) × (slice_get node.pairs slot ≡ Some x) × (is_sweepable (λ y. claimed (entry_of y)) x ≡ true) }
 {}
 
-/// Keys stay keys of the class: by any step on a legal tree whose keys are, where those that it writes anew are.
+/// Keys stay keys of the class: by any step on a legal tree whose keys are, if those that the step writes are.
 pub fn keys_stay_keys<K: KeyClass>()
     ensures { (r : Rules K.Key) (old new : Tree K.Key) (step : Step K.Key) → Legal r old → AreKeys K.is_key old
         → BringsKeys K.is_key step → IsStep r old step new → AreKeys K.is_key new }

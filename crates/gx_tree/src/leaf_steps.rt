@@ -1,19 +1,16 @@
 //! The steps that add a pair to a leaf, and that mark one.
-ghost use Rattle.std.specs.Prelude.{◌≡◌, ◌≢◌, ◌≤◌, ◌<◌, Bool, true, false, [], length, map, Some, slice_get, Err, OnOk};
+ghost use Rattle.std.specs.Prelude.{◌≡◌, ◌≢◌, ◌≤◌, ◌<◌, true, false, [], length, Err, OnOk};
 ghost use Rattle.std.specs.Prelude.{OnErr, IfOk, IfErr, ◌∷◌};
-ghost use Rattle.std.specs.List.{list_any};
 ghost use Rattle.gx_machine.specs.declared.entry.Entry.{Entry};
-ghost use Rattle.gx_node.specs.Edits.{entry_of};
 ghost use Rattle.gx_node.specs.declared.items.TheConstants.{MAX_ENTRIES};
-ghost use Rattle.gx_node.specs.Trees.{Pair, Used};
-ghost use Rattle.gx_node.specs.Writes.{is_sweepable};
+ghost use Rattle.gx_node.specs.Trees.{Used};
 ghost use Rattle.gx_node.specs.Owner.{CountsFaults, step_fails};
 ghost use Rattle.gx_node.specs.Owner.{KeepsSince, KeepsSinceBut, IsWhy, IsWhyLater, Brings, Prepares, AsksAtMost};
 ghost use Rattle.gx_node.specs.Owner.{AsksToWrite, Asks, to_write};
 ghost use Rattle.gx_tree.specs.Seeking.{is_here};
 ghost use Rattle.gx_node.specs.Store.{tree_of};
 ghost use Rattle.gx_tree.specs.Wants.{wants};
-ghost use Rattle.gx_tree.specs.Writing.{Appends, SetsMark, Swept};
+ghost use Rattle.gx_tree.specs.Writing.{Appends, SetsMark};
 
 use crate::bring::bring_page;
 use crate::edits::{AppendPair, KeepSide, SetMark};
@@ -23,10 +20,9 @@ use gx_class::{KeyClass, Probing};
 use gx_machine::Entry;
 use gx_node::{Leaf, MAX_ENTRIES, PagesMut, StepFault};
 
-/// Brings the leaf on a page, and says how many pairs it has.
+/// Brings the leaf on a page, and returns how many pairs it has.
 ///
-/// Refused with `Pages` where the page could not be brought, and with `Damaged` only where it isn't a leaf that is
-/// taken.
+/// Refused with `Pages` if the page could not be brought, and with `Damaged` only if it isn't a leaf in use.
 #[tactic(auto, using(gx_node::proofs::Listed::same_store))]
 pub(crate) fn bring_leaf<K: KeyClass, P: PagesMut<K>>(
     pages: &mut P,
@@ -57,8 +53,7 @@ pub(crate) fn bring_leaf<K: KeyClass, P: PagesMut<K>>(
     }
 }
 
-/// Makes ready to change a page that is held. Refused where what that
-/// needs could not be had.
+/// Prepares to change a held page. Refused if what that needs could not be had.
 pub(crate) fn prepare_page<K: KeyClass, P: PagesMut<K>>(
     pages: &mut P,
     page: u32,
@@ -76,11 +71,11 @@ pub(crate) fn prepare_page<K: KeyClass, P: PagesMut<K>>(
     pages.prepare(&[page], 0)
 }
 
-/// Puts a live pair behind the last of the leaf on a page, where a node has at most `most` entries, which is at most
+/// Puts a live pair behind the last one of the leaf on a page, if a node has at most `most` entries, which is at most
 /// `MAX_ENTRIES`.
 ///
-/// Refused with `Pages` where the page could not be brought or made ready, and with `Damaged` only where it isn't a
-/// leaf that is taken, or has no room. Nothing has changed then.
+/// Refused with `Pages` if the page could not be brought or prepared, and with `Damaged` only if it isn't a leaf in
+/// use, or has no room. Nothing has changed then.
 pub fn add_step<K: KeyClass, P: PagesMut<K>>(
     pages: &mut P,
     page: u32,
@@ -111,11 +106,11 @@ pub fn add_step<K: KeyClass, P: PagesMut<K>>(
     Ok(())
 }
 
-/// Sets or clears the mark of the wanted pair in the leaf on a page. A pair that was found in a leaf is there or
-/// further to the right; where it isn't in this leaf, the next leaf is returned, as by `seek_step`.
+/// Sets or clears the mark of the wanted pair in the leaf on a page. A pair that was found in a leaf is still in that
+/// leaf or further to the right; if it isn't in this leaf, the next leaf is returned, as by `seek_step`.
 ///
-/// Refused with `Pages` where the page could not be brought or made ready, and with `Damaged` only where it isn't a
-/// leaf that is taken. Nothing has changed then.
+/// Refused with `Pages` if the page could not be brought or prepared, and with `Damaged` only if it isn't a leaf in
+/// use. Nothing has changed then.
 pub fn set_mark_step<K: Probing, P: PagesMut<K>>(
     pages: &mut P,
     wanted: &Wanted<K>,

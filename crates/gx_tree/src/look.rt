@@ -1,4 +1,4 @@
-//! A look, a page a step.
+//! A look, which reads one page a step.
 ghost use Rattle.std.specs.Prelude.{◌≡◌, ◌<◌, ◌≤◌, ◌++◌, ◌∷◌, [], true, length, filter, map, ◌≢◌, List, ◌==◌};
 ghost use Rattle.std.specs.Prelude.{slice_get, Some, Err, IfOk, IfErr, OnOk, OnErr};
 ghost use Rattle.gx_node.specs.Hits.{passing_of};
@@ -6,7 +6,7 @@ ghost use Rattle.gx_node.specs.Reading.{format_of, is_node};
 ghost use Rattle.gx_node.specs.Trees.{Pair, Used};
 ghost use Rattle.gx_node.specs.Reach as reach;
 ghost use Rattle.gx_tree.specs.Found.{found_at};
-ghost use Rattle.gx_tree.specs.Looking.{below, beyond, item_of, LookStep, Reads};
+ghost use Rattle.gx_tree.specs.Looking.{below, item_of, LookStep, Reads};
 ghost use Rattle.gx_node.specs.Owner.{CountsFaults, look_fails};
 ghost use Rattle.gx_node.specs.Owner.{AsksAtMost, KeepsSince, IsWhyOfLook, IsWhyLater, Brings, Asks};
 ghost use Rattle.gx_node.specs.Store.{node_of, tree_of, Stays};
@@ -153,7 +153,7 @@ impl<B: Shape> Look<B> {
         self.found.as_slice()
     }
 
-    /// What it found, given away.
+    /// Returns what it found, and ends it.
     pub fn into_found(self) -> Vec<Found<B>>
         ensures { result ≡ self.found }
     {
@@ -191,12 +191,12 @@ fn read<K: Probing>(
     }
 }
 
-/// Reads the page of the look's next item. What is wanted there is found; where the page was split since its number was
-/// read, the look goes on to its rightlink too, with the number that it remembers; and it will go down to the children
-/// below which something wanted may be, each remembered with the counter of now (Kornacker, Mohan, Hellerstein 1997).
+/// Reads the page of the look's next item. It finds the wanted pairs there. If the page was split since its number was
+/// read, the look stacks its rightlink too, with the number that it remembers; and it stacks the children below which
+/// something wanted may be, each with the present counter (Kornacker, Mohan, Hellerstein 1997).
 ///
-/// Refused with `Pages` where the page could not be brought, and `Damaged` where the item names no page that is
-/// taken: the look is then as it was. And with `Memory` where that is refused; the look is of no use then.
+/// Refused with `Pages` if the page could not be brought, and `Damaged` if the item names no page in use: the look is
+/// then unchanged. Refused with `Memory` if memory is refused; the look can't be used then.
 pub fn look_step<K: Probing, P: Pages<K>>(
     pages: &mut P,
     wanted: &Wanted<K>,

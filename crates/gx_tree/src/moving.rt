@@ -1,5 +1,5 @@
-//! Entries that move by sides, as a node is split.
-ghost use Rattle.std.specs.Prelude.{◌≡◌, ◌<◌, ◌≤◌, ℕ, suc, map, not, length, []};
+//! Moves entries by sides, when a node is split.
+ghost use Rattle.std.specs.Prelude.{◌≡◌, ◌<◌, ℕ, suc, map, not, length, []};
 ghost use Rattle.gx_node.specs.Lists.{staying};
 ghost use Rattle.gx_node.specs.Trees.{size};
 ghost use Rattle.gx_node.specs.Steps.{node_with};
@@ -49,7 +49,7 @@ pub(crate) fn take_side<K: KeyClass, P: PagesMut<K>>(
     page
 }
 
-/// Leaves a node the entries that stay by these sides, and gives it a sequence number and a rightlink.
+/// Keeps in a node the entries that stay by these sides, and gives it a sequence number and a rightlink.
 pub(crate) fn keep_side<K: KeyClass, P: PagesMut<K>>(
     pages: &mut P,
     page: u32,

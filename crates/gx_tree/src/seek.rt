@@ -1,4 +1,4 @@
-//! The way to a pair that is there.
+//! The way to a pair that was found before.
 ghost use Rattle.std.specs.Prelude.{◌≡◌, ◌≢◌, ◌≤◌, length, map, Err, IfOk, IfErr, OnOk, [], ◌∷◌, OnErr};
 ghost use Rattle.gx_node.specs.Hits.{IsNextHit};
 ghost use Rattle.gx_node.specs.Trees.{Used};
@@ -13,12 +13,12 @@ use crate::wanted::Wanted;
 use gx_class::Probing;
 use gx_node::{Leaf, Pages, StepFault};
 
-/// What a seek comes to at a leaf.
+/// The result of a seek at a leaf.
 #[derive(Clone, Copy, Debug, PartialEq, Eq)]
 pub enum Sought {
     /// The pair is in this slot; whether it is marked as deleted.
     Here(usize, bool),
-    /// It doesn't: the leaf to the right, 0 for none.
+    /// The pair isn't in this leaf: the leaf to the right, 0 for none.
     Right(u32),
 }
 
@@ -40,12 +40,11 @@ fn next_wanted<K: Probing>(leaf: &Leaf<K>, wanted: &Wanted<K>, from: usize) -> O
     None
 }
 
-/// Looks for a pair in the leaf on a page, by `Wanted::entry`. A pair that was found in a leaf is there or further to
-/// the right, since splits move pairs to the right only (Lehman, Yao 1981); where it isn't in this leaf, the next leaf
-/// is returned.
+/// Looks for a pair in the leaf on a page, by `Wanted::entry`. A pair that was found in a leaf is still in that leaf or
+/// further to the right, since splits move pairs only to the right (Lehman, Yao 1981); if it isn't in this leaf, the
+/// next leaf is returned.
 ///
-/// Refused with `Pages` where the page could not be brought, and with `Damaged` only where it isn't a leaf that is
-/// taken.
+/// Refused with `Pages` if the page could not be brought, and with `Damaged` only if it isn't a leaf in use.
 pub fn seek_step<K: Probing, P: Pages<K>>(
     pages: &mut P,
     wanted: &Wanted<K>,

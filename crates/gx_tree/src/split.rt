@@ -54,7 +54,7 @@ fn next_named<K: KeyClass>(inner: &Inner<K>, page: u32, from: usize) -> Option<u
     None
 }
 
-/// The slot of the one child on this page. `None` where none is, or more than one.
+/// The slot of the one child on this page. `None` if none is, or more than one.
 fn slot_of<K: KeyClass>(inner: &Inner<K>, page: u32) -> Option<usize>
     ensures once { IfSome result (NamesOnce inner.now.children page) }
     ensures none { IfNone result (times page (child_pages inner.now) ≢ 1) }
@@ -72,7 +72,7 @@ fn slot_of<K: KeyClass>(inner: &Inner<K>, page: u32) -> Option<usize>
     }
 }
 
-/// The slot of the one child on a page, in a parent that isn't full. `None` where there is no such place.
+/// The slot of the one child on a page, in a parent that isn't full. `None` if there is no such place.
 fn place_of<K: KeyClass>(above: &Page, room: u32, page: u32, most: usize) -> Option<usize>
     requires node { is_node (format_of K.KeyClass) room above.now ≡ true }
     requires inner { 0 < (node_of (format_of K.KeyClass) above.now).level }
@@ -115,10 +115,10 @@ fn bring_both<K: KeyClass, P: Pages<K>>(
     Ok(())
 }
 
-/// Where and how a node that is held can be split. `None` where its parent has no place for that.
+/// Where and how a node that is held can be split. `None` if its parent has no place for that.
 ///
-/// Refused with `PagesFull` where no page is left, and with `Damaged` where the parent is a leaf, the node isn't
-/// full, or the counter of splits is at its end. The node's keys are written over the first of `keys`.
+/// Refused with `PagesFull` if no page is left, and with `Damaged` if the parent is a leaf, the node isn't full, or the
+/// counter of splits is at its end. The node's keys are written over the first of `keys`.
 fn plan_split<K: KeyClass, P: PagesMut<K>>(
     pages: &P,
     page: u32,
@@ -161,7 +161,7 @@ fn plan_split<K: KeyClass, P: PagesMut<K>>(
     }
 }
 
-/// Gives a node's bound its place in the parent, and the sibling its entry behind the others.
+/// Writes a node's bound to its slot in the parent, and appends the sibling's entry.
 fn name_halves<K: KeyClass, P: PagesMut<K>>(
     pages: &mut P,
     parent: u32,
@@ -188,7 +188,7 @@ fn name_halves<K: KeyClass, P: PagesMut<K>>(
     pages.change(parent, sibling);
 }
 
-/// Makes a split for which all is ready. `_most` isn't read: it says which nodes are full.
+/// Makes a split that is prepared. `_most` isn't read: it says which nodes are full.
 fn make_split<K: KeyClass, P: PagesMut<K>>(
     pages: &mut P,
     page: u32,
@@ -248,13 +248,12 @@ fn make_split<K: KeyClass, P: PagesMut<K>>(
 /// Splits the node on a page, which is full, below its parent. The counter of splits rises by one. The node gets its
 /// new value as its sequence number, and a new sibling as its rightlink; the sibling gets the number and the rightlink
 /// that the node had, so that a search that remembers an older number goes on to it (Kornacker, Mohan, Hellerstein
-/// 1997). In the parent the node's entry gets the union of the keys that stay, and the sibling's entry is put behind
-/// the last. `None` where the parent doesn't name the page, names it twice, or is full: the descent begins again at the
-/// root.
+/// 1997). In the parent the node's entry gets the union of the keys that stay, and the sibling's entry is appended.
+/// `None` if the parent doesn't name the page, names it twice, or is full: the descent begins again at the root.
 ///
-/// Refused with `PagesFull` only where no page is left; with `Pages` where a page could not be brought, or what the
-/// changes need could not be had; and with `Damaged` where the two aren't a full node and an inner node above it, or
-/// the counter is at its end. Nothing has changed then. The node's keys are written over the first of `keys`.
+/// Refused with `PagesFull` only if no page is left; with `Pages` if a page could not be brought, or what the changes
+/// need could not be had; and with `Damaged` if the two aren't a full node and an inner node above it, or the counter
+/// is at its end. Nothing has changed then. The node's keys are written over the first of `keys`.
 #[tactic(auto, using(crate::proofs::Owner::why_any, crate::proofs::Owner::fails_none))]
 pub fn split_step<K: KeyClass, P: PagesMut<K>>(
     pages: &mut P,

@@ -32,8 +32,8 @@ pub struct RootSplit<B> {
 
 /// How the root, which is held, can be split.
 ///
-/// Refused with `PagesFull` where fewer than two pages are left, and with `Damaged` where the root is a leaf, isn't
-/// full, or has the greatest level. The root's keys are written over the first of `keys`.
+/// Refused with `PagesFull` if fewer than two pages are left, and with `Damaged` if the root is a leaf, isn't full, or
+/// has the greatest level. The root's keys are written over the first of `keys`.
 fn plan_root<K: KeyClass, P: PagesMut<K>>(
     pages: &P,
     most: usize,
@@ -68,7 +68,7 @@ fn plan_root<K: KeyClass, P: PagesMut<K>>(
     }
 }
 
-/// Makes a split of the root for which all is ready. `_most` isn't read: it says which nodes are full.
+/// Makes a split of the root that is prepared. `_most` isn't read: it says which nodes are full.
 fn make_root_split<K: KeyClass, P: PagesMut<K>>(
     pages: &mut P,
     halves: &Halves<K::Key>,
@@ -130,11 +130,11 @@ fn make_root_split<K: KeyClass, P: PagesMut<K>>(
 
 /// Splits the root, which is full. Its entries move to two new pages of its level, with the sequence number 0, of which
 /// the first has the second as its rightlink; the root, a level higher, holds an entry for each. So the root stays on
-/// page 1, and the counter of splits doesn't change: no search goes on from the root to the right.
+/// page 1, and the counter of splits doesn't change: no search moves right from the root.
 ///
-/// Refused with `PagesFull` only where fewer than two pages are left; with `Pages` where the root could not be
-/// brought, or what the changes need could not be had; and with `Damaged` where page 1 isn't a full inner node, or
-/// has the level 65535. Nothing has changed then. The root's keys are written over the first of `keys`.
+/// Refused with `PagesFull` only if fewer than two pages are left; with `Pages` if the root could not be brought, or
+/// what the changes need could not be had; and with `Damaged` if page 1 isn't a full inner node, or has the level
+/// 65535. Nothing has changed then. The root's keys are written over the first of `keys`.
 #[tactic(auto, using(crate::proofs::Owner::why_any, crate::proofs::Owner::fails_none))]
 pub fn split_root_step<K: KeyClass, P: PagesMut<K>>(
     pages: &mut P,

@@ -8,7 +8,7 @@ use smallvec::SmallVec;
 use std::alloc::{AllocError, Global};
 use std::marker::Model;
 
-/// How many items a stack holds before it takes memory. A look is moved with all of them, so they are few.
+/// How many items a stack holds before it allocates. A look is moved with all of them, so they are few.
 const INLINE_ITEMS: usize = 2;
 
 /// The items that a look is to read, the next one last.
@@ -51,7 +51,7 @@ impl Stack {
         self.items.as_slice()[self.items.len() - 1]
     }
 
-    /// Puts an item on top.
+    /// Pushes an item.
     pub(crate) fn push(&mut self, item: TraversalItem) -> Result<(), AllocError>
         ensures items { OnOk result (self.new.items ≡ self.old.items ++ item ∷ []) }
     {
@@ -59,7 +59,7 @@ impl Stack {
         Ok(())
     }
 
-    /// Takes the item on top.
+    /// Pops the item on top.
     pub(crate) fn pop(&mut self) -> Option<TraversalItem>
         ensures items { self.old.items ≡ self.new.items ++ option_to_list result }
         ensures variant { IsSome result ↔ (0 < length self.old.items) }

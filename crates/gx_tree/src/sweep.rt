@@ -1,5 +1,5 @@
 //! The sweep of a leaf: it is planned before it is made.
-ghost use Rattle.std.specs.Prelude.{◌≡◌, ◌≤◌, ◌<◌, ℕ, Bool, true, false, length, map, take, Some, slice_get, Err};
+ghost use Rattle.std.specs.Prelude.{◌≡◌, ◌≤◌, ◌<◌, Bool, true, false, length, map, take, Some, slice_get, Err};
 ghost use Rattle.std.specs.Prelude.{OnOk, OnErr, IfOk, IfErr, ◌∷◌, []};
 ghost use Rattle.gx_machine.specs.declared.entry.Entry.{Entry};
 ghost use Rattle.gx_node.specs.Edits.{entry_of};
@@ -9,7 +9,7 @@ ghost use Rattle.gx_node.specs.Writes.{is_sweepable};
 ghost use Rattle.gx_node.specs.Owner.{CountsFaults, step_fails};
 ghost use Rattle.gx_node.specs.Owner.{KeepsSince, KeepsSinceBut, IsWhy, IsWhyLater, Brings, AsksAtMost, AsksToWrite};
 ghost use Rattle.gx_node.specs.Owner.{Asks, to_write};
-ghost use Rattle.gx_node.specs.Store.{node_at, tree_of, Stays};
+ghost use Rattle.gx_node.specs.Store.{tree_of};
 ghost use Rattle.gx_tree.specs.Sweeping.{FitsLeaf, PlansSweep, TakesOut, slots_from, slots_of, takes_none, to_take_out};
 ghost use Rattle.gx_tree.specs.Writing.{Swept};
 
@@ -21,7 +21,7 @@ use gx_node::{Leaf, MAX_ENTRIES, PagesMut, StepFault};
 use std::marker::Model;
 
 /// What a sweep removes from a leaf: a page, and the slots of the pairs that go. So the caller knows before the sweep
-/// how much it changes.
+/// how much that will change.
 #[derive(Drop)]
 pub struct Sweep {
     page: u32,
@@ -91,7 +91,7 @@ impl Sweep {
     }
 }
 
-/// Writes the slots whose side is `true` over the first of `slots`, rising, and says how many they are.
+/// Writes the slots whose side is `true` over the first of `slots`, rising, and returns how many they are.
 fn list_slots(sides: &[bool], slots: &mut [u16]) -> usize
     requires few { length sides.now ≤ MAX_ENTRIES }
     requires space { MAX_ENTRIES ≤ length slots.old }
@@ -124,7 +124,7 @@ fn is_unclaimed<K: KeyClass, F: Fn(Entry<K::Key>) -> bool>(
     marked && !claimed(entry)
 }
 
-/// Says of each pair of a leaf whether a sweep removes it: whether it is marked and no session claims it.
+/// Returns for each pair of a leaf whether a sweep removes it: whether it is marked and no session claims it.
 fn choose_sides<K: KeyClass, F: Fn(Entry<K::Key>) -> bool>(
     leaf: &Leaf<K>,
     claimed: &F,
@@ -144,8 +144,8 @@ fn choose_sides<K: KeyClass, F: Fn(Entry<K::Key>) -> bool>(
 /// Brings the leaf on a page, and returns which of its pairs a sweep removes: those that are marked and that no session
 /// claims. Nothing changes.
 ///
-/// Refused with `Pages` where the page could not be brought, and with `Damaged` only where it isn't a leaf that is
-/// taken, or has more than `MAX_ENTRIES` pairs.
+/// Refused with `Pages` if the page could not be brought, and with `Damaged` only if it isn't a leaf in use, or has
+/// more than `MAX_ENTRIES` pairs.
 pub fn plan_sweep<K: KeyClass, P: PagesMut<K>, F: Fn(Entry<K::Key>) -> bool>(
     pages: &mut P,
     page: u32,
@@ -183,10 +183,10 @@ pub fn plan_sweep<K: KeyClass, P: PagesMut<K>, F: Fn(Entry<K::Key>) -> bool>(
     Ok(Sweep::new(page, sides, count))
 }
 
-/// Takes the pairs of a sweep out of its leaf, which is held and still as it was planned. Where the sweep is empty
-/// nothing changes, and nothing is made ready.
+/// Removes the pairs of a sweep from its leaf, which is held and hasn't changed since the plan. If the sweep is empty
+/// nothing changes, and nothing is prepared.
 ///
-/// Refused where what the change needs could not be had. Nothing has changed then.
+/// Refused if what the change needs could not be had. Nothing has changed then.
 pub fn make_sweep<K: KeyClass, P: PagesMut<K>>(pages: &mut P, sweep: &Sweep) -> Result<(), P::Fault>
     requires held { P.held pages.old sweep.now.page × Used (tree_of (P.store pages.old)) sweep.now.page }
     requires fits { FitsLeaf sweep.now ((tree_of (P.store pages.old)).node sweep.now.page) }
@@ -216,11 +216,10 @@ pub fn make_sweep<K: KeyClass, P: PagesMut<K>>(pages: &mut P, sweep: &Sweep) -> 
 }
 
 /// Removes the marked pairs that no session claims from the leaf on a page: pairs that were deleted by their mark are
-/// removed later (Kornacker, Mohan, Hellerstein 1997). Returns whether there were any; where there were none the page
-/// isn't changed.
+/// removed later (Kornacker, Mohan, Hellerstein 1997). Returns whether there were any; if not, the page isn't changed.
 ///
-/// Refused with `Pages` where the page could not be brought or made ready, and with `Damaged` only where it isn't a
-/// leaf that is taken, or has more than `MAX_ENTRIES` pairs. Nothing has changed then.
+/// Refused with `Pages` if the page could not be brought or prepared, and with `Damaged` only if it isn't a leaf in
+/// use, or has more than `MAX_ENTRIES` pairs. Nothing has changed then.
 pub fn sweep_step<K: KeyClass, P: PagesMut<K>, F: Fn(Entry<K::Key>) -> bool>(
     pages: &mut P,
     page: u32,

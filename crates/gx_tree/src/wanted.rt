@@ -1,5 +1,5 @@
 //! What a look wants.
-ghost use Rattle.std.specs.Prelude.{◌≡◌, not, ◌&&◌, ◌==◌, if◌then◌else◌, map, IfSome};
+ghost use Rattle.std.specs.Prelude.{◌≡◌, not, ◌&&◌, ◌==◌};
 ghost use Rattle.std.specs.Ordering.{is_eq};
 ghost use Rattle.gx_machine.specs.Keys.{keys_of, key_matches};
 ghost use Rattle.gx_node.specs.Trees.{Pair};

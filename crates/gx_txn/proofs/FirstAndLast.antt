@@ -1,4 +1,4 @@
--- Over the writes of a transaction the first mark and the last leaf stand.
+-- Over the writes of a transaction the first mark and the last leaf are kept.
 use Rattle.std.proofs.Common.{◌≡◌, Bool, true, false, cond, ◌||◌, List, [], ◌∷◌, Option, None, Some, refl, ap, sym, ◌∙◌, subst}
 use Rattle.std.specs.Prelude.{if◌then◌else◌}
 use Rattle.std.specs.Ordering.{is_eq, match_ordering}

@@ -1,4 +1,4 @@
--- Notes: where a write's note goes, and that the first mark and the last leaf stand.
+-- Notes: where a write's note goes, and that the first mark and the last leaf are kept.
 use Rattle.std.proofs.Common.{◌≡◌, ℕ, zero, suc, ◌<◌, ◌≤◌, false, List, [], ◌∷◌, length, get_or, refl, ap, sym, ◌∙◌, arith, insert}
 use Rattle.std.specs.Prelude.{Result, Ok, Err, slice_set}
 use Rattle.std.specs.Result.{MatchResult}

@@ -13,7 +13,7 @@ abbrev pub AreMarked : {B : Type 0} → List Bool → List (Entry B) → Type 0
 AreMarked marks [] = Unit {0}
 AreMarked marks (e ∷ claims) = (is_marked e.row marks ≡ true) × AreMarked marks claims
 
--- the claims' keys are kept in a list of their own, in the same order, and their rows are marked
+-- the claims' keys are kept in a separate list, in the same order, and their rows are marked
 pub record IsTabled {B : Type 0} (marks : List Bool) (keys : List B) (claims : List (Entry B)) : Type 0 where
   pub same_keys : keys ≡ map (λ e. e.key) claims
   pub marked : AreMarked marks claims

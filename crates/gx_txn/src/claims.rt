@@ -38,7 +38,7 @@ impl<B: Shape> Model for Claims<B> {
 }
 
 impl<B: Shape> Claims<B> {
-    /// None, with room for all that a session may have.
+    /// No claims, with room for all that a session may have.
     pub fn new(alloc: Global) -> Result<Self, AllocError>
         ensures { IfOk result (λ c. c ≡ []) }
     {
@@ -49,7 +49,7 @@ impl<B: Shape> Claims<B> {
         })
     }
 
-    /// How many there are.
+    /// How many claims there are.
     pub fn len(&self) -> usize
         ensures { result ≡ length self.now }
     {
@@ -64,7 +64,7 @@ impl<B: Shape> Claims<B> {
         gx_machine::find(e, &self.entries)
     }
 
-    /// Whether the entry is one of them. It is searched for only where its row is marked.
+    /// Whether the entry is claimed. It is searched for only if its row is marked.
     pub fn has(&self, e: &Entry<B>) -> bool
         requires { InOrder (keys_of B.Shape) self.now }
         ensures { result ≡ has (keys_of B.Shape) e.now self.now }
@@ -72,7 +72,7 @@ impl<B: Shape> Claims<B> {
         self.rows.has(e.row) && gx_machine::has_in_order(e, &self.entries)
     }
 
-    /// Whether one of them matches the query.
+    /// Whether a claim matches the query.
     pub fn any_matching(&self, query: &Query<B>) -> bool
         ensures { result ≡ list_any (matches (keys_of B.Shape) query.now) self.now }
     {
@@ -95,7 +95,7 @@ impl<B: Shape> Claims<B> {
         search::insert_at(&mut self.entries, place, e);
     }
 
-    /// Lets go of all.
+    /// Releases all claims.
     pub fn clear(&mut self)
         ensures { self.new ≡ [] }
     {

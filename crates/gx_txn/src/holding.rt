@@ -70,8 +70,8 @@ impl<B: Shape> Holding<B> {
         self.claims.len()
     }
 
-    /// Claims an entry, where `spent` claims are held in all. `ClaimsFull`, and nothing changes, exactly where the
-    /// session doesn't claim it and all places are spent.
+    /// Claims an entry; `spent` claims are held in all. Returns `ClaimsFull`, and changes nothing, exactly if the
+    /// session doesn't claim it and all places are used.
     pub fn claim(&mut self, e: Entry<B>, spent: usize) -> Result<(), Refusal>
         requires { length self.old.locks.claims ≤ spent }
         ensures takes { Takes (with_claim (keys_of B.Shape) e spent self.old.locks) self.old result self.new }
@@ -87,8 +87,8 @@ impl<B: Shape> Holding<B> {
         }
     }
 
-    /// Holds a predicate. `PredicatesFull`, and nothing changes, exactly where the session lacks it and its places are
-    /// spent.
+    /// Holds a predicate. Returns `PredicatesFull`, and changes nothing, exactly if the session doesn't have it and its
+    /// places are used.
     pub fn hold(&mut self, query: Query<B>) -> Result<(), Refusal>
         ensures takes { Takes (with_predicate (keys_of B.Shape) query self.old.locks) self.old result self.new }
         ensures held { OnOk result (has_query (keys_of B.Shape) query self.new.locks.predicates ≡ true) }
@@ -124,7 +124,7 @@ impl<B: Shape> Holding<B> {
         self.notes.as_slice()
     }
 
-    /// Lets go of all that is held.
+    /// Releases all that is held.
     pub fn release(&mut self)
         ensures { self.new ≡ nothing_held }
     {

@@ -1,4 +1,4 @@
-//! What the table's definitions say, in the words of the set machine and of transactions.
+//! Laws: what the table's definitions say in terms of the set machine and of transactions.
 ghost use Rattle.std.specs.Prelude.{◌≡◌, ℕ, true, List, map};
 ghost use Rattle.gx_machine.specs.declared.call.Call.{Call};
 ghost use Rattle.gx_machine.specs.declared.call.Call.TheVariants.{Insert, Delete};

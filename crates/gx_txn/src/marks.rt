@@ -1,4 +1,4 @@
-//! Marks by row, so that most rows that aren't claimed are known by one look.
+//! Marks by row, so that one test finds most rows that aren't claimed.
 ghost use Rattle.std.specs.Prelude.{◌≡◌, ℕ, ◌%◌, IfOk, length, slice_set, true, false};
 ghost use Rattle.gx_txn.specs.Claimed.{is_marked};
 
@@ -8,7 +8,7 @@ use std::marker::Model;
 /// How many marks there are. Rows share them: a prime, so that rows in even steps don't share one.
 pub const ROW_MARKS: usize = 2039;
 
-/// Marks of rows. A row that lacks its mark was not marked since the last clearing.
+/// Marks of rows. A row without its mark was not marked since the last clearing.
 #[derive(Drop)]
 pub struct RowMarks {
     marks: Vec<bool>,

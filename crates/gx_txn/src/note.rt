@@ -6,7 +6,7 @@ use gx_machine::Entry;
 pub struct Note<B> {
     /// The entry.
     pub entry: Entry<B>,
-    /// Its mark from before the transaction first wrote it: set where it was marked or absent, clear where it was live.
+    /// Its mark from before the transaction first wrote it: set if it was marked or absent, clear if it was live.
     pub before: bool,
     /// The number of the leaf where the transaction last wrote it.
     pub leaf: u32,

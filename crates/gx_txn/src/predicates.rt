@@ -40,7 +40,7 @@ impl<B: Shape> Model for Predicates<B> {
 }
 
 impl<B: Shape> Predicates<B> {
-    /// None, with room for all that a session may have.
+    /// No predicates, with room for all that a session may have.
     pub fn new(alloc: Global) -> Result<Self, AllocError>
         ensures { IfOk result (λ p. p ≡ []) }
     {
@@ -92,7 +92,7 @@ impl<B: Shape> Predicates<B> {
         }
     }
 
-    /// Lets go of all.
+    /// Releases all predicates.
     pub fn clear(&mut self)
         ensures { self.new ≡ [] }
     {

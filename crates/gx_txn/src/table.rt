@@ -113,10 +113,10 @@ impl<B: Shape> Transactions<B> {
 
     /// Claims an entry for a session that is about to write it (an insert or a delete of it).
     ///
-    /// Refusals, the first that holds: `Busy` with the least other session that claims the entry or holds a predicate
-    /// that matches it, whether that session is open or is undoing its writes; `ClaimsFull` where 512 claims are held
-    /// in all and the session lacks this one. A refused one changes nothing; an entry that the session claims already
-    /// takes no second place.
+    /// Refused for the first that holds: `Busy` with the least other session that claims the entry or holds a predicate
+    /// that matches it, whether that session is open or is undoing its writes; `ClaimsFull` if 512 claims are held in
+    /// all and the session doesn't have this one. A refused claim changes nothing; an entry that the session claims
+    /// already takes no second place.
     pub fn claim(&mut self, session: u8, e: Entry<B>) -> Result<(), Refusal>
         requires { is_session session ≡ true }
         ensures takes { TakesIn (locks_for (keys_of B.Shape) (Insert e) session self.old)
@@ -132,9 +132,9 @@ impl<B: Shape> Transactions<B> {
 
     /// Holds a predicate for a session that is about to search.
     ///
-    /// Refusals, the first that holds: `Busy` with the least other session that claims a matching entry;
-    /// `PredicatesFull` where the session holds 16 and lacks this one. A refused one changes nothing; a predicate that
-    /// the session holds already takes no second place.
+    /// Refused for the first that holds: `Busy` with the least other session that claims a matching entry;
+    /// `PredicatesFull` if the session holds 16 and doesn't have this one. A refused predicate changes nothing; one
+    /// that the session holds already takes no second place.
     pub fn predicate(&mut self, session: u8, query: Query<B>) -> Result<(), Refusal>
         requires { is_session session ≡ true }
         ensures takes { TakesIn (locks_for (keys_of B.Shape) (Search query) session self.old)
@@ -148,7 +148,7 @@ impl<B: Shape> Transactions<B> {
         hold_at(&mut self.slots, usize::from(session) - 1, query)
     }
 
-    /// Notes that a session wrote an entry in a leaf: `before` is the entry's mark from before this write, set where it
+    /// Notes that a session wrote an entry in a leaf: `before` is the entry's mark from before this write, set if it
     /// was marked or absent. The session claims the entry.
     ///
     /// Of all writes of the entry, the first one's `before` and the last one's leaf are kept.

@@ -1,4 +1,4 @@
--- Where nothing is wrong with words, what was given to each argument of a command passes its parser.
+-- If nothing is wrong with the arguments, the value of each passes its parser.
 use Rattle.std.proofs.Common.{◌≡◌, ◌∙◌, ◌⊎◌, inl, inr, ◌≤◌, ◌&&◌, ◌||◌, ◌++◌, ◌∷◌, [], zero, suc, ℕ, Bool, true, false, List, Option, Some, None, refl, sym, ap, ap₂, subst, arith, length, drop, codes, cond, length-append}
 use Rattle.std.specs.Prelude.{find, nat_lt, slice_get, is_some, encode_utf8}
 use Rattle.std.specs.Option.{option_map_or}

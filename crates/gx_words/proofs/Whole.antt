@@ -1,4 +1,4 @@
--- Where nothing is wrong with the words, a command was found, with all that it wants.
+-- If nothing is wrong with the arguments, a command was found, with all that it needs.
 use Rattle.std.proofs.Common.{◌≡◌, ◌∙◌, inl, inr, ◌<◌, ◌≤◌, ◌^◌, ◌||◌, [], ◌∷◌, ℕ, Bool, true, false, not, List, Option, Some, None, refl, sym, ap, ap₂, arith, length, map, codes, cond}
 use Rattle.std.specs.Prelude.{is_some, option_map, pos}
 use Rattle.std.specs.List.{fold, list_any}
@@ -86,7 +86,7 @@ class_accepted classes are a rows exact parser named good =
     let its = one_of_two good.word (bytes_eq (codes "1") good.word) (bytes_eq (codes "3") good.word) refl refl among in
     (its.0, ap (λ id. first_of id rows) (sym named) ∙ (good.first ∙ ap (λ w. Some w) (sym its.1)))
 
--- the program's words, with the words for classes where they lie
+-- the program's arguments, with the names of classes where they lie
 module _ (classes : ClassWords) (are : AreClasses classes) where
   -- and the same as its parser has them at work
   abbrev app : App
@@ -277,7 +277,7 @@ module _ (classes : ClassWords) (are : AreClasses classes) where
   rest_shapes [] = []
   rest_shapes (s ∷ rest) = rest
 
-  -- what tells how its commands are used
+  -- the text that says how its commands are used
   abbrev help_command : Shape
   help_command = first_shape (rest_shapes (rest_shapes (rest_shapes (rest_shapes (rest_shapes (rest_shapes at_work.subs))))))
 

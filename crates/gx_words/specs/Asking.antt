@@ -1,4 +1,4 @@
--- What the words ask for: the command that they name, and what is given to it.
+-- What the arguments ask for: the command that they name, and what is given to it.
 use Rattle.std.specs.Prelude.{◌≡◌, ◌≢◌, ◌<◌, ◌≤◌, ◌^◌, ◌⊎◌, ℕ, List, [], Option, Some, None, pos, codes}
 use Rattle.std.specs.Str.Parse.{IsNumeral, digits_value, without_leading_plus}
 use Rattle.clap.specs.Words.{HasKind, IsSignedIn, Row, Text, fault_of, first_of, one_of, subcommand_of, without_minus}
@@ -71,7 +71,7 @@ pub record IsAccepted (rows : List Row) (name : Text) (lowest highest : ℕ) : T
   pub accepted : IsSignedIn (pos lowest) (pos highest) word
   pub fits : highest < 2 ^ 32
 
--- a class was given, or is there by default: all that `plain` wants
+-- a class was given, or is the default: all that `plain` needs
 abbrev pub HasClass : List Row → Type 0
 HasClass rows = (dimensions : Dimensions) × IsOfClass rows dimensions
 
@@ -108,20 +108,20 @@ IsWhole (Some command) =
     ⊎ ((command.0 ≡ codes "dump") × HasDump command.1) ⊎ ((command.0 ≡ codes "verify") × HasDump command.1)
     ⊎ ((command.0 ≡ codes "storm") × HasStorm command.1)
 
--- Nothing is wrong with the words, and they ask for this.
+-- Nothing is wrong with the arguments, and they ask for this.
 pub record WordsAsk (words : List Text) (asked : AskedCommand) : Type 0 where
   pub classes : ClassWords
   pub are : AreClasses classes
   pub right : fault_of (gist_app classes) words ≡ []
   pub asks : IsAsked (subcommand_of (gist_app classes) words) asked
 
--- An error is about memory, or says what is wrong with the words.
+-- An error is about memory, or says what is wrong with the arguments.
 pub record IsErrorOf (words : List Text) (error : Error) : Type 0 where
   pub classes : ClassWords
   pub are : AreClasses classes
   pub kind : HasKind (fault_of (gist_app classes) words) error
 
--- Something is wrong with the words.
+-- Something is wrong with the arguments.
 pub record AreWrong (words : List Text) : Type 0 where
   pub classes : ClassWords
   pub are : AreClasses classes

@@ -1,4 +1,4 @@
--- The program: the words that it takes, as its parser reads them.
+-- The program: the arguments that it takes, as its parser reads them.
 use Rattle.std.specs.Prelude.{◌≡◌, ◌∷◌, ℕ, List, [], Some, map, pos, codes, true, false}
 use Rattle.std.specs.Borrow.{Bor}
 use Rattle.clap.specs.Words.{App, Rule, Text, app_of, new_app, new_rule, rule_of, with_rule, with_subcommand}
@@ -28,14 +28,14 @@ frames_rule = record (new_rule (codes "frames")) {
   defaults = codes "64" ∷ [];
 }
 
--- the words for classes of keys, wherever they lie: `1` and `3`
+-- the names of classes of keys, wherever they lie: `1` and `3`
 abbrev pub ClassWords : Type 0
 ClassWords = Bor (List (Bor Text))
 
 abbrev pub AreClasses : ClassWords → Type 0
 AreClasses words = map (λ word. word.now) words.now ≡ codes "1" ∷ codes "3" ∷ []
 
--- `--class C`, one of these words, and 1 where it isn't given
+-- `--class C`, one of these names, and 1 if it isn't given
 abbrev pub class_rule : ClassWords → Rule
 class_rule words = record (new_rule (codes "class")) {
   long = Some (codes "class");

@@ -1,4 +1,4 @@
--- What the system answers when it is asked for the words of the program.
+-- What the system replies when it is asked for the arguments of the program.
 use Rattle.std.specs.Prelude.{◌≡◌, ℕ, Option, None, Some, Ok, Err, vec_len}
 use Rattle.std.specs.declared.vec.Vec.{Vec}
 use Rattle.std.specs.declared.env.FillError.TheVariants.{NotPresent}
@@ -19,7 +19,8 @@ abbrev pub IsWord : {A : Type 0} → ℕ → Option Answer → Option (Vec ℕ A
 IsWord place last None = IsLast place last
 IsWord place last (Some bytes) = IsLong place (vec_len bytes) last
 
--- words aren't read to their end for one that isn't text, which was the last that it was asked for; or for lack of memory
+-- arguments aren't read to their end because of one that isn't text, which was the last that was asked for; or for lack
+-- of memory
 abbrev pub Stopped : WordsFault → Option Answer → Type 0
 Stopped (NotText place) last = (bytes : ℕ) × IsLong place bytes last
 Stopped Memory last = Unit {0}

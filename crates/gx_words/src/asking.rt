@@ -1,4 +1,4 @@
-//! What the words ask for, read of what clap found in them.
+//! What the arguments ask for, read from clap's matches.
 ghost use Rattle.std.specs.Prelude.{◌≡◌, codes, ℕ};
 ghost use Rattle.clap.specs.Words.{found_of, rows_of, subcommand_rows_of};
 ghost use Rattle.gx_words.specs.Asking.{IsAccepted, IsNumber, IsOfClass, HasClass, HasFormat, HasRun};
@@ -10,18 +10,18 @@ use clap::ArgMatches;
 /// How many dimensions the boxes of an index have.
 #[derive(Clone, Copy, Debug, PartialEq, Eq)]
 pub enum Dimensions {
-    /// They are boxes of the plane, class 1.
+    /// Boxes of the plane, class 1.
     Two,
-    /// They are boxes of space, class 3.
+    /// Boxes of space, class 3.
     Three,
 }
 
-/// What the words ask for.
+/// What the arguments ask for.
 #[derive(Clone, Copy, Debug, PartialEq, Eq)]
 pub enum AskedCommand<'a> {
     /// A script on an index in memory.
     Plain {
-        /// Of which boxes.
+        /// The boxes of the index.
         dimensions: Dimensions,
     },
     /// A new index on a file.
@@ -32,7 +32,7 @@ pub enum AskedCommand<'a> {
         pages: u32,
         /// How many entries a node may have, 4 to 100.
         most: u16,
-        /// Of which boxes.
+        /// The boxes of the index.
         dimensions: Dimensions,
     },
     /// A script on the index of a file.
@@ -63,7 +63,7 @@ pub enum AskedCommand<'a> {
     },
 }
 
-/// What the words ask for that clap found these matches in.
+/// What the arguments with these matches ask for.
 pub(crate) fn what_is_asked<'a>(found: &ArgMatches<'a>) -> AskedCommand<'a>
     requires { IsWhole (subcommand_rows_of found.now) }
     ensures { IsAsked (subcommand_rows_of found.now) result }
@@ -79,7 +79,7 @@ pub(crate) fn what_is_asked<'a>(found: &ArgMatches<'a>) -> AskedCommand<'a>
     }
 }
 
-// What is given to `plain`.
+// The arguments of `plain`.
 fn plain_of<'a>(given: &ArgMatches<'a>) -> AskedCommand<'a>
     requires { HasClass (rows_of (found_of given.now)) }
     ensures { Asks (codes "plain") (rows_of (found_of given.now)) result }
@@ -89,7 +89,7 @@ fn plain_of<'a>(given: &ArgMatches<'a>) -> AskedCommand<'a>
     }
 }
 
-// What is given to `format`.
+// The arguments of `format`.
 fn format_of<'a>(given: &ArgMatches<'a>) -> AskedCommand<'a>
     requires { HasFormat (rows_of (found_of given.now)) }
     ensures { Asks (codes "format") (rows_of (found_of given.now)) result }
@@ -102,7 +102,7 @@ fn format_of<'a>(given: &ArgMatches<'a>) -> AskedCommand<'a>
     }
 }
 
-// What is given to `run`.
+// The arguments of `run`.
 fn run_of<'a>(given: &ArgMatches<'a>) -> AskedCommand<'a>
     requires { HasRun (rows_of (found_of given.now)) }
     ensures { Asks (codes "run") (rows_of (found_of given.now)) result }
@@ -113,7 +113,7 @@ fn run_of<'a>(given: &ArgMatches<'a>) -> AskedCommand<'a>
     }
 }
 
-// What is given to `dump`.
+// The arguments of `dump`.
 fn dump_of<'a>(given: &ArgMatches<'a>) -> AskedCommand<'a>
     requires { HasDump (rows_of (found_of given.now)) }
     ensures { Asks (codes "dump") (rows_of (found_of given.now)) result }
@@ -123,7 +123,7 @@ fn dump_of<'a>(given: &ArgMatches<'a>) -> AskedCommand<'a>
     }
 }
 
-// What is given to `verify`.
+// The arguments of `verify`.
 fn verify_of<'a>(given: &ArgMatches<'a>) -> AskedCommand<'a>
     requires { HasDump (rows_of (found_of given.now)) }
     ensures { Asks (codes "verify") (rows_of (found_of given.now)) result }
@@ -133,7 +133,7 @@ fn verify_of<'a>(given: &ArgMatches<'a>) -> AskedCommand<'a>
     }
 }
 
-// What is given to `storm`.
+// The arguments of `storm`.
 fn storm_of<'a>(given: &ArgMatches<'a>) -> AskedCommand<'a>
     requires { HasStorm (rows_of (found_of given.now)) }
     ensures { Asks (codes "storm") (rows_of (found_of given.now)) result }
@@ -145,7 +145,7 @@ fn storm_of<'a>(given: &ArgMatches<'a>) -> AskedCommand<'a>
     }
 }
 
-// Of which boxes the class is that is given.
+// The boxes of the class that is given.
 fn dimensions_of(given: &ArgMatches) -> Dimensions
     requires { HasClass (rows_of (found_of given.now)) }
     ensures { IsOfClass (rows_of (found_of given.now)) result }
@@ -153,7 +153,7 @@ fn dimensions_of(given: &ArgMatches) -> Dimensions
     dimensions_named(given.get_str("class").unwrap())
 }
 
-// Of which boxes the class is that has this word.
+// The boxes of the class with this name.
 fn dimensions_named(word: &str) -> Dimensions
     requires { (known : Dimensions) × (class_word known ≡ word.now) }
     ensures { class_word result ≡ word.now }
@@ -165,7 +165,7 @@ fn dimensions_named(word: &str) -> Dimensions
     }
 }
 
-// The number under this name, of a word that passed the test for one.
+// The number under this name, which passed clap's test for one.
 fn number(given: &ArgMatches, name: &str) -> u32
     requires { (lowest : ℕ) × (highest : ℕ) × IsAccepted (rows_of (found_of given.now)) name.now lowest highest }
     ensures { (lowest highest : ℕ) → IsAccepted (rows_of (found_of given.now)) name.now lowest highest

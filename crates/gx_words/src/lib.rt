@@ -1,4 +1,4 @@
-//! The words that the program `gist` is called with, and what they ask for.
+//! The command-line arguments of the program `gist`, and what they ask for.
 #![tactic(auto)]
 
 mod asking;

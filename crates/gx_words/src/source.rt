@@ -1,4 +1,4 @@
-//! The words that the program is called with.
+//! The arguments that the program is called with.
 ghost use Rattle.std.specs.Prelude.{◌≡◌, ◌≤◌, None, Some, IfErr, IfOk, length, vec_len};
 ghost use Rattle.gx_words.specs.Source.{IsLast, IsWord, Stopped};
 
@@ -6,25 +6,25 @@ use std::alloc::Global;
 use std::env::FillError;
 use std::rt::Env;
 
-/// Why the words couldn't be read.
+/// Why the arguments couldn't be read.
 #[derive(Clone, Copy, Debug, PartialEq, Eq)]
 pub enum WordsFault {
-    /// The word at this place isn't text; the program's own name is at place 0.
+    /// The argument at this place isn't text; the program's own name is at place 0.
     NotText(usize),
     /// Memory was refused.
     Memory,
 }
 
-/// What the system answers when it is asked for a word.
+/// The system's reply to a request for an argument.
 #[derive(Clone, Copy)]
 pub struct Answer {
     /// The place that was asked for.
     pub place: usize,
-    /// How many bytes the word has; or that there is none, or that it is longer than the room for it.
+    /// How many bytes the argument has; or that there is none, or that it is longer than the buffer.
     pub length: Result<usize, FillError>,
 }
 
-/// What gives the words of the program, with its last answer.
+/// The source of the program's arguments, with the system's last reply.
 #[derive(Drop)]
 pub struct Source<R> {
     env: R,
@@ -32,14 +32,15 @@ pub struct Source<R> {
 }
 
 impl<R: Env> Source<R> {
-    /// It wasn't asked yet.
+    /// A source that wasn't asked yet.
     pub fn new(env: R) -> Source<R>
         ensures { result ≡ record { env = env; last = None } }
     {
         Source { env, last: None }
     }
 
-    // Asks for the word at this place, and notes the answer. Where there is room for it, its bytes are at the front.
+    // Asks for the argument at this place, and notes the reply. If the buffer has room for it, its bytes are at the
+    // front.
     fn ask(&mut self, place: usize, room: &mut [u8]) -> Result<usize, FillError>
         ensures noted { self.new.last ≡ Some (record { place = place; length = result }) }
         ensures bound { IfOk result (λ n. n ≤ length room.new) }
@@ -49,7 +50,7 @@ impl<R: Env> Source<R> {
         length
     }
 
-    // The bytes of the word at this place, if there is one: as many as the system says.
+    // The bytes of the argument at this place, if there is one: as many as the system says.
     fn word(&mut self, alloc: Global, place: usize) -> Result<Option<Vec<u8>>, WordsFault>
         ensures word { IfOk result (IsWord place self.new.last) }
         ensures stopped { IfErr result (λ fault. Stopped fault self.new.last) }
@@ -70,9 +71,9 @@ impl<R: Env> Source<R> {
     }
 }
 
-/// The words that the program was called with, its own name first: each in its place, up to the first place for which
-/// the system has none. `NotText` with the place of the first that isn't text, and `Memory` where memory for them is
-/// refused.
+/// Reads the arguments that the program was called with, its own name first: each in its place, up to the first place
+/// for which the system has none. Refused with `NotText` and the place of the first that isn't text, and with `Memory`
+/// if memory for them is refused.
 pub fn given<R: Env>(source: &mut Source<R>, alloc: Global) -> Result<Vec<String>, WordsFault>
     ensures whole { IfOk result (λ words. IsLast (vec_len words) source.new.last) }
     ensures stopped { IfErr result (λ fault. Stopped fault source.new.last) }

@@ -1,4 +1,4 @@
-//! The words that the program takes, and what they say of it.
+//! The program's commands and their arguments, with their help texts.
 ghost use Rattle.std.specs.Prelude.{◌≡◌, map, codes, IfOk, IfErr};
 ghost use Rattle.clap.specs.Words.{app_of, new_app};
 ghost use Rattle.gx_words.specs.Asking.{IsErrorOf, WordsAsk};
@@ -36,7 +36,7 @@ const VERIFY: &str =
 const STORM: &str =
     "Four sessions in threads, each of which makes 200 random calls by the seed 1; a plain index replays what they asked and were answered:\n\ngist storm 1 4 200\n\nIt touches no file. docs/SCRIPT.md has what it prints.";
 
-/// The program, which calls itself `gist` whatever its file is called, and wants a command.
+/// The program: it calls itself `gist`, whatever its file is called, and needs a command.
 fn program<'a>(alloc: Global) -> Result<Command<'a>, AllocError>
     ensures { IfOk result (λ command. app_of command ≡ with_required (new_app (codes "gist"))) }
 {
@@ -183,14 +183,14 @@ fn class<'a>(alloc: Global, classes: &'a [&'a str]) -> Arg<'a>
         .help("Of which boxes the index is: 1, of the plane; 3, of space")
 }
 
-// The words for classes of keys.
+// The names of classes of keys.
 fn classes<'a>() -> &'a [&'a str]
     ensures { AreClasses result }
 {
     &["1", "3"]
 }
 
-/// The command that the words are read by, with these for classes of keys.
+/// The command by which clap reads the arguments, with these names for classes of keys.
 fn command<'a>(alloc: Global, classes: &'a [&'a str]) -> Result<Command<'a>, AllocError>
     ensures { IfOk result (λ command. app_of command ≡ gist_app classes.entry) }
 {
@@ -203,7 +203,7 @@ fn command<'a>(alloc: Global, classes: &'a [&'a str]) -> Result<Command<'a>, All
         .subcommand(storm(alloc)?)
 }
 
-/// Reads the words, the program's own name first: what they ask for, or what is wrong with them.
+/// Reads the arguments, the program's own name first: returns what they ask for, or what is wrong with them.
 pub fn read<'a, S: AsStr>(alloc: Global, words: &'a [S]) -> Result<AskedCommand<'a>, Error>
     ensures asked { IfOk result (WordsAsk (map S.text words.now)) }
     ensures wrong { IfErr result (IsErrorOf (map S.text words.now)) }

@@ -55,7 +55,7 @@ pub(crate) struct Index {
 }
 
 impl Index {
-    /// A new one. `None` where memory is refused.
+    /// A new one. `None` if memory is refused.
     pub(crate) fn fresh(alloc: Global) -> Option<Index> {
         let sectors = usize::try_from(sectors_for(PAGES)).ok()?;
         let disk = Counted::new(MemDisk::new(alloc, sectors).ok()?);
@@ -66,7 +66,7 @@ impl Index {
         })
     }
 
-    /// A call from its ask to its reply, with the events that it waits for. `None` where it takes too many.
+    /// A call from its ask to its reply, with the events that it waits for. `None` if it takes too many.
     pub(crate) fn call(&mut self, call: Call<Box2>) -> Option<Reply<Box2>> {
         let mut driver = Driver::new(SESSION);
         let mut event = Event::Ask(SESSION, call);
@@ -84,7 +84,7 @@ impl Index {
         None
     }
 
-    /// The greatest page that is taken.
+    /// The greatest page in use.
     pub(crate) fn used(&self) -> u32 {
         self.engine.used()
     }

@@ -1,8 +1,9 @@
 //! What a session does.
 ghost use Rattle.std.specs.Prelude.{◌≤◌, length};
 
-use crate::drawn::{draw_box, draw_window};
+use crate::drawn::RandomKeys;
 use crate::index::driven::Index;
+use gx_class::Box2Class;
 use gx_geom::Box2;
 use gx_machine::{Call, Entry, MAX_CLAIMS, MAX_PREDICATES, Query, Reply};
 use std::alloc::Global;
@@ -66,7 +67,7 @@ pub(crate) fn insert_many(
         if row % each == 0 {
             begin_transaction(index)?;
         }
-        let key = draw_box(&mut state)?;
+        let key = Box2Class::draw_key(&mut state)?;
         let entry = Entry { row, key };
         insert(index, &entry)?;
         entries.push(entry).ok()?;
@@ -98,7 +99,7 @@ pub(crate) fn query_many(index: &mut Index, queries: u64) -> Option<u64> {
         if number % each == 0 {
             begin_transaction(index)?;
         }
-        let window = draw_window(&mut state)?;
+        let window = Box2Class::draw_window(&mut state)?;
         sum = sum.wrapping_add(query(index, window)?);
         if number % each == each - 1 || number == queries - 1 {
             abort(index)?;

@@ -1,7 +1,6 @@
 //! Pages laid down, made in frames, and looked at.
-ghost use Rattle.std.specs.Prelude.{◌≡◌, ◌+◌, ◌*◌, ◌≤◌, ℕ, None};
+ghost use Rattle.std.specs.Prelude.{◌≡◌, ◌+◌, ◌*◌, ◌≤◌};
 ghost use Rattle.gx_pool.specs.Area.{IsPage};
-ghost use Rattle.gx_pool.specs.State.{clean_count, kept};
 
 use crate::leaves::leaf;
 use crate::numbers::draw;

@@ -1,16 +1,19 @@
-//! Looks for boxes, and for pairs that are to be marked.
+//! Looks for keys, and for pairs that are to be marked.
 ghost use Rattle.std.specs.Prelude.{◌≤◌, length};
 
-use crate::drawn::{draw_place, draw_window};
+use crate::drawn::{RandomKeys, draw_place};
 use crate::tree::writes::{Tree, root};
-use gx_class::Box2Class;
-use gx_geom::Box2;
+use gx_class::Probing;
 use gx_machine::{Entry, Query};
 use gx_tree::{Look, Pages, Sought, Wanted, look_step, set_mark_step};
 use std::alloc::Global;
 
 /// A look from the root to its end, which reads no page twice.
-fn look_for(alloc: Global, tree: &mut Tree, wanted: &Wanted<Box2Class>) -> Option<Look<Box2>> {
+fn look_for<K: Probing>(
+    alloc: Global,
+    tree: &mut Tree<K>,
+    wanted: &Wanted<K>,
+) -> Option<Look<K::Key>> {
     let mut look = Look::new(alloc, root(tree)).ok()?;
     for _ in 0..tree.used() {
         if look.is_done() {
@@ -21,8 +24,8 @@ fn look_for(alloc: Global, tree: &mut Tree, wanted: &Wanted<Box2Class>) -> Optio
     Some(look)
 }
 
-/// Looks for boxes that overlap a window: how many there are, and their rows, all added up.
-fn query(alloc: Global, tree: &mut Tree, window: Box2) -> Option<u64> {
+/// Looks for keys that overlap a window: how many there are, and their rows, all added up.
+fn query<K: Probing>(alloc: Global, tree: &mut Tree<K>, window: K::Key) -> Option<u64> {
     let wanted = Wanted::matching(&Query::Overlap(window));
     let look = look_for(alloc, tree, &wanted)?;
     let mut sum: u64 = 0;
@@ -33,18 +36,22 @@ fn query(alloc: Global, tree: &mut Tree, window: Box2) -> Option<u64> {
 }
 
 /// Makes so many queries of random windows, and returns the sum.
-pub(crate) fn query_many(alloc: Global, tree: &mut Tree, queries: u64) -> Option<u64> {
+pub(crate) fn query_many<K: RandomKeys>(
+    alloc: Global,
+    tree: &mut Tree<K>,
+    queries: u64,
+) -> Option<u64> {
     let mut state = 11;
     let mut sum: u64 = 0;
     for _ in 0..queries {
-        let window = draw_window(&mut state)?;
+        let window = K::draw_window(&mut state)?;
         sum = sum.wrapping_add(query(alloc, tree, window)?);
     }
     Some(sum)
 }
 
 /// Looks for a pair and marks it: its leaf, its slot and whether it was marked before, all added up.
-fn mark(alloc: Global, tree: &mut Tree, entry: &Entry<Box2>) -> Option<u64> {
+fn mark<K: Probing>(alloc: Global, tree: &mut Tree<K>, entry: &Entry<K::Key>) -> Option<u64> {
     let wanted = Wanted::entry(entry);
     let look = look_for(alloc, tree, &wanted)?;
     let leaf = look.found().first()?.leaf;
@@ -59,10 +66,10 @@ fn mark(alloc: Global, tree: &mut Tree, entry: &Entry<Box2>) -> Option<u64> {
 }
 
 /// Marks so many random pairs of these, and returns the sum.
-pub(crate) fn mark_many(
+pub(crate) fn mark_many<K: Probing>(
     alloc: Global,
-    tree: &mut Tree,
-    entries: &[Entry<Box2>],
+    tree: &mut Tree<K>,
+    entries: &[Entry<K::Key>],
     marks: u64,
 ) -> Option<u64>
     requires { 1 ≤ length entries.now }

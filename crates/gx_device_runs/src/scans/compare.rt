@@ -38,7 +38,7 @@ fn stands_at(slots: &[u16], place: usize, slot: usize) -> bool {
     }
 }
 
-/// How many of a leaf's keys match, and how many of those are of live pairs. `None` where a scan, slot by slot or by
+/// How many of a leaf's keys match, and how many of those are of live pairs. `None` if a scan, slot by slot or by
 /// blocks, finds another slot than the filter.
 fn compare_keys(leaf: &Leaf<'_, Box2Class>, query: &Query<Box2>) -> Option<(u64, u64)> {
     let probe = Box2Class::probe_keys(query);
@@ -73,8 +73,8 @@ fn compare_keys(leaf: &Leaf<'_, Box2Class>, query: &Query<Box2>) -> Option<(u64,
     Some((hits, live_hits))
 }
 
-/// How many of an inner node's bounds may have a match below them. `None` where a scan, slot by slot or by blocks,
-/// finds another slot than the filter.
+/// How many of an inner node's bounds may have a match below them. `None` if a scan, slot by slot or by blocks, finds
+/// another slot than the filter.
 fn compare_bounds(inner: &Inner<'_, Box2Class>, query: &Query<Box2>) -> Option<u64> {
     let probe = Box2Class::probe_bounds(query);
     let mut next = inner.next_hit(&probe, 0);
@@ -103,7 +103,7 @@ fn compare_bounds(inner: &Inner<'_, Box2Class>, query: &Query<Box2>) -> Option<u
     Some(hits)
 }
 
-/// What a query finds on a leaf and an inner node. `None` where a scan and the filter differ.
+/// What a query finds on a leaf and an inner node. `None` if a scan and the filter differ.
 pub(crate) fn compare(
     leaf: &Leaf<'_, Box2Class>,
     inner: &Inner<'_, Box2Class>,

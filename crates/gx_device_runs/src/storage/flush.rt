@@ -4,10 +4,10 @@ use crate::storage::fault::{StorageFault, What};
 use crate::storage::run::{Run, snapshot};
 use crate::storage::volume::{Fault, NoSplit};
 use gx_class::{Box2Class, KeyClass};
+use gx_events::Need;
 use gx_geom::{Box2, Refusal};
 use gx_glog::{Stage, Turn};
 use gx_record::{Mark, Record};
-use gx_storage::Help;
 use gx_store::StoreFault;
 use gx_tree::{SplitFault, StepFault};
 
@@ -15,7 +15,7 @@ use gx_tree::{SplitFault, StepFault};
 pub(crate) const TRIES: u32 = 200;
 
 impl Run {
-    /// A call of the device has failed: the machine stops, or the call is made again.
+    /// Handles a failed call of the device: the machine stops, or the call is made again.
     pub(crate) fn failed(&mut self) -> Result<(), StorageFault> {
         self.counts.count(Done::Faults);
         if self.failing.stops {
@@ -32,7 +32,7 @@ impl Run {
         }
     }
 
-    /// Does what a step waits for that was refused.
+    /// Makes the event that a refused step waits for.
     pub(crate) fn help(&mut self, fault: Fault) -> Result<(), StorageFault> {
         match fault {
             StepFault::Pages(StoreFault::Device) => self.failed(),
@@ -41,7 +41,7 @@ impl Run {
         }
     }
 
-    /// The same for a split.
+    /// Makes the event that a refused split waits for.
     pub(crate) fn help_split(&mut self, fault: NoSplit) -> Result<(), StorageFault> {
         match fault {
             SplitFault::PagesFull => Err(StorageFault::PagesFull),
@@ -49,17 +49,18 @@ impl Run {
         }
     }
 
-    /// Does what the storage says that helps.
+    /// Makes the event that the storage names.
     fn follow(&mut self, fault: StoreFault) -> Result<(), StorageFault> {
         match self.volume.help(fault) {
-            Some(Help::Log) => {
+            Some(Need::Log) => {
                 self.counts.count(Done::LogHelps);
                 self.log_step()
             }
-            Some(Help::Write(page)) => {
+            Some(Need::Write(page)) => {
                 self.counts.count(Done::WriteHelps);
                 self.write_page(page)
             }
+            Some(Need::Checkpoint) => self.checkpoint(),
             None => Ok(()),
         }
     }
@@ -153,7 +154,7 @@ impl Run {
         Err(StorageFault::Unexpected(What::PageWrite))
     }
 
-    /// Settles what was written.
+    /// Makes all writes durable.
     pub(crate) fn sync(&mut self) -> Result<(), StorageFault> {
         for _try in 0..TRIES {
             match self.volume.sync() {

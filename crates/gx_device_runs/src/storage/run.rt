@@ -27,7 +27,7 @@ pub(crate) struct Setting {
 pub(crate) struct Failing {
     pub(crate) call: u64,
     pub(crate) stops: bool,
-    /// Whether a write that fails is made none the less.
+    /// Whether a write that fails is made all the same.
     pub(crate) done: bool,
 }
 
@@ -61,7 +61,7 @@ pub(crate) struct Run {
     pub(crate) keys: Vec<Box2>,
 }
 
-/// The pages, the set and the numbers of now.
+/// The present pages, set and numbers.
 pub(crate) fn snapshot(
     alloc: Global,
     tree: &Mirror,

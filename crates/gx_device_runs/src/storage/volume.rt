@@ -1,4 +1,4 @@
-//! Pages with their log, of which no more has to be known than that no turn of the log is under way.
+//! Pages with their log. Its contracts need to know only that no turn of the log is under way.
 ghost use Rattle.std.specs.Prelude.{◌≡◌, ◌<◌, false};
 ghost use Rattle.gx_glog.specs.declared.stage.Turn.TheVariants.{Closed};
 ghost use Rattle.gx_record.specs.Format.{IsInRange};
@@ -7,12 +7,13 @@ ghost use Rattle.gx_device_runs.specs.Ready.{IsReady};
 
 use gx_class::{Probing, ReadKeys};
 use gx_disk::SectorDisk;
+use gx_events::Need;
 use gx_geom::Refusal;
 use gx_glog::{PLACES, Stage, Turn};
 use gx_machine::Entry;
 use gx_node::MAX_ENTRIES;
 use gx_record::Record;
-use gx_storage::{Help, Storage};
+use gx_storage::Storage;
 use gx_store::StoreFault;
 use gx_tree::{Descended, RootSplit, Sought, Split, SplitFault, StepFault, TraversalItem};
 
@@ -57,7 +58,7 @@ impl<D: SectorDisk, K: ReadKeys> Volume<D, K> {
         self.turning || self.storage.places() >= PLACES
     }
 
-    pub(crate) fn help(&self, fault: StoreFault) -> Option<Help> {
+    pub(crate) fn help(&self, fault: StoreFault) -> Option<Need> {
         self.storage.help(fault)
     }
 

@@ -13,7 +13,7 @@ use crate::tally::{Tally, counted};
 use std::fs::File;
 use std::os::unix::fs::FileExt;
 
-// A call's outcome. A refusal is kept, and counts as one fault.
+// Returns a call's outcome. A refusal is kept, and counts as one fault.
 fn noted(
     kept: &mut Option<DiskFault>,
     faults: &mut Tally,
@@ -30,8 +30,8 @@ fn noted(
     counted(faults, outcome)
 }
 
-// Settles what a file holds; of one that grew its size too. It makes no call of the system where an early sync has
-// settled all writes already, and none where one failed, which refuses this sync too.
+// Syncs a file's data, and its size if it grew. It makes no system call if an early sync has made all writes durable
+// already, and none if an early sync has failed, whose fault refuses this sync too.
 fn settle(file: &File, grown: bool, ahead: Option<&Marks>) -> Result<(), DiskFault> {
     if let Some(fault) = ahead.and_then(Marks::fault) {
         return Err(fault);

@@ -45,7 +45,7 @@ pub(super) fn file_fault(outcome: io::Result<()>) -> Result<(), DiskFault>
     }
 }
 
-// Another handle of the file where the system opened it in the place of a standard stream that is closed.
+// Returns another handle of the file if the system gave it the descriptor of a standard stream, which was closed.
 fn beside_streams(file: File) -> Result<File, DiskFault>
     ensures { IfOk result IsNoStream }
 {
@@ -59,7 +59,7 @@ fn beside_streams(file: File) -> Result<File, DiskFault>
     }
 }
 
-// The lock on the file, which ends with the file's last handle. Those who read alone share it.
+// Locks the file until its last handle is closed. Openers that only read share the lock.
 fn lock(file: File, writable: bool) -> Result<File, DiskFault>
     ensures { IfOk result (λ locked. locked ≡ file) }
 {
@@ -75,7 +75,7 @@ fn lock(file: File, writable: bool) -> Result<File, DiskFault>
     }
 }
 
-// How many bytes the file has. A folder, which can be opened for reading, is none.
+// How many bytes the file has. A directory, which can be opened for reading, is refused.
 fn size_of_file(file: &File) -> Result<u64, DiskFault> {
     match file.metadata() {
         Ok(metadata) if metadata.is_dir() => Err(DiskFault::File(ErrorKind::IsADirectory)),
@@ -84,7 +84,7 @@ fn size_of_file(file: &File) -> Result<u64, DiskFault> {
     }
 }
 
-// Whether two openings are of one file.
+// Whether two handles are of the same file.
 fn is_same_file(one: &File, other: &File) -> Result<bool, DiskFault> {
     match (one.metadata(), other.metadata()) {
         (Ok(one), Ok(other)) => Ok(one.dev() == other.dev() && one.ino() == other.ino()),
@@ -113,8 +113,8 @@ fn open_file<R: Files<File = File>, P: AsPath>(
 }
 
 impl FileDisk {
-    /// Opens or makes a file, and extends a shorter one with zero bytes. What is there stays.
-    /// Refused where the file can't be opened, where another has it, and where its length can't be set.
+    /// Opens or creates a file, and extends a shorter one with zero bytes. The file's contents stay. Refused if the
+    /// file can't be opened, if another opener has it, and if its length can't be set.
     pub fn create<R: Files<File = File>, P: AsPath>(
         rt: &R,
         path: P,
@@ -143,17 +143,17 @@ impl FileDisk {
         })
     }
 
-    /// Opens a file that is there, of as many sectors as it has whole.
-    /// Refused where the file can't be opened, and where another has it.
+    /// Opens an existing file as a device of as many whole sectors as it has. Refused if the file can't be opened, and
+    /// if another opener has it.
     pub fn open<R: Files<File = File>, P: AsPath>(rt: &R, path: P) -> Result<FileDisk, DiskFault>
         ensures { IfOk result (IsOpened true) }
     {
         FileDisk::open_there(rt, path, true)
     }
 
-    /// Opens a file that is there for reading alone, of as many sectors as it has whole. Each write and each sync of it
-    /// is refused with `ReadOnly`, and counts as any other.
-    /// Refused where the file can't be opened, and where another has it for writing.
+    /// Opens an existing file only for reading, as a device of as many whole sectors as it has. Each write and each
+    /// sync of it is refused with `ReadOnly`, and is counted as any other. Refused if the file can't be opened, and if
+    /// another opener has it for writing.
     pub fn open_to_read<R: Files<File = File>, P: AsPath>(
         rt: &R,
         path: P,
@@ -163,11 +163,11 @@ impl FileDisk {
         FileDisk::open_there(rt, path, false)
     }
 
-    /// A handle for early syncs of the device's file, which is opened once more by its path, for reading alone and
-    /// without a lock. From now on the device makes no sync that the handle has made for it, and none once one of the
-    /// handle's failed.
+    /// Returns a handle for early syncs of the device's file, which is opened once more by its path, only for reading
+    /// and without a lock. From now on the device makes no sync that the handle has already made, and none once a sync
+    /// of the handle has failed.
     ///
-    /// Refused where the file can't be opened, where another one lies at the path, and where memory lacks.
+    /// Refused if the file can't be opened, if another file lies at the path, and if memory is refused.
     pub fn sync_ahead<R: Files<File = File>, P: AsPath>(
         &mut self,
         rt: &R,

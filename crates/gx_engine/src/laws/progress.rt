@@ -1,4 +1,4 @@
-//! What holds of an engine's events one after another. Each function is its contract alone.
+//! Laws of progress of an engine's events. Each function is its contract alone.
 ghost use Rattle.std.specs.Prelude.{◌≤◌, ◌<◌, ℕ};
 ghost use Rattle.gx_events.specs.declared.event.Event.TheVariants.{CheckpointStep, LogStep, Move, WritePage};
 ghost use Rattle.gx_events.specs.declared.outcome.Outcome.TheVariants.{Help, More};
@@ -18,11 +18,10 @@ use gx_class::ReadKeys;
 use gx_disk::SectorDisk;
 use gx_index_laws::measures::what_a_call_has_left_is_bounded;
 
-/// What there is left to flush falls by each step of the log and of a checkpoint that did work, and by each page that
-/// was written: the calls of the batch in flight and of the one that fills, the dirty pages, and the calls of a
-/// checkpoint that runs, or that will be due once what fills is in flight. It is below 2^13 with frames for 4,096
-/// pages. So while no session works, and no call of the device fails, the log and a checkpoint have nothing to do
-/// after so many steps.
+/// What is left to flush falls with each step of the log and of a checkpoint that did work, and with each page that was
+/// written: the calls of the batch in flight and of the one that fills, the dirty pages, and the calls of a checkpoint
+/// that runs, or that will be due once what fills is in flight. It is below 2^13 with frames for 4,096 pages. So while
+/// no session works, and no call of the device fails, the log and a checkpoint have nothing to do after so many steps.
 pub fn each_step_leaves_less_to_flush<D: SectorDisk, K: ReadKeys>()
     ensures log { (old new : Parts K.Key D)
         → Makes K.Key.Shape K.ReadKeys D.state old LogStep More new → backlog new < backlog old }
@@ -35,13 +34,13 @@ pub fn each_step_leaves_less_to_flush<D: SectorDisk, K: ReadKeys>()
     ensures few { (e : Parts K.Key D) → dirty_count e.volume.shelf.frames ≤ FRAMES → backlog e < 8192 }
 {}
 
-/// What a session's move waits for has work to do: the page that it names may be written, the checkpoint that it
-/// names runs or is due, and while the log is named no checkpoint runs, and the log has a call to make. So it is of
-/// an engine over a device that doesn't lie. And a move that waits leaves each session's call as much to do as it
-/// had, as does each event that helps.
+/// What a session's move waits for has work to do: the page that it names may be written; the checkpoint that it names
+/// runs or is due; if it names the log, no checkpoint runs, and the log has a call to make. This holds of an engine
+/// over an honest device. A move that waits leaves each session's call as much to do as before, and so does each event
+/// that helps.
 ///
-/// Over any device a move that waits leaves no more to flush, and an event that has work to do does it, and leaves
-/// less to flush, or is refused.
+/// Over any device a move that waits leaves no more to flush, and an event that has work to do either does it and
+/// leaves less to flush, or is refused.
 pub fn a_move_that_waits_names_work<D: SectorDisk, K: ReadKeys>()
     ensures work { (l : Limits) → NamesWork K.Key.Shape K.ReadKeys D.state l }
     ensures helps { (old new : Parts K.Key D) (n : Need) (given : Outcome K.Key) → HasWork n old
@@ -52,11 +51,11 @@ pub fn a_move_that_waits_names_work<D: SectorDisk, K: ReadKeys>()
         → backlog new ≤ backlog old }
 {}
 
-/// What a page that is to be brought waits for has work to do, in the same sense, and leaves no more to flush. So it
-/// is of an engine over a device that doesn't lie.
+/// What the bringing of a page waits for has work to do, in the same sense, and leaves no more to flush. This holds of
+/// an engine over an honest device.
 ///
-/// Over any device what has work to do does it by its own call too, and leaves less to flush, or is refused; and what
-/// there is to flush is below 2^13 in any engine.
+/// Over any device what has work to do, when called directly, does it and leaves less to flush, or is refused; and what
+/// is left to flush is below 2^13 in any engine.
 pub fn a_page_that_waits_names_work<D: SectorDisk, K: ReadKeys>()
     ensures work { (l : Limits) → PageNamesWork K.Key.Shape K.ReadKeys D.state l }
     ensures helps { (old new : Parts K.Key D) (n : Need) (given : Outcome K.Key) → HasWork n old
@@ -65,8 +64,8 @@ pub fn a_page_that_waits_names_work<D: SectorDisk, K: ReadKeys>()
     ensures few { (e : Parts K.Key D) → IsOrderly e → backlog e < 8192 }
 {}
 
-/// A session's call that is moved alone, with the events that help it, comes to its end: fewer than 2^55 events are
-/// made of it. So it is of an engine over a device that doesn't lie.
+/// A session's call that is moved alone, with the events that help it, ends: it takes fewer than 2^55 events. This
+/// holds of an engine over an honest device.
 pub fn a_call_alone_ends<D: SectorDisk, K: ReadKeys>()
     ensures { (l : Limits) → CallEnds K.Key.Shape K.ReadKeys D.state l }
 {
@@ -74,7 +73,7 @@ pub fn a_call_alone_ends<D: SectorDisk, K: ReadKeys>()
     what_a_call_has_left_is_bounded::<K::Key>();
 }
 
-/// No call that is asked of an engine over a device that doesn't lie is given up.
+/// No call of an engine over an honest device is given up.
 pub fn no_call_is_given_up<D: SectorDisk, K: ReadKeys>()
     ensures { (l : Limits) → AskedEnds K.Key.Shape K.ReadKeys D.state l }
 {

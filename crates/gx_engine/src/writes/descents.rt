@@ -1,4 +1,4 @@
-//! The descent of an insert whose pair stands nowhere yet: from the root to a leaf that has room.
+//! The descent of an insert whose pair is in no leaf yet: from the root to a leaf that has room.
 ghost use Rattle.std.specs.Prelude.{◌≡◌, ◌≢◌, ◌-◌, ◌≤◌, true, false, length};
 ghost use Rattle.gx_machine.specs.declared.call.Call.TheVariants.{Insert};
 ghost use Rattle.gx_machine.specs.Keys.{keys_of};
@@ -33,7 +33,7 @@ use gx_store::StoreFault;
 use gx_tree::{Descended, RootSplit, Split, SplitFault, StepFault, TraversalItem};
 
 impl<D: SectorDisk, K: ReadKeys> Engine<D, K> {
-    // A descent's step at the page of its item, as storage makes it.
+    // Makes a descent's step at the page of its item, as storage does.
     fn step_down(
         &mut self,
         item: &TraversalItem,
@@ -49,7 +49,7 @@ impl<D: SectorDisk, K: ReadKeys> Engine<D, K> {
         self.storage.descend(item, coming)
     }
 
-    // A session's transaction adds an entry's pair to the leaf of an item, as storage does.
+    // Adds an entry's pair to the leaf of an item for a session's transaction, as storage does.
     fn add_pair(
         &mut self,
         session: u8,
@@ -68,7 +68,7 @@ impl<D: SectorDisk, K: ReadKeys> Engine<D, K> {
         self.storage.add(transaction, item.page(), entry)
     }
 
-    // An insert's pair, which was absent, was added to the leaf of an item: that is noted, and the call is answered.
+    // Notes that an insert's pair, which was absent, was added to the leaf of an item, and replies to the call.
     fn note_added(
         &mut self,
         session: u8,
@@ -88,7 +88,7 @@ impl<D: SectorDisk, K: ReadKeys> Engine<D, K> {
         Outcome::Replied(Reply::Inserted)
     }
 
-    // An insert has descended to a leaf that has room: its pair is added there, and noted.
+    // Adds an insert's pair to the leaf with room to which it descended, and notes that.
     fn add_here(
         &mut self,
         session: u8,
@@ -121,7 +121,7 @@ impl<D: SectorDisk, K: ReadKeys> Engine<D, K> {
         }
     }
 
-    // Takes out of a leaf what is marked and no session claims, as storage does.
+    // Removes from a leaf the marked pairs that no session claims, as storage does.
     fn sweep_leaf(&mut self, item: &TraversalItem) -> Result<bool, StepFault<StoreFault>>
         requires early { is_due self.old ≡ false }
         ensures sweeps { LeafSweepingAs K.Key.Shape K.ReadKeys D.state
@@ -170,8 +170,8 @@ impl<D: SectorDisk, K: ReadKeys> Engine<D, K> {
         split
     }
 
-    // The node of a descent's item is full, and below the root: it is split, or its parent has no place for that. The
-    // descent begins again.
+    // Splits the full node of a descent's item, below the root, unless its parent has no room for that. The descent
+    // begins again.
     fn split_below(&mut self, session: u8, parent: u32, item: TraversalItem) -> Outcome<K::Key>
         requires session { is_session session ≡ true }
         requires open { is_open (phase_in session self.old) ≡ true }
@@ -197,7 +197,7 @@ impl<D: SectorDisk, K: ReadKeys> Engine<D, K> {
         }
     }
 
-    // The root is full: it is split, and the descent begins again.
+    // Splits the full root, and starts the descent again.
     fn split_top(&mut self, session: u8, parent: u32, item: TraversalItem) -> Outcome<K::Key>
         requires session { is_session session ≡ true }
         requires open { is_open (phase_in session self.old) ≡ true }
@@ -223,7 +223,7 @@ impl<D: SectorDisk, K: ReadKeys> Engine<D, K> {
         }
     }
 
-    // The node of a descent's item is full, and has no pair that a sweep takes: it is split.
+    // Splits the full node of a descent's item, which has no pair that a sweep removes.
     fn split_here(&mut self, session: u8, parent: u32, item: TraversalItem) -> Outcome<K::Key>
         requires session { is_session session ≡ true }
         requires open { is_open (phase_in session self.old) ≡ true }
@@ -247,7 +247,7 @@ impl<D: SectorDisk, K: ReadKeys> Engine<D, K> {
         }
     }
 
-    // A descent has come to a full leaf: that is swept, or where it has nothing to take split.
+    // Sweeps the full leaf to which a descent has come, or splits it if it has nothing to sweep.
     fn make_room(&mut self, session: u8, parent: u32, item: TraversalItem) -> Outcome<K::Key>
         requires session { is_session session ≡ true }
         requires open { is_open (phase_in session self.old) ≡ true }
@@ -277,7 +277,7 @@ impl<D: SectorDisk, K: ReadKeys> Engine<D, K> {
         }
     }
 
-    // A descent makes its next step, where no checkpoint is due.
+    // Makes a descent's next step, if no checkpoint is due.
     fn descend_on(
         &mut self,
         session: u8,
@@ -314,17 +314,17 @@ impl<D: SectorDisk, K: ReadKeys> Engine<D, K> {
         }
     }
 
-    /// A move of a session's insert, which is open, while it descends: its pair stands nowhere yet. The step at the
-    /// page of its item goes down to the entry of least penalty, whose bound is widened first where it doesn't cover
-    /// the key; or adds the pair to a leaf that has room, and the call is answered; or sweeps a full leaf that has
-    /// something to sweep, and stays there; or splits any other full node, and the descent begins again at the root,
-    /// as it does where its page was split meanwhile: `More`. Pages are taken by splits alone. Whatever it changes is
-    /// logged. It makes no write and no sync of the device and takes no memory.
+    /// Makes a move of a session's open insert while it descends: its pair is in no leaf yet. The step at the page of
+    /// its item goes down to the entry of least penalty, whose bound is widened first if it doesn't cover the key; or
+    /// adds the pair to a leaf that has room, and replies to the call; or sweeps a full leaf that has something to
+    /// sweep, and stays there; or splits any other full node, after which the descent begins again at the root, as it
+    /// does if its page was split meanwhile. Unless it replies, it returns `More`. Only splits take pages. Each change
+    /// is logged. It makes no write and no sync of the device and takes no memory.
     ///
-    /// `Help(Checkpoint)` exactly where a checkpoint runs or 24 places of the extent are taken, and nothing has
-    /// changed. `Help` where the record doesn't fit the batch that fills or a page couldn't be brought, with what has
-    /// to happen first; the insert is then at what it was. Where too few pages are left for a split the call is
-    /// closed: `Replied(Refused(PagesFull))`. Where the device failed, or a page didn't read, the engine has failed,
+    /// Returns `Help(Checkpoint)` exactly if a checkpoint runs or 24 places of the extent are taken, and nothing has
+    /// changed. Returns `Help` with the event that has to come first, if the record doesn't fit the batch that fills or
+    /// a page couldn't be brought; the insert's state is unchanged then. If too few pages are left for a split the call
+    /// is closed: `Replied(Refused(PagesFull))`. If the device failed, or a page can't be read, the engine has failed,
     /// and the reply is `Device` or `Damaged`.
     pub(crate) fn descend(
         &mut self,

@@ -4,7 +4,7 @@ ghost use Rattle.gx_machine.specs.declared.call.Call.{Call};
 ghost use Rattle.gx_machine.specs.declared.entry.Entry.{Entry};
 ghost use Rattle.gx_machine.specs.declared.call.Call.TheVariants.{Delete, Insert};
 ghost use Rattle.gx_machine.specs.Machine.{is_session};
-ghost use Rattle.gx_events.specs.Events.{FindsAbsent, Works};
+ghost use Rattle.gx_events.specs.Happenings.{FindsAbsent, Works};
 ghost use Rattle.gx_phases.specs.declared.phase.Phase.TheVariants.{Open};
 ghost use Rattle.gx_phases.specs.Moves.{WritesEntry, answered_state, is_open};
 ghost use Rattle.gx_engine.specs.Calls.{IsRead, TellsAs, TellsWhere};
@@ -27,8 +27,8 @@ use gx_machine::{Entry, Reply};
 use gx_storage::laws::{a_volume_shows_keys, a_volume_shows_the_logs_tree};
 use gx_tree::{Look, TraversalItem, Wanted};
 
-/// What a write's look turns into: where it has found its pair, a seek from the leaf in which that stood; else it
-/// goes on.
+/// What follows a write's look: if it has found its pair, a seek from the leaf in which that was; else the look goes
+/// on.
 fn turned<B: Shape>(look: Look<B>) -> Work<B>
     ensures { result ≡ turned_by look.found.items look }
 {
@@ -39,9 +39,9 @@ fn turned<B: Shape>(look: Look<B>) -> Work<B>
 }
 
 impl<D: SectorDisk, K: ReadKeys + Probing> Engine<D, K> {
-    // A write's look reads its next page; one that hasn't begun reads the root. It goes on, or where it has found its
-    // pair seeks that. `Ok` gives the look where nothing is left to read and its pair is nowhere, and `Err` is what
-    // else came of it.
+    // A write's look reads its next page; one that hasn't begun reads the root. It goes on, or seeks its pair if it has
+    // found that. Returns `Ok` with the look if nothing is left to read and no leaf has the pair, else `Err` with the
+    // outcome.
     fn look_on(
         &mut self,
         session: u8,
@@ -91,8 +91,8 @@ impl<D: SectorDisk, K: ReadKeys + Probing> Engine<D, K> {
         Err(Outcome::More)
     }
 
-    // A write's look begins at the root, or goes on, and reads a page. `Ok` gives the look where nothing is left to
-    // read and its pair is nowhere, and `Err` is what else came of it.
+    // A write's look begins at the root, or goes on, and reads a page. Returns `Ok` with the look if nothing is left to
+    // read and no leaf has the pair, else `Err` with the outcome.
     fn write_look(
         &mut self,
         session: u8,
@@ -137,7 +137,7 @@ impl<D: SectorDisk, K: ReadKeys + Probing> Engine<D, K> {
         }
     }
 
-    // An insert's look has ended, and its pair is nowhere: the insert descends from the root.
+    // Sets an insert to descend from the root: its look has ended, and no leaf has its pair.
     fn begin_descent(&mut self, session: u8, look: &Look<K::Key>) -> Outcome<K::Key>
         requires session { is_session session ≡ true }
         requires works { self.old.sessions.failed ≡ false }
@@ -158,7 +158,7 @@ impl<D: SectorDisk, K: ReadKeys + Probing> Engine<D, K> {
         Outcome::More
     }
 
-    // A delete's look has ended, and its pair is nowhere.
+    // Replies to a delete whose look has ended while no leaf has its pair.
     fn find_absent(&mut self, session: u8, look: &Look<K::Key>) -> Outcome<K::Key>
         requires session { is_session session ≡ true }
         requires open { is_open (phase_in session self.old) ≡ true }
@@ -178,14 +178,14 @@ impl<D: SectorDisk, K: ReadKeys + Probing> Engine<D, K> {
         self.close(session, Refusal::Absent)
     }
 
-    /// A move of a session's insert, which is open, while it looks for its pair. Each reads one page, the first one
-    /// the root: `More`. Where the page has the pair, live or marked, the insert seeks it from there on; and where no
+    /// Makes a move of a session's open insert while it looks for its pair. Each move reads one page, the first one the
+    /// root, and returns `More`. If the page has the pair, live or marked, the insert seeks it from there on; if no
     /// page is left to read, it descends from the root. It makes no write and no sync of the device. The look takes
-    /// memory for what it stacks and finds, and what comes after it takes none.
+    /// memory for what it stacks and finds, and what follows it takes none.
     ///
-    /// `Help` where a page couldn't be brought, with what has to happen first; the insert is then at what it was.
-    /// Refused memory closes the call: `Replied(Refused(Memory))`. Where the device failed, or a page didn't read,
-    /// the engine has failed, and the reply is `Device` or `Damaged`.
+    /// Returns `Help` with the event that has to come first, if a page couldn't be brought; the insert's state is
+    /// unchanged then. If memory is refused the call is closed: `Replied(Refused(Memory))`. If the device failed, or a
+    /// page can't be read, the engine has failed, and the reply is `Device` or `Damaged`.
     pub(crate) fn insert_look(&mut self, session: u8, entry: Entry<K::Key>) -> Outcome<K::Key>
         requires session { is_session session ≡ true }
         requires looks { (work : declared.Work K.Key) × (phase_in session self.old ≡ Open (Insert entry) work)
@@ -205,8 +205,8 @@ impl<D: SectorDisk, K: ReadKeys + Probing> Engine<D, K> {
         }
     }
 
-    /// A move of a session's delete, which is open, while it looks for its pair: as an insert's, but where no page is
-    /// left to read the pair is nowhere, and the reply is `Refused(Absent)`.
+    /// Makes a move of a session's open delete while it looks for its pair: as an insert's, but if no page is left to
+    /// read, no leaf has the pair, and the reply is `Refused(Absent)`.
     pub(crate) fn delete_look(&mut self, session: u8, entry: Entry<K::Key>) -> Outcome<K::Key>
         requires session { is_session session ≡ true }
         requires looks { (work : declared.Work K.Key) × (phase_in session self.old ≡ Open (Delete entry) work)

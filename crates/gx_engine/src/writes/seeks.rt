@@ -1,4 +1,4 @@
-//! An insert or a delete whose pair stands seeks it, and clears or sets its mark.
+//! An insert or a delete whose pair is in a leaf seeks it, and clears or sets its mark.
 ghost use Rattle.std.specs.Prelude.{◌≡◌, ◌-◌, ℕ, not, true, false, IfOk, IfErr};
 ghost use Rattle.gx_machine.specs.declared.call.Call.TheVariants.{Delete, Insert};
 ghost use Rattle.gx_machine.specs.Keys.{keys_of};
@@ -53,8 +53,8 @@ fn standing(marked: bool) -> Refusal
 }
 
 impl<D: SectorDisk, K: ReadKeys> Engine<D, K> {
-    // What is noted of a write: it was made in this leaf, with the mark that was found, and is answered; or its pair
-    // is sought further to the right.
+    // Notes a write: it was made in this leaf, with the mark that was found, and gets its reply; or its pair is sought
+    // further to the right.
     fn note_set(
         &mut self,
         session: u8,
@@ -85,7 +85,7 @@ impl<D: SectorDisk, K: ReadKeys> Engine<D, K> {
 }
 
 impl<D: SectorDisk, K: ReadKeys + Probing> Engine<D, K> {
-    // Gives an entry's pair a mark, where it is in this leaf.
+    // Gives an entry's pair a mark, if it is in this leaf.
     fn give_mark(
         &mut self,
         session: u8,
@@ -126,8 +126,8 @@ impl<D: SectorDisk, K: ReadKeys + Probing> Engine<D, K> {
         self.storage.seek_step(&wanted, leaf)
     }
 
-    // A write whose pair stands in this leaf with the other mark, while no checkpoint is due: the mark is set, and
-    // that is logged, noted and answered.
+    // Sets the mark of a write's pair, which is in this leaf with the other mark, while no checkpoint is due. Logs and
+    // notes that, and replies.
     fn set_found(
         &mut self,
         session: u8,
@@ -162,8 +162,8 @@ impl<D: SectorDisk, K: ReadKeys + Probing> Engine<D, K> {
         }
     }
 
-    // What comes of a write whose pair was sought: it is sought further to the right; or it stands as the write would
-    // leave it, and the call is closed; or its mark is set, once no checkpoint is due.
+    // What follows the seek of a write's pair: it is sought further to the right; or it has the write's mark already,
+    // and the call is closed; or its mark is set, once no checkpoint is due.
     fn write_sought(
         &mut self,
         session: u8,
@@ -202,7 +202,7 @@ impl<D: SectorDisk, K: ReadKeys + Probing> Engine<D, K> {
         }
     }
 
-    // A move of a write whose pair stands in this leaf or to the right of it.
+    // Makes a move of a write whose pair is in this leaf or to the right of it.
     fn write_at(
         &mut self,
         session: u8,
@@ -229,16 +229,15 @@ impl<D: SectorDisk, K: ReadKeys + Probing> Engine<D, K> {
         }
     }
 
-    /// A move of a session's insert, which is open, while it seeks its pair, which stands in this leaf or to the
-    /// right of it. Where it isn't in this leaf, the insert seeks it in the next one: `More`. Where it is live, the
-    /// call is closed: `Replied(Refused(Present))`, and nothing is logged. Where it is marked, the mark is cleared,
-    /// which is logged and noted: `Replied(Inserted)`. It makes no write and no sync of the device, and takes no
-    /// memory.
+    /// Makes a move of a session's open insert while it seeks its pair, which is in this leaf or to the right of it. If
+    /// it isn't in this leaf, the insert seeks it in the next one: `More`. If it is live, the call is closed:
+    /// `Replied(Refused(Present))`, and nothing is logged. If it is marked, the mark is cleared, which is logged and
+    /// noted: `Replied(Inserted)`. It makes no write and no sync of the device, and takes no memory.
     ///
-    /// `Help(Checkpoint)` where the mark is to be cleared while a checkpoint runs or 24 places of the extent are
-    /// taken; `Help` where the record doesn't fit the batch that fills or a page couldn't be brought, with what has
-    /// to happen first. The insert is then at what it was. Where the device failed, or a page didn't read, the engine
-    /// has failed, and the reply is `Device` or `Damaged`.
+    /// Returns `Help(Checkpoint)` if the mark is to be cleared while a checkpoint runs or 24 places of the extent are
+    /// taken; `Help` with the event that has to come first, if the record doesn't fit the batch that fills or a page
+    /// couldn't be brought. The insert's state is unchanged then. If the device failed, or a page can't be read, the
+    /// engine has failed, and the reply is `Device` or `Damaged`.
     pub(crate) fn insert_at(
         &mut self,
         session: u8,
@@ -257,8 +256,8 @@ impl<D: SectorDisk, K: ReadKeys + Probing> Engine<D, K> {
         self.write_at(session, entry, leaf, false)
     }
 
-    /// A move of a session's delete, which is open, while it seeks its pair: as an insert's, but the mark is set
-    /// where the pair is live, `Replied(Deleted)`, and where it is marked the reply is `Refused(Absent)`.
+    /// Makes a move of a session's open delete while it seeks its pair: as an insert's, but if the pair is live its
+    /// mark is set, `Replied(Deleted)`, and if it is marked the reply is `Refused(Absent)`.
     pub(crate) fn delete_at(
         &mut self,
         session: u8,

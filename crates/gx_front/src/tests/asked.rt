@@ -1,9 +1,9 @@
-//! What words ask for, and the statuses of those that ask for nothing.
+//! Tests of what arguments ask for, and of the statuses of those that ask for nothing.
 use super::ends;
 use gx_words::{AskedCommand, Dimensions, WordsFault, read};
 use std::process::Abort;
 
-// What asks for nothing the program knows, and calls for help.
+// Arguments that ask for nothing the program knows, or for help.
 const WRONG: [&[&str]; 34] = [
     &["gist"],
     &["gist", "plane"],
@@ -41,7 +41,7 @@ const WRONG: [&[&str]; 34] = [
     &[],
 ];
 
-// What asks for something, and what it asks for.
+// Arguments that ask for something, and what they ask for.
 const RIGHT: [(&[&str], AskedCommand); 12] = [
     (
         &["gist", "plain"],

@@ -12,8 +12,8 @@ const ASKS: &[u8] =
 const ANSWERS: &[u8] =
     b"1 ok\n1 inserted\n1 found 1\n1 entry 7 0 0 0 2 2 2\n1 found 0\n1 refused 6 bad box\nline 6 bad\n1 committed 1\n";
 
-// A script of boxes of space is answered in memory as on a file that was formatted for them, whose tree and numbers are
-// told. No command on the file says of which boxes it is.
+// A script of boxes of space gets the same replies in memory and on a file that was formatted for them; the file is
+// then dumped and verified. No command on the file names the class.
 #[test]
 fn boxes_of_space(rt: HostRuntime) {
     let steps: [Case; 5] = [

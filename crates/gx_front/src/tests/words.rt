@@ -1,10 +1,10 @@
-//! The words of a process.
+//! Tests of the arguments of a process.
 use gx_words::{Source, given};
 use std::env::FillError;
 use std::process::Abort;
 use std::rt::Env;
 
-// The words that a process was started with.
+// The arguments that a process was started with.
 #[derive(Clone, Copy)]
 struct Started(&'static [&'static str]);
 
@@ -38,8 +38,7 @@ const STARTS: [&[&str]; 3] = [
     &["gist", LONGER],
 ];
 
-// Each word is given, whole and in its place: none, an empty one, one as long as the first room for it, and longer
-// ones.
+// Each argument is read whole and in its place: none, an empty one, one as long as the first buffer, and longer ones.
 #[test]
 fn words_are_given_whole(rt: HostRuntime) {
     for words in STARTS {

@@ -7,7 +7,7 @@ use gx_tree::Pages;
 use std::process::Abort;
 
 /// What a test returns.
-#[derive(Clone, Copy, Debug, PartialEq, Eq)]
+#[derive(Clone, Copy, PartialEq, Eq)]
 pub(crate) enum Told {
     Legal,
     Broken(u32, Rule),

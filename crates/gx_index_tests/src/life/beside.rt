@@ -54,7 +54,7 @@ fn is_moved(plain: &mut Plain, session: u8, sealed: Option<u64>, outcome: &Outco
     }
 }
 
-// Whether what comes of an event is what the machine does by it; it does it.
+// Whether the outcome of an event is what the machine does by it; it does it.
 fn is_the_machines(
     plain: &mut Plain,
     event: &Event<Box2>,
@@ -75,7 +75,7 @@ fn sealed_by(before: u64, now: u64) -> Option<u64> {
     if now == before { None } else { Some(now) }
 }
 
-/// Makes an event of an engine and of the machine. None where what comes of it differs, or it is refused.
+/// Makes an event of an engine and of the machine. None if the outcome differs, or it is refused.
 pub(crate) fn make(
     engine: &mut Working,
     plain: &mut Plain,

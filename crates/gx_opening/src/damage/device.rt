@@ -1,4 +1,4 @@
-//! A device is examined for what is damaged on it.
+//! Examines a device for damage.
 ghost use Rattle.std.specs.Prelude.{◌≡◌, ◌≤◌, ◌<◌, true, Err};
 ghost use Rattle.gx_disk.specs.declared.layout.TheConstants.{MIN_SECTORS};
 ghost use Rattle.gx_disk.specs.Device.{SameDevice};
@@ -18,7 +18,7 @@ use gx_glog::Parameters;
 use gx_machine::Entry;
 use std::alloc::Global;
 
-// What is damaged of a log that isn't read back.
+// The damage of a log that can't be read back.
 fn in_log(fault: LogFault) -> Result<Option<Damage>, Refusal>
     ensures { result ≡ log_told_of fault }
 {
@@ -29,7 +29,7 @@ fn in_log(fault: LogFault) -> Result<Option<Damage>, Refusal>
     }
 }
 
-// What is damaged in the log or the pages of a device that is formatted for this.
+// The damage in the log or the pages of a device that is formatted for this.
 fn in_index<D: SectorDisk, K: ReadKeys>(
     alloc: Global,
     room: LogRoom<Entry<K::Key>>,
@@ -52,21 +52,21 @@ fn in_index<D: SectorDisk, K: ReadKeys>(
     }
 }
 
-/// Looks for what is damaged on a device whose opening was refused as damaged, so that the user can be told where: in
-/// its log, by the body, the place in it and the rule; or in its pages, as that opening has laid them: too many in use,
-/// the first in use that can't be read, or one that doesn't keep a rule of a legal tree. The device is settled and
-/// read, and handed back: to an honest one nothing is written, and a crash leaves nothing that it couldn't have left
-/// before.
+/// Looks for the damage on a device whose opening was refused as damaged, for the user: in its log, by the body, the
+/// place in it and the rule; or in its pages, as that opening has laid them: too many in use, the first in use that
+/// can't be read, or one that doesn't keep a rule of a legal tree. The device is synced, read and returned: nothing is
+/// written to an honest one, and a crash leaves nothing that it couldn't have left before.
 ///
-/// Of an honest device what is said is true of its bytes, and the first of these: its log is damaged; more pages are in
-/// use than there are; one in use can't be read, and those before it can; one breaks its rule in the tree of the pages
-/// in use; or the tree is legal, and an entry which an open transaction touched is neither in its leaf nor to the right
-/// of it. `None` exactly where nothing of this is so: the log is found, and the pages are sound by what it says. So of
-/// a device that an opening refused as damaged something is said, unless this is refused.
+/// The report on an honest device is true of its bytes, and is the first of these that holds: its log is damaged; more
+/// pages are in use than the device has; one in use can't be read, and those before it can; one breaks its rule in the
+/// tree of the pages in use; or the tree is legal, and an entry which an open transaction touched is neither in its
+/// leaf nor to the right of it. `None` exactly if none of these holds: the log is found, and the pages are sound by
+/// what it says. So there is a report on every honest device that an opening refused as damaged, unless this function
+/// is refused.
 ///
-/// Refused where the device isn't formatted for such an index, as [`formatted_for`]; where a call fails (`Device`); and
-/// where memory is refused (`Memory`): before any call, or behind a log that is found, of which no more pages are in
-/// use than there are. So a damaged log is never refused behind the first call, unless a call fails.
+/// Refused if the device isn't formatted for such an index, as [`formatted_for`] is; if a call fails (`Device`); and if
+/// memory is refused (`Memory`): before any call, or after the log was found and no more pages are in use than the
+/// device has. So once the first call is made, a damaged log is always reported, unless a call fails.
 pub fn examine<D: SectorDisk, K: ReadKeys>(
     alloc: Global,
     disk: D,

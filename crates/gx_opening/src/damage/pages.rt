@@ -1,4 +1,4 @@
-//! What is damaged in the pages of a device.
+//! Examines the pages of a device for damage.
 ghost use Rattle.std.specs.Prelude.{◌≡◌, ◌≤◌, ◌<◌, ◌+◌, ◌*◌, ℕ, true, None, Err, IfOk, IfErr, MatchOption};
 ghost use Rattle.gx_disk.specs.declared.layout.TheConstants.{MAX_PAGES, PAGES_AT, PAGE_SECTORS};
 ghost use Rattle.gx_machine.specs.Keys.{keys_of, entry_cmp};
@@ -29,7 +29,7 @@ use std::alloc::Global;
 /// How many frames the tests take.
 const FRAMES: usize = 16;
 
-/// Half of how many pairs are kept at once by the test that none stands twice.
+/// Half of how many pairs the test that no pair is in two places keeps at once.
 const HALF: usize = 65_536;
 
 // The first page in use that can't be read, if there is one. No page is kept yet.
@@ -52,14 +52,14 @@ fn unreadable<D: SectorDisk, K: ReadKeys>(
             Ok(()) => {}
             Err(PoolFault::Damaged) => return Ok(Some(before + 1)),
             Err(PoolFault::Device) => return Err(Refusal::Device),
-            // never, with frames that are all clean
+            // can't happen, since all frames are clean
             Err(PoolFault::NoCleanFrame) => return Err(Refusal::Memory),
         }
     }
     Ok(None)
 }
 
-// What is told of a tree that doesn't pass its test.
+// The report on a tree that doesn't pass its test.
 fn broken(fault: LegalityFault<StoreFault>) -> Result<Option<Damage>, Refusal>
     ensures { result ≡ tree_told_of fault }
 {
@@ -71,7 +71,7 @@ fn broken(fault: LegalityFault<StoreFault>) -> Result<Option<Damage>, Refusal>
     }
 }
 
-// What is damaged in the tree that a store shows.
+// The damage in the tree that a store shows.
 fn in_tree<D: SectorDisk, K: ReadKeys>(
     alloc: Global,
     store: &mut PageStore<D, K>,
@@ -96,7 +96,7 @@ fn in_tree<D: SectorDisk, K: ReadKeys>(
     }
 }
 
-// What is damaged in the tree of a device whose pages in use are no more than there are, and can be read.
+// The damage in the tree of a device that has all pages in use and whose pages in use can be read.
 fn over_frames<D: SectorDisk, K: ReadKeys>(
     alloc: Global,
     disk: D,
@@ -123,8 +123,8 @@ fn over_frames<D: SectorDisk, K: ReadKeys>(
     (store.into_disk(), found)
 }
 
-/// What is damaged in the pages of a device of so many, with so many entries a node at most,
-/// by what its log tells. The device is handed back.
+/// The damage in the pages of a device of so many, with so many entries in a node at most, by what its log gives.
+/// Returns the device too.
 pub(crate) fn in_pages<D: SectorDisk, K: ReadKeys>(
     alloc: Global,
     disk: D,

@@ -1,4 +1,4 @@
-//! An engine that was opened, before anyone has asked it anything.
+//! An engine that was opened, before its first call.
 ghost use Rattle.gx_engine.specs.States.{Parts};
 ghost use Rattle.gx_restart.specs.Setting.{IsOpenedAs, IsSeenIdleAs};
 

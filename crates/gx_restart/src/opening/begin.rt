@@ -1,5 +1,5 @@
-//! An engine over what stands on a device: the gates behind its log are closed, and it starts there.
-ghost use Rattle.std.specs.Prelude.{◌≡◌, ◌≤◌, ◌+◌, ◌*◌, ℕ, false, true, length, IfOk, MatchResult};
+//! Starts an engine over the index that was found on a device, once the gates behind its log are closed.
+ghost use Rattle.std.specs.Prelude.{◌≡◌, ◌≤◌, ◌+◌, ◌*◌, false, true, length, IfOk, MatchResult};
 ghost use Rattle.gx_disk.specs.declared.layout.TheConstants.{PAGES_AT, PAGE_SECTORS};
 ghost use Rattle.gx_opening.specs.Formatted.{IsAllowed};
 ghost use Rattle.gx_opening.specs.Standing.{MayStart};
@@ -8,18 +8,33 @@ ghost use Rattle.gx_restart.specs.Beginning.{CountsOpening, IsSameDevice, Starts
 ghost use Rattle.gx_restart.specs.Setting.{HasBegunAs, HasNotBegunAs};
 ghost use Rattle.gx_restart.specs.Undoing.{OnlyUndoes};
 
-use super::losers::losers_of;
 use gx_class::ReadKeys;
 use gx_disk::SectorDisk;
 use gx_engine::laws::{a_class_is_lawful, a_log_tells_who_was_cut_off};
 use gx_engine::{Engine, NotOpened, Start};
 use gx_geom::{Refusal, Shape};
 use gx_glog::close_later;
+use gx_machine::Entry;
 use gx_opening::Standing;
 use gx_opening::laws::what_is_found_stands;
+use gx_recovery::Touch;
 use std::alloc::{AllocError, Global};
 
-// What an engine starts from, where this was found.
+// Copies what transactions touched.
+fn copied<B: Copy>(
+    alloc: Global,
+    touched: &[Touch<Entry<B>>],
+) -> Result<Vec<Touch<Entry<B>>>, AllocError>
+    ensures { IfOk result (λ losers. losers.items ≡ touched.now) }
+{
+    let mut losers = Vec::with_capacity(alloc, touched.len())?;
+    for touch in touched {
+        losers.push(*touch)?;
+    }
+    Ok(losers)
+}
+
+// The state that an engine starts from, by what was found.
 fn start_of<B: Shape>(
     alloc: Global,
     standing: &Standing<B>,
@@ -38,14 +53,14 @@ fn start_of<B: Shape>(
         counter: told.counter(),
         used: told.used(),
         next: told.next(),
-        losers: losers_of(alloc, told.touched())?,
+        losers: copied(alloc, told.touched())?,
     })
 }
 
-/// Closes the gates behind the log that stands on a device, and starts an engine there: a checkpoint runs, each
-/// transaction that a crash cut off has a session that undoes it, and the other sessions are free.
+/// Closes the gates behind the log on a device, and starts an engine there: a checkpoint runs, each transaction that a
+/// crash cut off has a session that undoes it, and the other sessions are free.
 ///
-/// Refused with `Device` where a call fails, and with `Memory`. On an honest device, at each moment, also where it is
+/// Refused with `Device` if a call fails, and with `Memory`. On an honest device, at each moment, also if it is
 /// refused, what a crash may leave stands for the set that the log keeps, under its number.
 pub(crate) fn begin_engine<D: SectorDisk, K: ReadKeys>(
     alloc: Global,

@@ -1,4 +1,5 @@
-//! What an engine does before it is handed out: its checkpoint is ended, and what a crash cut off is undone.
+//! What an engine does before an opening returns it: it ends its checkpoint, and undoes the transactions that a crash
+//! cut off.
 ghost use Rattle.std.specs.Prelude.{◌≡◌, ◌-◌, false, true, IfErr, IfOk};
 ghost use Rattle.gx_machine.specs.Machine.{is_session};
 ghost use Rattle.gx_engine.specs.Calls.{TellsWhy};
@@ -29,7 +30,7 @@ fn end_checkpoint<D: SectorDisk, K: ReadKeys + Probing>(
     }
 }
 
-// Whether a session has nothing to undo any more, by the reply that ended its moves.
+// Whether a session has nothing left to undo, by the reply that ended its moves.
 fn undone<B: Copy>(reply: Option<Reply<B>>) -> Result<(), Refusal>
     ensures { result ≡ undone_by reply }
 {
@@ -40,7 +41,7 @@ fn undone<B: Copy>(reply: Option<Reply<B>>) -> Result<(), Refusal>
     }
 }
 
-// Undoes a session's transaction, where it has one.
+// Undoes a session's transaction, if it has one.
 fn undo<D: SectorDisk, K: ReadKeys + Probing>(
     engine: &mut Engine<D, K>,
     session: u8,
@@ -73,11 +74,11 @@ fn undo_all<D: SectorDisk, K: ReadKeys + Probing>(engine: &mut Engine<D, K>) -> 
     Ok(())
 }
 
-/// Ends the checkpoint that an engine began with, and undoes what a crash cut off: no session has a transaction then,
-/// and no checkpoint runs.
+/// Ends the checkpoint that an engine began with, and undoes the transactions that a crash cut off: no session has a
+/// transaction then, and no checkpoint runs.
 ///
-/// Refused as the event was that was refused, and with `Damaged` where 2^56 events of a session take no end, as they
-/// may on a device that lies. It takes no memory.
+/// Refused as an event was refused, and with `Damaged` if a session's undo doesn't end within 2^56 events, as can
+/// happen on a device that isn't honest. It takes no memory.
 pub(crate) fn finish<D: SectorDisk, K: ReadKeys + Probing>(
     engine: &mut Engine<D, K>,
 ) -> Result<(), Refusal>

@@ -1,4 +1,4 @@
-//! A page that is brought, after whatever gives it a frame.
+//! Brings a page, after the events that free a frame for it.
 ghost use Rattle.std.specs.Prelude.{◌≡◌, ◌≤◌, true, OnOk, IfOk};
 ghost use Rattle.gx_store.specs.State.{IsHeld};
 ghost use Rattle.gx_restart.specs.Bringing.{Brings, Helps, IsBrought, IsHelped, IsTaken};
@@ -21,7 +21,7 @@ fn make<D: SectorDisk, K: ReadKeys>(engine: &mut Engine<D, K>, named: Need) -> O
     }
 }
 
-// The same; or why it was refused.
+// Makes the event that is named. Returns why it was refused, if it was.
 fn help<D: SectorDisk, K: ReadKeys>(engine: &mut Engine<D, K>, named: Need) -> Result<(), Refusal>
     ensures { IsHelped (Helps K.Key.Shape K.ReadKeys D.state) named engine.old result engine.new }
 {
@@ -31,7 +31,7 @@ fn help<D: SectorDisk, K: ReadKeys>(engine: &mut Engine<D, K>, named: Need) -> R
     }
 }
 
-// Brings a page: whether it was. Where it finds no frame, what gives one is done.
+// Tries to bring a page, and returns whether it was brought. If no frame is free, makes the event that frees one.
 fn take<D: SectorDisk, K: ReadKeys>(engine: &mut Engine<D, K>, page: u32) -> Result<bool, Refusal>
     requires from { 1 ≤ page }
     requires to { page ≤ engine.old.volume.shelf.used }
@@ -50,12 +50,12 @@ fn take<D: SectorDisk, K: ReadKeys>(engine: &mut Engine<D, K>, page: u32) -> Res
     }
 }
 
-/// Brings a page that is taken into a frame, where it is held until pages are brought again. Where it finds no frame,
-/// the events are made that give one: steps of the log and of a checkpoint, and writes of pages. No node changes, and
-/// no set, claim, predicate or open call.
+/// Brings a page in use into a frame, which holds it until pages are brought again. If no frame is free, it makes the
+/// events that free one: steps of the log and of a checkpoint, and writes of pages. It changes no node, no set, claim,
+/// predicate or open call.
 ///
-/// `Refused` as an event was, and `GivenUp` where it isn't brought within `EVENTS` turns of one or two events. It takes
-/// no memory.
+/// `Refused` as an event was, and `GivenUp` if the page isn't brought within `EVENTS` turns of one or two events. It
+/// takes no memory.
 pub(crate) fn bring<D: SectorDisk, K: ReadKeys>(
     engine: &mut Engine<D, K>,
     page: u32,

@@ -1,5 +1,5 @@
 //! Lines that wait to be written.
-ghost use Rattle.std.specs.Prelude.{◌≡◌, ◌+◌, ◌≤◌, [], ◌∷◌, ◌++◌, length, decimal, codes, OnOk, IfErr, OnErr};
+ghost use Rattle.std.specs.Prelude.{◌≡◌, ◌+◌, ◌≤◌, [], ◌++◌, length, decimal, OnOk, IfErr, OnErr};
 ghost use Rattle.std.specs.Fmt.{signed_decimal};
 ghost use Rattle.std.specs.Io.KnownBytes.{Appends};
 ghost use Rattle.gx_node.specs.Seen.{child_seen, pair_seen};
@@ -46,7 +46,7 @@ impl Lines {
         }
     }
 
-    /// Writes all that waits. `Write` as `write_whole` says; a front was written then.
+    /// Writes all that waits. `Write` as `write_whole` says; a beginning was written then.
     pub(crate) fn flush<W: Write>(&mut self, writer: &mut Noted<W>) -> Result<(), Stop>
         ensures ok { OnOk result ((self.new ≡ []) × Appends
             (W.contents writer.old.inner) (W.contents writer.new.inner) self.old) }
@@ -63,7 +63,7 @@ impl Lines {
         }
     }
 
-    /// Makes room for a line, by a write where there is none.
+    /// Makes room for a line: writes what waits if there is none.
     pub(crate) fn make_room<W: Write>(&mut self, writer: &mut Noted<W>) -> Result<(), Stop>
         ensures ok { OnOk result ((length self.new + LONGEST ≤ WAITING)
             × IsPut (W.contents writer.old.inner) (W.contents writer.new.inner) self.old [] self.new) }
@@ -109,7 +109,7 @@ impl Lines {
         self.add(b"\n");
     }
 
-    /// Adds the line of an inner node's entry: a bound, and the page of what lies below it.
+    /// Adds the line of an inner node's entry: a bound, and the child's page.
     pub(crate) fn add_child<B: Corners>(&mut self, key: &B, page: u32)
         requires { length self.old + LONGEST ≤ WAITING }
         ensures { self.new ≡ self.old ++ child_line (grammar_of B.Corners) (child_seen (key.now, page)) }

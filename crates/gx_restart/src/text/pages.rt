@@ -1,4 +1,4 @@
-//! The lines of a tree's pages, read where they lie.
+//! The lines of a tree's pages, read from their frames.
 ghost use Rattle.std.specs.Prelude.{◌≡◌, ◌++◌, OnOk, IfErr, OnErr};
 ghost use Rattle.std.specs.List.{flat_map};
 ghost use Rattle.gx_node.specs.Reading.{format_of};
@@ -17,10 +17,9 @@ use gx_page::Page;
 use gx_script::{Corners, Noted};
 use std::io::Write;
 
-/// Adds the first line of a tree: the number of the last commit, the greatest page that is taken, and the counter of
-/// splits.
+/// Adds the first line of a tree: the number of the last commit, the greatest page in use, and the counter of splits.
 ///
-/// `Write` where the writer fails or takes nothing; what was written then is a beginning of what waited with that line
+/// `Write` if the writer fails or takes nothing; what was written then is a beginning of what waited with that line
 /// behind it.
 pub(crate) fn put_head<W: Write>(
     writer: &mut Noted<W>,
@@ -43,8 +42,8 @@ pub(crate) fn put_head<W: Write>(
 
 /// Adds the lines of a page, under this number: its own, and one for each of its entries, by slot.
 ///
-/// `Write` where the writer fails or takes nothing; what was written then is a beginning of what waited with those
-/// lines behind it.
+/// `Write` if the writer fails or takes nothing; what was written then is a beginning of what waited with those lines
+/// behind it.
 pub(crate) fn put_page<W: Write, B: Corners, K: KeyClass<Key = B>>(
     writer: &mut Noted<W>,
     lines: &mut Lines,
@@ -67,7 +66,7 @@ pub(crate) fn put_page<W: Write, B: Corners, K: KeyClass<Key = B>>(
     if page.level() == 0 {
         put_pairs::<W, B, K>(writer, lines, &Leaf::of(page))
     } else {
-        // which pages its entries name was tested when the page was brought
+        // the pages that its entries name were tested when the page was brought
         put_children::<W, B, K>(writer, lines, &Inner::of(page, u32::MAX))
     }
 }

@@ -47,15 +47,15 @@ fn dump_page<W: Write, D: SectorDisk, B: Corners, K: ReadKeys + KeyClass<Key = B
     put_page::<W, B, K>(writer, lines, page, engine.held_page(page))
 }
 
-/// Writes the text of the tree of an index: a line with the number of the last commit, the greatest page that is taken
-/// and the counter of splits; and for each page from 1 on its line, and one for each of its entries, by slot. Pages are
-/// brought one after another, with the events that give them frames. No node changes, and no set, claim, predicate or
-/// open call.
+/// Writes the text of the tree of an index: a line with the number of the last commit, the greatest page in use and the
+/// counter of splits; and for each page from 1 on its line, and one for each of its entries, by slot. Pages are brought
+/// one after another, with the events that free frames for them. It changes no node, no set, claim, predicate or open
+/// call.
 ///
-/// `Write` where the writer's last call failed or took nothing, or 2^32 calls of it were made; `Refused` as an event
-/// was, with `Device`, `Failed` or `Damaged`, and `GivenUp` where a page isn't brought within `gx_engine::EVENTS` turns
-/// of one or two events, which never is where the engine holds an index over a device that doesn't lie. What was
-/// written then is a beginning of the text. It takes no memory.
+/// Faults: `Write` if the writer's last call failed or took nothing, or 2^32 calls of it were made; `Refused` as an
+/// event was, with `Device`, `Failed` or `Damaged`; and `GivenUp` if a page isn't brought within `gx_engine::EVENTS`
+/// turns of one or two events, which never happens if the engine holds an index over an honest device. What was written
+/// then is a beginning of the text. It takes no memory.
 pub fn dump<W: Write, D: SectorDisk, B: Corners, K: ReadKeys + KeyClass<Key = B>>(
     engine: &mut Engine<D, K>,
     writer: &mut Noted<W>,

@@ -14,7 +14,7 @@ use gx_geom::Refusal;
 use gx_opening::read_parameters;
 use std::alloc::{AllocError, Global};
 
-// Room for so many sectors.
+// Allocates so many sectors.
 fn room_for(alloc: Global, sectors: u64) -> Result<Vec<u8>, AllocError>
     requires { sectors ≤ 528456 }
     ensures { IfOk result (λ bytes. length bytes.items ≡ 512 * sectors) }
@@ -59,8 +59,9 @@ fn copy_first<D: SectorDisk>(alloc: Global, disk: &mut D, sectors: u64) -> Resul
 
 /// Copies what an opening may read of a device, and no more: the sectors of the index that it is formatted for.
 ///
-/// Refused where it isn't formatted for an index of the class, before memory is taken for the copy: `NotFormatted`,
-/// `BadParameter`, `TooSmall`; with `Device` where a read fails, and with `Memory`. It makes no write and no sync.
+/// Refused, before memory is taken for the copy, if the device isn't formatted for an index of the class:
+/// `NotFormatted`, `BadParameter`, `TooSmall`; with `Device` if a read fails, and with `Memory`. It makes no write and
+/// no sync.
 pub(crate) fn copied<D: SectorDisk, K: ReadKeys>(
     alloc: Global,
     disk: &mut D,

@@ -1,4 +1,4 @@
-//! The entries of an index that no session has a transaction of: the pairs of its leaves that aren't marked.
+//! Counts the entries of an index while no session has a transaction: the pairs of its leaves that aren't marked.
 ghost use Rattle.std.specs.Prelude.{◌≡◌, ◌≤◌, not, OnOk, IfOk, Ok};
 ghost use Rattle.gx_node.specs.Reading.{format_of};
 ghost use Rattle.gx_node.specs.Store.{node_of};
@@ -67,9 +67,9 @@ fn count_on<D: SectorDisk, K: ReadKeys>(engine: &mut Engine<D, K>, page: u32) ->
 }
 
 /// Counts the pairs of an index's tree that aren't marked. Pages are brought one after another, with the events that
-/// give them frames. No node changes. It takes no memory.
+/// free frames for them. It changes no node, and takes no memory.
 ///
-/// Stopped where an event is refused, or a page isn't brought within `EVENTS` turns.
+/// Stopped if an event is refused, or a page isn't brought within `EVENTS` turns.
 pub(crate) fn count_entries<D: SectorDisk, K: ReadKeys>(
     engine: &mut Engine<D, K>,
 ) -> Result<u64, Stop>

@@ -1,5 +1,5 @@
-//! A pair is added to a leaf.
-ghost use Rattle.std.specs.Prelude.{◌≡◌, ◌≤◌, ◌+◌, length, Err, OnOk, OnErr, IfErr};
+//! Adds a pair to a leaf.
+ghost use Rattle.std.specs.Prelude.{◌≡◌, ◌≤◌, length, Err, OnOk, OnErr, IfErr};
 ghost use Rattle.gx_glog.specs.declared.stage.Turn.TheVariants.{Closed};
 ghost use Rattle.gx_store.specs.Since.{IsStamped};
 ghost use Rattle.gx_node.specs.Trees.{Used};
@@ -23,13 +23,12 @@ use gx_store::StoreFault;
 use gx_tree::{StepFault, add_step};
 
 impl<D: SectorDisk, K: ReadKeys> Storage<D, K> {
-    /// Puts a live pair behind the last of the leaf on a page, and appends the transaction's record of it: a small one
-    /// where the log's extent has an image of the leaf, otherwise its write with the image of the leaf. The entry was
+    /// Puts a live pair behind the last one of the leaf on a page, and appends the transaction's record of it: a small
+    /// one if the log's extent has an image of the leaf, otherwise its write with the image of the leaf. The entry was
     /// absent, which counts as a mark.
     ///
-    /// Refused with `Pages` where the log has no room for the record (`NoRoom`), or the page could not be brought;
-    /// with `Damaged` only where it isn't a leaf that is taken, or has no room. Nothing has changed then, and nothing
-    /// is logged.
+    /// Refused with `Pages` if the log has no room for the record (`NoRoom`), or the page could not be brought; with
+    /// `Damaged` only if it isn't a leaf in use, or has no room. Nothing has changed then, and nothing is logged.
     pub fn add(
         &mut self,
         transaction: u64,

@@ -23,8 +23,8 @@ use gx_node::laws::inners;
 use gx_store::{PageStore, StoreFault};
 use gx_tree::{Descended, Pages, StepFault, TraversalItem, Way, descend_step, way_step};
 
-/// What a step of a descent did that took this way, where the counter of splits is `seen`. `None` where it has to
-/// widen a bound.
+/// What a step of a descent that went this way did, while the counter of splits is `seen`. `None` if it has to widen a
+/// bound.
 fn unwidened<B: Shape>(way: Way<B>, seen: u64) -> Option<Descended<B>>
     ensures { result ≡ unwidened way seen }
 {
@@ -38,8 +38,8 @@ fn unwidened<B: Shape>(way: Way<B>, seen: u64) -> Option<Descended<B>>
     }
 }
 
-/// Says what a descent does at the page of its item, as the tree's `way_step` does. No room in the log is asked for.
-/// The event then begins whose record has so many bytes.
+/// Returns what a descent does at the page of its item, as the tree's `way_step` does. It asks for no room in the log.
+/// Then it begins the event whose record has so many bytes.
 fn read_way<D: SectorDisk, K: ReadKeys>(
     log: &Glog,
     store: &mut PageStore<D, K>,
@@ -65,14 +65,14 @@ fn read_way<D: SectorDisk, K: ReadKeys>(
 }
 
 impl<D: SectorDisk, K: ReadKeys> Storage<D, K> {
-    /// Makes a step of a descent for a coming key at the page of its item, as the tree's `descend_step` says. Where a
-    /// bound was widened its record is appended: small, with the slot and the key that it has now, where the log's
-    /// extent has an image of the page, else with the image of the page. Else nothing has changed and nothing is
+    /// Makes a step of a descent for a coming key at the page of its item, as the tree's `descend_step` says. If a
+    /// bound was widened its record is appended: small, with the slot and the slot's new key, if the log's extent has
+    /// an image of the page, else with the image of the page. If none was widened, nothing has changed, nothing is
     /// logged, and no room is asked for.
     ///
-    /// Refused with `Pages` where the page could not be brought, or the bound has to be widened and the log has no
-    /// room for the record (`NoRoom`); with `Damaged` only where the page isn't taken, or has a level above 0 and no
-    /// entries. Nothing has changed then, and nothing is logged.
+    /// Refused with `Pages` if the page could not be brought, or if the bound has to be widened and the log has no room
+    /// for the record (`NoRoom`); with `Damaged` only if the page isn't in use, or has a level above 0 and no entries.
+    /// Nothing has changed then, and nothing is logged.
     pub fn descend(
         &mut self,
         item: &TraversalItem,

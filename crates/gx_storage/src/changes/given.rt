@@ -18,7 +18,7 @@ use gx_glog::Glog;
 use gx_record::{PageImage, PageImages, Record};
 use gx_store::PageStore;
 
-/// What always holds of a page that is held: its content has an image, under its own number.
+/// Law: the content of a held page has an image, under its own number.
 pub(crate) fn has_image<D: SectorDisk, K: ReadKeys>(store: &PageStore<D, K>, page: u32)
     requires { IsHeld store.now page }
     ensures formed { IsWellFormed (standing store.now.frames (D.state store.now.disk).seen page) }

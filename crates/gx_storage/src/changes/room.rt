@@ -1,4 +1,4 @@
-//! An event begins, with the room that the log has for its record.
+//! Begins events, by whether the log has room for their records.
 ghost use Rattle.std.specs.Prelude.{◌≡◌, true};
 ghost use Rattle.gx_storage.specs.Changes.{has_room};
 
@@ -15,7 +15,7 @@ pub(crate) fn has_room(log: &Glog, size: usize) -> bool
     log.used() < PLACES && size <= log.free()
 }
 
-/// Begins an event that appends no record, and so wants no room for one.
+/// Begins an event that appends no record, and so needs no room for one.
 pub(crate) fn begin_reading<D: SectorDisk, K: ReadKeys>(log: &Glog, store: &mut PageStore<D, K>)
     ensures { store.new ≡ record store.old { batch = log.now.used; has_room = true } }
 {

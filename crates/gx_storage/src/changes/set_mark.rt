@@ -1,4 +1,4 @@
-//! The mark of a pair is set or cleared.
+//! Sets or clears the mark of a pair.
 ghost use Rattle.std.specs.Prelude.{◌≡◌, ◌≢◌, ◌+◌, ℕ, Err, IfOk, OnErr, IfErr};
 ghost use Rattle.gx_glog.specs.declared.stage.Turn.TheVariants.{Closed};
 ghost use Rattle.gx_node.specs.Trees.{Used};
@@ -24,8 +24,8 @@ use gx_node::laws::{leaves, small_marks};
 use gx_store::{PageStore, StoreFault};
 use gx_tree::{Sought, StepFault, Wanted, seek_step, set_mark_step};
 
-/// Looks for a pair in the leaf on a page, as the tree's `seek_step` does. No room in the log is asked for. The event
-/// then begins whose record has so many bytes.
+/// Looks for a pair in the leaf on a page, as the tree's `seek_step` does. It asks for no room in the log. Then it
+/// begins the event whose record has so many bytes.
 fn read_leaf<D: SectorDisk, K: ReadKeys + Probing>(
     log: &Glog,
     store: &mut PageStore<D, K>,
@@ -51,13 +51,13 @@ fn read_leaf<D: SectorDisk, K: ReadKeys + Probing>(
 
 impl<D: SectorDisk, K: ReadKeys + Probing> Storage<D, K> {
     /// Sets or clears the mark of an entry's pair in the leaf on a page, and appends the transaction's record of it,
-    /// with the mark that was found: a small one where the log's extent has an image of the leaf, otherwise its write
-    /// with the image of the leaf. Where the pair isn't in this leaf the next leaf is returned, as by `seek_step`, and
-    /// nothing is logged.
+    /// with the mark that was found: a small one if the log's extent has an image of the leaf, otherwise its write with
+    /// the image of the leaf. If the pair isn't in this leaf, it returns the next leaf, as `seek_step` does, and logs
+    /// nothing.
     ///
-    /// Refused with `Pages` where the pair is in this leaf and the log has no room for the record (`NoRoom`), or the
-    /// page could not be brought; with `Damaged` only where it isn't a leaf that is taken. Nothing has changed then,
-    /// and nothing is logged.
+    /// Refused with `Pages` if the pair is in this leaf and the log has no room for the record (`NoRoom`), or if the
+    /// page could not be brought; with `Damaged` only if it isn't a leaf in use. Nothing has changed then, and nothing
+    /// is logged.
     pub fn set_mark(
         &mut self,
         transaction: u64,

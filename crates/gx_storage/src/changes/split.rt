@@ -28,14 +28,14 @@ use gx_tree::{Split, SplitFault, StepFault, split_step};
 
 impl<D: SectorDisk, K: ReadKeys> Storage<D, K> {
     /// Splits the node on a page, which is full, below its parent, as the tree's `split_step` says, and appends the
-    /// record of the node, the parent and the new sibling, by rising page number. `None` where the parent has no
-    /// place for that: then nothing has changed and nothing is logged, and no room is asked for. The node's keys are
-    /// written over the first of `keys`.
+    /// record of the node, the parent and the new sibling, by rising page number. Returns `None` if the parent has no
+    /// place for that: then nothing has changed, nothing is logged, and no room is asked for. The node's keys overwrite
+    /// the first of `keys`.
     ///
-    /// Refused with `PagesFull` only where no page is left; with `Pages` where the log has no room for the record
-    /// (`NoRoom`), no frame is clean for the sibling (`TooFewFrames`), or a page could not be brought; and with
-    /// `Damaged` where the two aren't a full node and an inner node above it, or the counter of splits is at its end.
-    /// Nothing has changed then, and nothing is logged.
+    /// Refused with `PagesFull` only if no page is left; with `Pages` if the log has no room for the record (`NoRoom`),
+    /// no frame is clean for the sibling (`TooFewFrames`), or a page could not be brought; and with `Damaged` if the
+    /// two aren't a full node and an inner node above it, or the counter of splits is at its end. Nothing has changed
+    /// then, and nothing is logged.
     pub fn split(
         &mut self,
         page: u32,

@@ -26,13 +26,13 @@ use gx_store::StoreFault;
 use gx_tree::{Pages, RootSplit, SplitFault, StepFault, split_root_step};
 
 impl<D: SectorDisk, K: ReadKeys> Storage<D, K> {
-    /// Splits the root, which is full, as the tree's `split_root_step` says, and appends the record of the root and
-    /// of its two new pages. The root's keys are written over the first of `keys`.
+    /// Splits the root, which is full, as the tree's `split_root_step` says, and appends the record of the root and of
+    /// its two new pages. The root's keys overwrite the first of `keys`.
     ///
-    /// Refused with `PagesFull` only where fewer than two pages are left; with `Pages` where the log has no room for
-    /// the record (`NoRoom`), fewer than two frames are clean (`TooFewFrames`), or the root could not be brought; and
-    /// with `Damaged` where page 1 isn't a full inner node that is taken, or has the level 65535. Nothing has changed
-    /// then, and nothing is logged.
+    /// Refused with `PagesFull` only if fewer than two pages are left; with `Pages` if the log has no room for the
+    /// record (`NoRoom`), fewer than two frames are clean (`TooFewFrames`), or the root could not be brought; and with
+    /// `Damaged` if page 1 isn't a full inner node in use, or has the level 65535. Nothing has changed then, and
+    /// nothing is logged.
     pub fn split_root(
         &mut self,
         keys: &mut [K::Key],

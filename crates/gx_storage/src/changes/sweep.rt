@@ -30,7 +30,7 @@ use gx_record::MOST_SLOTS;
 use gx_store::{PageStore, StoreFault};
 use gx_tree::{Pages, StepFault, Sweep, make_sweep, plan_sweep};
 
-/// How many slots a plan takes; none where no plan was made.
+/// How many slots a plan removes; none if no plan was made.
 fn slot_count(plan: &Result<Sweep, StepFault<StoreFault>>) -> usize
     ensures count { result ≡ length (slots_planned plan.now) }
     ensures few { result ≤ MOST_SLOTS }
@@ -41,8 +41,8 @@ fn slot_count(plan: &Result<Sweep, StepFault<StoreFault>>) -> usize
     }
 }
 
-/// Says which pairs of the leaf on a page a sweep takes, as the tree's `plan_sweep` does. No room in the log is asked
-/// for. The event then begins whose record has these slots, or gives the page.
+/// Returns which pairs of the leaf on a page a sweep removes, as the tree's `plan_sweep` does. It asks for no room in
+/// the log. Then it begins the event whose record has these slots, or the page's image.
 fn plan<D: SectorDisk, K: ReadKeys, F: Fn(Entry<K::Key>) -> bool>(
     log: &Glog,
     store: &mut PageStore<D, K>,
@@ -76,12 +76,12 @@ fn plan<D: SectorDisk, K: ReadKeys, F: Fn(Entry<K::Key>) -> bool>(
 
 impl<D: SectorDisk, K: ReadKeys> Storage<D, K> {
     /// Removes the marked pairs that no session claims from the leaf on a page, and appends the record of it: a small
-    /// one where the log's extent has an image of the leaf, otherwise one with the image of the leaf. Returns whether
-    /// there were any; where there were none nothing has changed, nothing is logged, and no room is asked for.
+    /// one if the log's extent has an image of the leaf, otherwise one with the image of the leaf. Returns whether
+    /// there were any such pairs; if not, nothing has changed, nothing is logged, and no room is asked for.
     ///
-    /// Refused with `Pages` where the page could not be brought, or a pair goes and the log has no room for the
-    /// record (`NoRoom`); with `Damaged` only where it isn't a leaf that is taken, or has more than `MAX_ENTRIES`
-    /// pairs. Nothing has changed then, and nothing is logged.
+    /// Refused with `Pages` if the page could not be brought, or if a pair has to be removed and the log has no room
+    /// for the record (`NoRoom`); with `Damaged` only if it isn't a leaf in use, or has more than `MAX_ENTRIES` pairs.
+    /// Nothing has changed then, and nothing is logged.
     pub fn sweep<F: Fn(Entry<K::Key>) -> bool>(
         &mut self,
         page: u32,

@@ -4,7 +4,7 @@ use gx_class::KeyClass;
 use gx_node::{Edit, inner_edits, leaf_edits};
 use gx_page::Page;
 
-/// Takes the entries of a node out whose side is `true`.
+/// Removes the entries of a node whose side is `true`.
 #[derive(Drop)]
 pub struct KeepSide<'a> {
     /// A side for each entry.

@@ -3,7 +3,7 @@ use Rattle.gx_machine.specs.Keys.{Members}
 use Rattle.gx_class.specs.Traits.{traits_of}
 use Rattle.gx_events.specs.Driven.{next_of}
 use Rattle.gx_engine.specs.Made.{Makes}
-use Rattle.gx_engine.proofs.Driving.{driven_last, under_way_first, under_way_more}
+use Rattle.gx_engine.proofs.driven.Driving.{driven_last, under_way_first, under_way_more}
 use Rattle.gx_engine.proofs.CallsEnd.{starts_end}
 use Rattle.gx_engine.proofs.Failing.{done_told, named_told}
 use Rattle.gx_engine.proofs.driven.drive.Goals as goal

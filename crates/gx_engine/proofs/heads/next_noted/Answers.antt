@@ -1,6 +1,6 @@
 use Rattle.std.proofs.Common.{◌∙◌, sym, subst, ℕ, ◌+◌, Option}
 use Rattle.gx_engine.specs.Heads.{IsNextOf, from_of}
-use Rattle.gx_engine.proofs.HeadNotes.{is_place, next_left, next_taken}
+use Rattle.gx_engine.proofs.heads.Notes.{is_place, next_left, next_taken}
 use Rattle.gx_engine.proofs.heads.next_noted.Goals as goal
 use Rattle.gx_engine.proofs.heads.next_noted.Goals.{then-comes_before, else-comes_before}
 

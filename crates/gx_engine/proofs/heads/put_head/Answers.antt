@@ -1,4 +1,4 @@
-use Rattle.gx_engine.proofs.HeadNotes.{head_came, head_stops, some_head}
+use Rattle.gx_engine.proofs.heads.Notes.{head_came, head_stops, some_head}
 use Rattle.gx_engine.proofs.heads.put_head.Goals as goal
 
 pub returns-in_err-put_head-clause-puts : goal.returns-in_err-put_head-clause-puts

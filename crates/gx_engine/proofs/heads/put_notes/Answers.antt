@@ -1,5 +1,5 @@
 use Rattle.gx_record.specs.Rec as rec
-use Rattle.gx_engine.proofs.HeadNotes.{no_room, note_came, note_short}
+use Rattle.gx_engine.proofs.heads.Notes.{no_room, note_came, note_short}
 use Rattle.gx_engine.proofs.heads.put_notes.Goals as goal
 
 pub returns-in_err-put_note-clause-puts : goal.returns-in_err-put_note-clause-puts

@@ -1,7 +1,7 @@
 use Rattle.std.proofs.Common.{◌∙◌, ap, refl, ◌+◌, ◌≤◌, ◌^◌, arith}
 use Rattle.gx_storage.specs.State.{Volume}
 use Rattle.gx_engine.specs.Heads.{from_of}
-use Rattle.gx_engine.proofs.HeadNotes.{its_came, its_stop, only_both, puts_longer, touches_came, touches_none}
+use Rattle.gx_engine.proofs.heads.Notes.{its_came, its_stop, only_both, puts_longer, touches_came, touches_none}
 use Rattle.gx_engine.proofs.heads.put_touches.Goals as goal
 
 pub loop-session-init : goal.loop-session-init

@@ -2,7 +2,7 @@ use Rattle.std.proofs.Common.{ap, subst, sym, ◌∙◌}
 use Rattle.gx_pool.specs.State.{State}
 use Rattle.gx_pool.specs.declared.pool.Pool.{Pool}
 use Rattle.gx_engine.specs.Starting.{AreFresh}
-use Rattle.gx_engine.proofs.Starting.{told_fresh}
+use Rattle.gx_engine.proofs.start.Starting.{told_fresh}
 use Rattle.gx_engine.proofs.start.frames.Goals as goal
 
 pub returns : goal.returns

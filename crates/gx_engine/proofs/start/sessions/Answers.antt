@@ -1,15 +1,16 @@
-use Rattle.std.proofs.Common.{◌≡◌, ◌∙◌, inr, subst, map, List}
+use Rattle.std.proofs.Common.{◌≡◌, ◌∙◌, inr, subst, List}
 use Rattle.std.proofs.lemmas.Result.{err_from_is_err_and}
+use Rattle.gx_machine.specs.declared.entry.Entry.{Entry}
 use Rattle.gx_machine.specs.Keys.{Keys}
-use Rattle.gx_engine.specs.declared.losers.Loser.{Loser}
+use Rattle.gx_recovery.specs.Records.{Touch}
 use Rattle.gx_engine.specs.declared.start.Start.{Start}
-use Rattle.gx_engine.specs.Losing.{AreCutOff, touch_of}
+use Rattle.gx_engine.specs.Losing.{AreCutOff}
 use Rattle.gx_engine.specs.Starting.{cut_off}
-use Rattle.gx_engine.proofs.Starting.{taken_from}
+use Rattle.gx_engine.proofs.start.Starting.{taken_from}
 use Rattle.gx_engine.proofs.start.sessions.Goals as goal
 
-none_cut : {B : Type 0} (k : Keys B) (start : Start B) (items : List (Loser B)) → items ≡ start.losers.items → (AreCutOff k (map touch_of items) → ⊥) → AreCutOff k (cut_off start) → ⊥
-none_cut {B} k start items same none = subst (λ (xs : List (Loser B)). AreCutOff k (map touch_of xs) → ⊥) same none
+none_cut : {B : Type 0} (k : Keys B) (start : Start B) (items : List (Touch (Entry B))) → items ≡ start.losers.items → (AreCutOff k items → ⊥) → AreCutOff k (cut_off start) → ⊥
+none_cut {B} k start items same none = subst (λ (xs : List (Touch (Entry B))). AreCutOff k xs → ⊥) same none
 
 pub returns-in_ok-hold_losers-in-Ok-clause-taken :
     goal.returns-in_ok-hold_losers-in-Ok-clause-taken

@@ -6,7 +6,7 @@ use Rattle.gx_found_log.specs.Told.{ReadsOn}
 use Rattle.gx_found_log.specs.Broken.{BrokenOn}
 use Rattle.gx_found_log.proofs.body.on_body.Given as goal
 
--- what was closed, and what is given, has its bytes behind it; and what comes of the rest comes of all
+-- what was closed, and what is given, has its bytes behind it; and the outcome of the rest is the outcome of all
 abbrev pub invariant-loop-rest : goal.invariant-loop-rest
 invariant-loop-rest g l = record {
   closed : END_RECORD * length l.gathered.analysis.closed + length l.rest ≤ END_RECORD * length l.fn.gathered.analysis.closed + length l.bytes;

@@ -5,7 +5,7 @@ use Rattle.gx_found_log.specs.Given.{AreOnce}
 use Rattle.gx_found_log.specs.Laid.{ArePages, Lays}
 use Rattle.gx_found_log.proofs.lay.lay.Given as goal
 
--- the pages before this one are written; and what comes of laying the rest comes of all
+-- the pages before this one are written; and the outcome of laying the rest is the outcome of all
 abbrev pub invariant-loop-x : goal.invariant-loop-x
 invariant-loop-x g l = record {
   sectors : (g.D.SectorDisk.state l.disk).sectors ≡ (g.D.SectorDisk.state l.fn.disk).sectors;

@@ -1,6 +1,6 @@
 use Rattle.std.proofs.Common.{refl}
 use Rattle.gx_geom.specs.declared.refusal.Refusal.TheVariants.{Device, Failed}
-use Rattle.gx_events.specs.Events.{Fails, RefusesAsk, RefusesCall}
+use Rattle.gx_events.specs.Happenings.{Fails, RefusesAsk, RefusesCall}
 use Rattle.gx_index_laws.specs.States.{engine_of}
 use Rattle.gx_index_laws.specs.Happening.{failed_state}
 use Rattle.gx_index_laws.proofs.AskedCalls.{faulted}

@@ -1,5 +1,5 @@
 use Rattle.std.proofs.Common.{refl}
-use Rattle.gx_events.specs.Events.{Closes}
+use Rattle.gx_events.specs.Happenings.{Closes}
 use Rattle.gx_index_laws.proofs.Answering.{closed}
 use Rattle.gx_index_laws.proofs.looks.calls_are_closed.Goals as goal
 

@@ -1,4 +1,4 @@
-use Rattle.std.proofs.Common.{refl, List, []}
+use Rattle.std.proofs.Common.{refl, []}
 use Rattle.gx_opening.specs.Formatted.{IsAllowed}
 use Rattle.gx_lives.specs.Lives.{Lies}
 use Rattle.gx_lives.proofs.OverDevices.{all_given}

@@ -1,6 +1,5 @@
 use Rattle.std.proofs.Common.{◌≤◌, Ok, refl, arith}
 use Rattle.gx_disk.specs.declared.layout.TheConstants.{MIN_SECTORS}
-use Rattle.gx_disk.specs.Device.{Device}
 use Rattle.gx_format.specs.Formatting.{sectors_of}
 use Rattle.gx_format.specs.Fresh.{fresh_root}
 use Rattle.gx_machine.specs.Keys.{Members, keys_of}

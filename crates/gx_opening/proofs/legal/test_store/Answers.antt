@@ -9,7 +9,7 @@ use Rattle.gx_node.specs.Keyed.{rules_of}
 use Rattle.gx_node.specs.Reading.{format_of, is_node}
 use Rattle.gx_opening.specs.Sound.{shown_tree}
 use Rattle.gx_node.specs.Lists.{Each}
-use Rattle.gx_opening.proofs.Sounding.{all_in_place, all_read, can_be_read, damage_told, never_sound, noted_others}
+use Rattle.gx_opening.proofs.Sounding.{all_in_place, all_read, can_be_read, damage_told, never_sound}
 use Rattle.gx_opening.proofs.legal.test_store.Goals as goal
 
 pub test_tree-requires-clause-in_order : goal.test_tree-requires-clause-in_order

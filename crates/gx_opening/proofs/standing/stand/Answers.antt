@@ -1,9 +1,8 @@
-use Rattle.std.proofs.Common.{◌≤◌, ◌∙◌, inl, inr, refl, arith, Result, Err}
+use Rattle.std.proofs.Common.{◌≤◌, ◌∙◌, inl, inr, refl, Result, Err}
 use Rattle.std.proofs.lemmas.Result.{err_from_is_err_and}
 use Rattle.gx_geom.specs.declared.refusal.Refusal.{Refusal}
 use Rattle.gx_disk.specs.declared.layout.TheConstants.{MIN_SECTORS}
 use Rattle.gx_found_log.specs.declared.found.FoundLog.{FoundLog}
-use Rattle.gx_glog.specs.declared.parameters.Parameters.{Parameters}
 use Rattle.gx_machine.specs.declared.entry.Entry.{Entry}
 use Rattle.gx_machine.specs.Keys.{Members}
 use Rattle.gx_node.specs.Reading.{format_of}

@@ -1,4 +1,4 @@
--- The byte stands in the item.
+-- The byte is in the item.
 use Rattle.std.proofs.Common.{◌≡◌, ℕ, ◌+◌, [], length, take, get_or, ap, ◌∙◌}
 use Rattle.gx_page.specs.Format.{total}
 use Rattle.gx_page.specs.Reading.{read_of}

@@ -3,7 +3,7 @@ use Rattle.gx_machine.specs.Keys.{keys}
 use Rattle.gx_machine.specs.Sets.{including_all}
 use Rattle.gx_plain.proofs.merge.merge_down.Given as goal
 
--- the entries from left on are put in, among those from end on; before end all is as it was
+-- the entries from left on are put in, among those from end on; before end all is unchanged
 abbrev pub invariant-loop-left : goal.invariant-loop-left
 invariant-loop-left g l =
     let k = keys g.B.Ord.cmp g.B.Shape.overlap g.B.Shape.inside in

@@ -6,7 +6,7 @@ use Rattle.gx_split.proofs.seeds.excess.Goals as goal
 abbrev kept : ℤ → ℤ
 kept z = to_z w128 (of_z w128 z)
 
--- small numbers are subtracted as they are
+-- small numbers are subtracted exactly
 differences : (u f s : ℕ) → u < 2 ^ 126 → f < 2 ^ 126 → s < 2 ^ 126
     → kept (kept (to_z w128 u -ℤ to_z w128 f) -ℤ to_z w128 s) ≡ (pos u -ℤ pos f) -ℤ pos s
 differences u f s a b c =

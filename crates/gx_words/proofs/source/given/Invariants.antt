@@ -1,6 +1,6 @@
 use Rattle.std.proofs.Common.{◌≡◌, vec_len}
 use Rattle.gx_words.proofs.source.given.Given as goal
 
--- so many words are there as places were asked for
+-- there are as many arguments as places that were asked for
 abbrev pub invariant-loop-place : goal.invariant-loop-place
 invariant-loop-place g l = vec_len l.words ≡ l.place

@@ -7,7 +7,7 @@ use Rattle.gx_words.specs.Program.{ClassWords, gist_app}
 use Rattle.gx_words.proofs.Whole.{whole}
 use Rattle.gx_words.proofs.words.read.Goals as goal
 
--- what is wrong with words is known of this command
+-- what is wrong with arguments is known of this command
 free : (classes : ClassWords) → is_simple_and_free (gist_app classes) ≡ true
 unfolding clap_on_literals gist_app
 free classes = refl

@@ -1,6 +1,6 @@
 use Rattle.std.proofs.Common.{◌∙◌, ap}
 use Rattle.gx_engine.specs.States.{Parts}
-use Rattle.gx_engine.proofs.CommitMoves.{acknowledge_leads}
+use Rattle.gx_engine.proofs.commits.Moves.{acknowledge_leads}
 use Rattle.gx_engine.proofs.engine.Engine.acknowledge.Goals as goal
 
 pub returns-clause-leads : goal.returns-clause-leads

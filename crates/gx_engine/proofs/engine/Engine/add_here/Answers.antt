@@ -18,8 +18,8 @@ use Rattle.gx_engine.specs.Refusals.{IsRefused}
 use Rattle.gx_engine.specs.States.{Parts}
 use Rattle.gx_engine.specs.Writes.{write_events}
 use Rattle.gx_engine.proofs.Serving.{flies_on}
-use Rattle.gx_engine.proofs.Inserted.{add_is_short, added_comes, added_is, added_moves, never_added}
-use Rattle.gx_engine.proofs.Stopping.{lost_comes, stopped_comes, stopped_moves}
+use Rattle.gx_engine.proofs.writes.descents.Inserted.{add_is_short, added_comes, added_is, added_moves, never_added}
+use Rattle.gx_engine.proofs.writes.descents.Stopping.{lost_comes, stopped_comes, stopped_moves}
 use Rattle.gx_engine.proofs.UndoMoves.{why_pages}
 use Rattle.gx_engine.proofs.Calling.{then_read}
 use Rattle.gx_node.specs.declared.fault.StepFault.{StepFault}

@@ -1,6 +1,6 @@
 use Rattle.std.proofs.Common.{arith}
 use Rattle.gx_engine.specs.States.{Parts}
-use Rattle.gx_engine.proofs.AskMoves.{ask_leads, ask_told, numbers_stay, told_events}
+use Rattle.gx_engine.proofs.asks.Moves.{ask_leads, ask_told, numbers_stay, told_events}
 use Rattle.gx_engine.proofs.engine.Engine.ask.Goals as goal
 
 pub invariant_of-self : goal.invariant_of-self

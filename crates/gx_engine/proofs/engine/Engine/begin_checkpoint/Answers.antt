@@ -1,7 +1,7 @@
 use Rattle.std.proofs.Common.{◌≡◌, ◌∙◌, ap}
 use Rattle.gx_engine.specs.declared.checkpoint.Checkpoint.TheVariants.{Off}
 use Rattle.gx_engine.specs.States.{Parts}
-use Rattle.gx_engine.proofs.CheckpointTurns.{begun_leads, rests_so}
+use Rattle.gx_engine.proofs.checkpoints.Turns.{begun_leads, rests_so}
 use Rattle.gx_engine.proofs.engine.Engine.begin_checkpoint.Goals as goal
 
 pub returns-clause-leads : goal.returns-clause-leads

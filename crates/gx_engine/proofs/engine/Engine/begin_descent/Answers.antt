@@ -4,7 +4,7 @@ use Rattle.gx_phases.specs.States.{phase_at}
 use Rattle.gx_engine.specs.declared.work.Work.TheVariants.{Descends, Rests}
 use Rattle.gx_engine.specs.States.{Parts}
 use Rattle.gx_engine.proofs.LookMoves.{replaced}
-use Rattle.gx_engine.proofs.WriteLooks.{descends_moves}
+use Rattle.gx_engine.proofs.writes.looks.Moves.{descends_moves}
 use Rattle.gx_engine.proofs.engine.Engine.begin_descent.Goals as goal
 
 pub returns-clause-descends : goal.returns-clause-descends

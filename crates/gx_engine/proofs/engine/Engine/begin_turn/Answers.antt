@@ -8,8 +8,8 @@ use Rattle.gx_engine.specs.declared.checkpoint.Checkpoint.{Checkpoint}
 use Rattle.gx_engine.specs.declared.checkpoint.Checkpoint.TheVariants.{Running}
 use Rattle.gx_engine.specs.Checkpoints.{IsQuiet}
 use Rattle.gx_engine.specs.States.{Parts, StandsIn}
-use Rattle.gx_engine.proofs.CheckpointTurns.{running_is_calm}
-use Rattle.gx_engine.proofs.TurnBegins.{never_full, sync_fails, turn_led}
+use Rattle.gx_engine.proofs.checkpoints.Turns.{running_is_calm}
+use Rattle.gx_engine.proofs.checkpoints.Begins.{never_full, sync_fails, turn_led}
 use Rattle.gx_engine.proofs.engine.Engine.begin_turn.Goals as goal
 
 pub invariant_of-self : goal.invariant_of-self

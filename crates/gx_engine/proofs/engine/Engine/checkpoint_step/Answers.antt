@@ -1,6 +1,6 @@
 use Rattle.std.proofs.Common.{◌∙◌, ap, sym}
 use Rattle.gx_engine.specs.States.{Parts}
-use Rattle.gx_engine.proofs.CheckpointTurns.{ended_so, sync_works}
+use Rattle.gx_engine.proofs.checkpoints.Turns.{ended_so, sync_works}
 use Rattle.gx_engine.proofs.engine.Engine.checkpoint_step.Goals as goal
 
 pub returns-in-Off-clause-leads : goal.returns-in-Off-clause-leads

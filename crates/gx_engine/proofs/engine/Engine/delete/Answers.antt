@@ -1,4 +1,4 @@
-use Rattle.gx_engine.proofs.WriteMoves.{delete_writes, so_moves}
+use Rattle.gx_engine.proofs.writes.Moves.{delete_writes, so_moves}
 use Rattle.gx_engine.proofs.engine.Engine.delete.Goals as goal
 
 pub returns-in-Open-default-Seeks-clause-moves : goal.returns-in-Open-default-Seeks-clause-moves

@@ -2,7 +2,7 @@ use Rattle.std.proofs.Common.{◌∙◌, ap, refl, ◌-◌}
 use Rattle.gx_geom.specs.declared.refusal.Refusal.TheVariants.{Absent}
 use Rattle.gx_machine.specs.declared.call.Call.TheVariants.{Delete}
 use Rattle.gx_machine.specs.declared.reply.Reply.TheVariants.{Refused}
-use Rattle.gx_events.specs.Events.{FindsAbsent}
+use Rattle.gx_events.specs.Happenings.{FindsAbsent}
 use Rattle.gx_phases.specs.declared.phase.Phase.{Phase}
 use Rattle.gx_phases.specs.Moves.{is_open}
 use Rattle.gx_phases.specs.States.{phase_at}
@@ -13,7 +13,7 @@ use Rattle.gx_engine.specs.Moves.{calling}
 use Rattle.gx_engine.specs.States.{Parts}
 use Rattle.gx_engine.proofs.Further.{reached_reply}
 use Rattle.gx_engine.proofs.Taking.{answered_so, reads_of}
-use Rattle.gx_engine.proofs.WriteLooks.{write_so}
+use Rattle.gx_engine.proofs.writes.looks.Moves.{write_so}
 use Rattle.gx_engine.proofs.engine.Engine.delete_look.Goals as goal
 
 pub write_look-requires-clause-looks : goal.write_look-requires-clause-looks

@@ -3,7 +3,7 @@ use Rattle.gx_machine.specs.Keys.{keys}
 use Rattle.gx_node.specs.Reading.{format_of}
 use Rattle.gx_storage.specs.Imaged.{is_imaged}
 use Rattle.gx_storage.specs.Small.{widen_room}
-use Rattle.gx_engine.proofs.MakingRoom.{asks_widen, widen_is_short, widen_is_some}
+use Rattle.gx_engine.proofs.writes.descents.MakingRoom.{asks_widen, widen_is_short, widen_is_some}
 use Rattle.gx_engine.proofs.engine.Engine.descend.Goals as goal
 
 pub returns-then-is_due-clause-comes : goal.returns-then-is_due-clause-comes

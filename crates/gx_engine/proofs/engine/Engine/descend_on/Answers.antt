@@ -27,12 +27,12 @@ use Rattle.gx_storage.proofs.Recording.{nodes_of}
 use Rattle.gx_engine.specs.Sweeping.{is_held, node_shown}
 use Rattle.gx_engine.proofs.Serving.{flies_on}
 use Rattle.gx_engine.proofs.DescentMoves.{full_inner, full_leaf, inner_removable, never_stepped, removable_again, said_again, stepped_as}
-use Rattle.gx_engine.proofs.Descents.{again_moves, down_moves, widened_moves}
+use Rattle.gx_engine.proofs.writes.descents.Moves.{again_moves, down_moves, widened_moves}
 use Rattle.gx_engine.proofs.SweepRoom.{asks_again}
-use Rattle.gx_engine.proofs.MakingRoom.{asks_add, asks_split, asks_sweep, asks_widen, comes_more, lacks_pages, on_comes, on_is, to_split, widen_is_short}
+use Rattle.gx_engine.proofs.writes.descents.MakingRoom.{asks_add, asks_split, asks_sweep, asks_widen, comes_more, lacks_pages, on_comes, on_is, to_split, widen_is_short}
 use Rattle.gx_engine.proofs.RoomMade.{again_made, down_made, inner_made, lacks_before, made_before, room_made, widened_made}
-use Rattle.gx_engine.proofs.ReadFirst.{comes_then, few_then, moves_then}
-use Rattle.gx_engine.proofs.Stopping.{lost_comes, stopped_comes, stopped_moves}
+use Rattle.gx_engine.proofs.writes.descents.ReadFirst.{comes_then, few_then, moves_then}
+use Rattle.gx_engine.proofs.writes.descents.Stopping.{lost_comes, stopped_comes, stopped_moves}
 use Rattle.gx_engine.proofs.UndoMoves.{why_pages}
 use Rattle.gx_engine.proofs.Calling.{then_read}
 use Rattle.gx_engine.proofs.Failing.{then_told, pages_told, quiet_told}

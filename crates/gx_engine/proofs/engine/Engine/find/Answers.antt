@@ -7,7 +7,7 @@ use Rattle.gx_machine.specs.Keys.{keys}
 use Rattle.gx_phases.specs.States.{phase_at}
 use Rattle.gx_engine.specs.declared.work.Work.TheVariants.{Rests}
 use Rattle.gx_engine.specs.States.{Parts}
-use Rattle.gx_engine.proofs.SearchMoves.{closed_moves, found_moves}
+use Rattle.gx_engine.proofs.searches.Moves.{closed_moves, found_moves}
 use Rattle.gx_engine.proofs.engine.Engine.find.Goals as goal
 
 pub returns-in-Ok-clause-moves : goal.returns-in-Ok-clause-moves

@@ -3,7 +3,7 @@ use Rattle.gx_machine.specs.declared.call.Call.TheVariants.{Delete}
 use Rattle.gx_phases.specs.States.{phase_at}
 use Rattle.gx_engine.specs.declared.work.Work.TheVariants.{Rests}
 use Rattle.gx_engine.specs.States.{Parts}
-use Rattle.gx_engine.proofs.WriteLooks.{absent_moves}
+use Rattle.gx_engine.proofs.writes.looks.Moves.{absent_moves}
 use Rattle.gx_engine.proofs.engine.Engine.find_absent.Goals as goal
 
 pub returns-clause-moves : goal.returns-clause-moves

@@ -2,7 +2,7 @@ use Rattle.std.proofs.Common.{◌≡◌, ◌∙◌, ap}
 use Rattle.gx_storage.specs.State.{Volume}
 use Rattle.gx_engine.specs.declared.checkpoint.Checkpoint.TheVariants.{Running}
 use Rattle.gx_engine.specs.States.{Parts}
-use Rattle.gx_engine.proofs.CheckpointTurns.{gate_fails, gate_leads, running_is_calm}
+use Rattle.gx_engine.proofs.checkpoints.Turns.{gate_fails, gate_leads, running_is_calm}
 use Rattle.gx_engine.proofs.Flushing.{noted_volume}
 use Rattle.gx_engine.proofs.engine.Engine.gate_next.Goals as goal
 

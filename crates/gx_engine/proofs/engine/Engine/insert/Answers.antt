@@ -1,4 +1,4 @@
-use Rattle.gx_engine.proofs.WriteMoves.{insert_writes, so_moves}
+use Rattle.gx_engine.proofs.writes.Moves.{insert_writes, so_moves}
 use Rattle.gx_engine.proofs.engine.Engine.insert.Goals as goal
 
 pub returns-in-Open-default-Descends-clause-moves : goal.returns-in-Open-default-Descends-clause-moves

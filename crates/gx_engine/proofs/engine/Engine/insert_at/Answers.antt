@@ -1,7 +1,7 @@
 use Rattle.std.proofs.Common.{false}
 use Rattle.gx_machine.specs.Keys.{keys}
 use Rattle.gx_node.specs.Reading.{format_of, is_node}
-use Rattle.gx_engine.proofs.WriteSeeks.{seek_write}
+use Rattle.gx_engine.proofs.writes.seeks.Joined.{seek_write}
 use Rattle.gx_engine.proofs.engine.Engine.insert_at.Goals as goal
 
 pub returns-clause-comes : goal.returns-clause-comes

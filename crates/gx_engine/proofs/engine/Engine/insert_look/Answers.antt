@@ -2,7 +2,7 @@ use Rattle.std.proofs.Common.{◌∙◌, ap, refl, [], ◌∷◌, ◌-◌}
 use Rattle.gx_machine.specs.declared.call.Call.TheVariants.{Insert}
 use Rattle.gx_machine.specs.Keys.{keys}
 use Rattle.gx_node.specs.Reading.{format_of, is_node}
-use Rattle.gx_events.specs.Events.{Works}
+use Rattle.gx_events.specs.Happenings.{Works}
 use Rattle.gx_phases.specs.States.{phase_at}
 use Rattle.gx_engine.specs.declared.work.Work.TheVariants.{Looks}
 use Rattle.gx_engine.specs.Looks.{LooksFor}
@@ -12,7 +12,7 @@ use Rattle.gx_engine.specs.Writes.{AsksRoom, LacksPages, MakesRoom}
 use Rattle.gx_engine.proofs.Calling.{then_read}
 use Rattle.gx_engine.proofs.Further.{reached_more}
 use Rattle.gx_engine.proofs.RoomMade.{look_made, stays_used}
-use Rattle.gx_engine.proofs.WriteLooks.{descends_comes, write_so}
+use Rattle.gx_engine.proofs.writes.looks.Moves.{descends_comes, write_so}
 use Rattle.gx_engine.proofs.Failing.{then_told}
 use Rattle.gx_engine.proofs.engine.Engine.insert_look.Goals as goal
 

@@ -18,7 +18,7 @@ use Rattle.gx_engine.proofs.Further.{hand_on, put_on, read_there}
 use Rattle.gx_engine.proofs.LookMoves.{same_events}
 use Rattle.gx_engine.proofs.RoomMade.{look_made, stays_used}
 use Rattle.gx_engine.proofs.Taking.{put_reads, put_write}
-use Rattle.gx_engine.proofs.WriteLooks.{at_look, may_find_none, none_left, stop_reads, stop_write, turned_moves}
+use Rattle.gx_engine.proofs.writes.looks.Moves.{at_look, may_find_none, none_left, stop_reads, stop_write, turned_moves}
 use Rattle.gx_engine.proofs.engine.Engine.look_on.Goals as goal
 
 pub returns-then-is_done-clause-goes_on : goal.returns-then-is_done-clause-goes_on

@@ -1,5 +1,5 @@
 use Rattle.gx_machine.specs.Keys.{keys}
-use Rattle.gx_engine.proofs.Steps.{ask_steps, checkpoint_steps, log_steps, page_steps, sweep_steps}
+use Rattle.gx_engine.proofs.step.Steps.{ask_steps, checkpoint_steps, log_steps, page_steps, sweep_steps}
 use Rattle.gx_engine.proofs.Calling.{ask_read, checkpoint_calls, log_calls, page_calls}
 use Rattle.gx_engine.proofs.Failing.{ask_told, checkpoint_told, log_steps_told, written_told}
 use Rattle.gx_engine.proofs.engine.Engine.make.Goals as goal

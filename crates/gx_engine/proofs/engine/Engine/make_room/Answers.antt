@@ -21,9 +21,9 @@ use Rattle.gx_node.specs.Trees.{size}
 use Rattle.gx_engine.specs.Sweeping.{is_held, node_shown, slots_room}
 use Rattle.gx_engine.proofs.Serving.{flies_on}
 use Rattle.gx_engine.proofs.DescentMoves.{full_leaf, none_removable, removable_again, said_again, swept_false, swept_true}
-use Rattle.gx_engine.proofs.MakingRoom.{comes_more, never_swept, swept_moves, yet_comes}
-use Rattle.gx_engine.proofs.ReadFirst.{comes_then, few_then, moves_then}
-use Rattle.gx_engine.proofs.Stopping.{lost_comes, stopped_comes, stopped_moves}
+use Rattle.gx_engine.proofs.writes.descents.MakingRoom.{comes_more, never_swept, swept_moves, yet_comes}
+use Rattle.gx_engine.proofs.writes.descents.ReadFirst.{comes_then, few_then, moves_then}
+use Rattle.gx_engine.proofs.writes.descents.Stopping.{lost_comes, stopped_comes, stopped_moves}
 use Rattle.gx_engine.proofs.SweepRoom.{sweep_asks}
 use Rattle.gx_engine.proofs.UndoMoves.{why_pages}
 use Rattle.gx_engine.proofs.Calling.{then_read}

@@ -4,7 +4,7 @@ use Rattle.gx_phases.specs.declared.phase.Phase.TheVariants as phase
 use Rattle.gx_phases.specs.States.{IsKept}
 use Rattle.gx_disk.specs.declared.layout.TheConstants.{MAX_PAGES}
 use Rattle.gx_engine.specs.States.{Parts}
-use Rattle.gx_engine.proofs.Steps.{delete_steps, insert_steps, seal_steps, search_steps}
+use Rattle.gx_engine.proofs.step.Steps.{delete_steps, insert_steps, seal_steps, search_steps}
 use Rattle.gx_engine.proofs.Calling.{seal_read}
 use Rattle.gx_engine.proofs.Failing.{seal_told}
 use Rattle.gx_engine.proofs.engine.Engine.move_call.Goals as goal

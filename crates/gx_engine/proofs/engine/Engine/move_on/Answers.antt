@@ -6,7 +6,7 @@ use Rattle.gx_phases.specs.States.{IsKept, phase_at}
 use Rattle.gx_engine.specs.declared.work.Work.{Work}
 use Rattle.gx_engine.specs.States.{Parts}
 use Rattle.gx_engine.specs.Stepping.{has_call}
-use Rattle.gx_engine.proofs.Steps.{acknowledge_steps, ended_steps, no_call_steps, undo_steps}
+use Rattle.gx_engine.proofs.step.Steps.{acknowledge_steps, ended_steps, no_call_steps, undo_steps}
 use Rattle.gx_engine.proofs.Calling.{acknowledge_read, undo_read}
 use Rattle.gx_engine.proofs.Failing.{acknowledge_told}
 use Rattle.gx_engine.proofs.engine.Engine.move_on.Goals as goal

@@ -1,6 +1,6 @@
 use Rattle.std.proofs.Common.{◌-◌, ◌∙◌, ap}
 use Rattle.gx_engine.specs.States.{Parts}
-use Rattle.gx_engine.proofs.Starting.{fresh_in_order, over_started}
+use Rattle.gx_engine.proofs.start.Starting.{fresh_in_order, over_started}
 use Rattle.gx_engine.proofs.engine.Engine.over.Goals as goal
 
 pub new-store-requires-clause-order : goal.new-store-requires-clause-order

@@ -2,7 +2,7 @@ use Rattle.std.proofs.Common.{refl}
 use Rattle.gx_machine.specs.Keys.{Members}
 use Rattle.gx_events.specs.declared.outcome.Outcome.TheVariants.{Help, Refused}
 use Rattle.gx_engine.specs.declared.pages.NotLent.TheVariants as not_lent
-use Rattle.gx_engine.proofs.Viewing.{not_viewed}
+use Rattle.gx_engine.proofs.pages.Viewing.{not_viewed}
 use Rattle.gx_engine.proofs.engine.Engine.page.Goals as goal
 
 pub returns-in-Err-Help : goal.returns-in-Err-Help

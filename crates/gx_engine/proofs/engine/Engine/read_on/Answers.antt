@@ -14,7 +14,7 @@ use Rattle.gx_engine.specs.Looks.{work_before}
 use Rattle.gx_engine.specs.Moves.{calling}
 use Rattle.gx_engine.specs.States.{Parts}
 use Rattle.gx_engine.specs.Writes.{brought}
-use Rattle.gx_engine.proofs.SearchMoves.{stop_search}
+use Rattle.gx_engine.proofs.searches.Moves.{stop_search}
 use Rattle.gx_engine.proofs.Further.{hand_on, put_on, read_there}
 use Rattle.gx_engine.proofs.LookMoves.{same_events}
 use Rattle.gx_engine.proofs.Reading.{read_at_hand}

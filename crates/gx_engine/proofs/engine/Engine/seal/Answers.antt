@@ -3,7 +3,7 @@ use Rattle.gx_phases.specs.Moves.{asks_commit}
 use Rattle.gx_phases.specs.States.{phase_at}
 use Rattle.gx_storage.specs.State.{Volume}
 use Rattle.gx_engine.specs.States.{Parts, is_due}
-use Rattle.gx_engine.proofs.CommitMoves.{seal_leads}
+use Rattle.gx_engine.proofs.commits.Moves.{seal_leads}
 use Rattle.gx_engine.proofs.Serving.{flies_on, is_calm, not_due}
 use Rattle.gx_engine.proofs.engine.Engine.seal.Goals as goal
 

@@ -1,7 +1,7 @@
 use Rattle.std.proofs.Common.{◌∙◌, ap}
 use Rattle.gx_node.specs.Reading.{format_of, is_node}
 use Rattle.gx_engine.specs.States.{Parts}
-use Rattle.gx_engine.proofs.SearchMoves.{found_comes, found_moves_so, search_reads, search_so}
+use Rattle.gx_engine.proofs.searches.Moves.{found_comes, found_moves_so, search_reads, search_so}
 use Rattle.gx_engine.proofs.Calling.{then_read}
 use Rattle.gx_engine.proofs.Failing.{then_told}
 use Rattle.gx_engine.proofs.engine.Engine.search.Goals as goal

@@ -8,7 +8,7 @@ use Rattle.gx_engine.specs.declared.work.Work.{Work}
 use Rattle.gx_engine.specs.declared.work.Work.TheVariants.{Looks, Rests}
 use Rattle.gx_engine.specs.Searches.{SearchComes}
 use Rattle.gx_engine.specs.States.{Parts}
-use Rattle.gx_engine.proofs.SearchMoves.{no_search}
+use Rattle.gx_engine.proofs.searches.Moves.{no_search}
 use Rattle.gx_engine.proofs.Further.{moves_again, on_again}
 use Rattle.gx_engine.proofs.LookMoves.{closes_moves}
 use Rattle.gx_engine.proofs.Reading.{err_map, ok_map, on_ok_map}

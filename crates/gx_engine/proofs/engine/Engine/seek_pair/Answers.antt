@@ -1,4 +1,4 @@
-use Rattle.gx_engine.proofs.WriteSeeks.{found, unfound}
+use Rattle.gx_engine.proofs.writes.seeks.Joined.{found, unfound}
 use Rattle.gx_engine.proofs.engine.Engine.seek_pair.Goals as goal
 
 pub returns-clause-sought : goal.returns-clause-sought

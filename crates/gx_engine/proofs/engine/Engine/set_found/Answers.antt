@@ -17,8 +17,8 @@ use Rattle.gx_engine.specs.Refusals.{IsRefused}
 use Rattle.gx_engine.specs.Seeks.{SeekComes, write_call}
 use Rattle.gx_engine.specs.States.{Parts}
 use Rattle.gx_engine.specs.Writes.{write_events}
-use Rattle.gx_engine.proofs.WriteSeeks.{damaged_comes, mark_is_short, noted_so, refused_comes, set_comes}
-use Rattle.gx_engine.proofs.SeekMoves.{never_set, refused_moves, set_moves}
+use Rattle.gx_engine.proofs.writes.seeks.Joined.{damaged_comes, mark_is_short, noted_so, refused_comes, set_comes}
+use Rattle.gx_engine.proofs.writes.seeks.Moves.{never_set, refused_moves, set_moves}
 use Rattle.gx_engine.proofs.UndoMoves.{why_pages}
 use Rattle.gx_engine.proofs.Failing.{then_told, pages_told, quiet_told}
 use Rattle.gx_node.specs.declared.fault.StepFault.{StepFault}

@@ -1,5 +1,5 @@
 use Rattle.gx_record.specs.declared.sizes.TheConstants.{SPLIT_RECORD}
-use Rattle.gx_engine.proofs.Descents.{splitting}
+use Rattle.gx_engine.proofs.writes.descents.Moves.{splitting}
 use Rattle.gx_engine.proofs.Calling.{changed_read}
 use Rattle.gx_tree.specs.Splitting.{has_split}
 use Rattle.gx_engine.proofs.engine.Engine.split_node.Goals as goal

@@ -1,4 +1,4 @@
-use Rattle.gx_engine.proofs.Descents.{root_splitting}
+use Rattle.gx_engine.proofs.writes.descents.Moves.{root_splitting}
 use Rattle.gx_engine.proofs.engine.Engine.split_root.Goals as goal
 
 pub returns-clause-splits : goal.returns-clause-splits

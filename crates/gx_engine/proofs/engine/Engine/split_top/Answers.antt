@@ -15,8 +15,8 @@ use Rattle.gx_engine.specs.Moves.{Moves}
 use Rattle.gx_engine.specs.Refusals.{IsRefused}
 use Rattle.gx_engine.specs.States.{Parts}
 use Rattle.gx_engine.specs.Writes.{LeftFew, write_events}
-use Rattle.gx_engine.proofs.MakingRoom.{few_top, full_comes, full_is, full_moves, never_split_root, on_comes, on_is, root_any}
-use Rattle.gx_engine.proofs.Stopping.{lost_comes, stopped_comes, stopped_moves}
+use Rattle.gx_engine.proofs.writes.descents.MakingRoom.{few_top, full_comes, full_is, full_moves, never_split_root, on_comes, on_is, root_any}
+use Rattle.gx_engine.proofs.writes.descents.Stopping.{lost_comes, stopped_comes, stopped_moves}
 use Rattle.gx_engine.proofs.UndoMoves.{why_split_pages}
 use Rattle.gx_engine.proofs.Calling.{then_read}
 use Rattle.gx_engine.proofs.Failing.{then_told, split_pages_told, quiet_told}

@@ -1,5 +1,5 @@
 use Rattle.std.proofs.Common.{◌≤◌, arith}
-use Rattle.gx_engine.proofs.Starting.{started_from}
+use Rattle.gx_engine.proofs.start.Starting.{started_from}
 use Rattle.gx_engine.proofs.engine.Engine.start.Goals as goal
 
 pub returns-in-Ok-sessions-clause-holds : goal.returns-in-Ok-sessions-clause-holds

@@ -1,5 +1,5 @@
 use Rattle.std.proofs.Common.{rules}
-use Rattle.gx_engine.proofs.Descents.{stepping}
+use Rattle.gx_engine.proofs.writes.descents.Moves.{stepping}
 use Rattle.gx_engine.proofs.Framed.{stepped_frames}
 use Rattle.gx_engine.proofs.Ordered.{order_changed}
 use Rattle.gx_engine.proofs.Calling.{stepped_read}

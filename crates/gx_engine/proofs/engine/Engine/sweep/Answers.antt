@@ -2,7 +2,7 @@ use Rattle.std.proofs.Common.{◌≡◌, ◌∙◌, ap, sym, true, false}
 use Rattle.gx_engine.specs.States.{Parts}
 use Rattle.gx_engine.specs.Sweeping.{is_page}
 use Rattle.gx_engine.proofs.Brought.{leads_joined}
-use Rattle.gx_engine.proofs.Sweeping.{sweep_then}
+use Rattle.gx_engine.proofs.sweeps.Sweeping.{sweep_then}
 use Rattle.gx_engine.proofs.Calling.{then_read}
 use Rattle.gx_engine.proofs.Failing.{then_told}
 use Rattle.gx_engine.proofs.engine.Engine.sweep.Goals as goal

@@ -3,7 +3,7 @@ use Rattle.gx_machine.specs.Keys.{keys}
 use Rattle.gx_engine.specs.States.{Parts}
 use Rattle.gx_engine.specs.Sweeping.{is_held}
 use Rattle.gx_engine.proofs.Framed.{swept_frames}
-use Rattle.gx_engine.proofs.Descents.{leaf_sweeping}
+use Rattle.gx_engine.proofs.writes.descents.Moves.{leaf_sweeping}
 use Rattle.gx_engine.proofs.Ordered.{order_changed}
 use Rattle.gx_engine.proofs.Calling.{swept_read}
 use Rattle.gx_engine.proofs.engine.Engine.sweep_leaf.Goals as goal

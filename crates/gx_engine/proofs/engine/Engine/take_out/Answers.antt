@@ -17,7 +17,7 @@ use Rattle.gx_engine.proofs.Brought.{as_brought, brought_leads, refused_leads}
 use Rattle.gx_engine.proofs.Reading.{of_err}
 use Rattle.gx_engine.proofs.Serving.{flies_on, is_calm, not_due}
 use Rattle.gx_engine.proofs.Ordered.{order_read}
-use Rattle.gx_engine.proofs.Sweeping.{more_than_fit, never_full, never_none, none_taken, sweep_leads, sweep_so, swept_so, turned_comes, unswept_so}
+use Rattle.gx_engine.proofs.sweeps.Sweeping.{more_than_fit, never_full, never_none, none_taken, sweep_leads, sweep_so, swept_so, turned_comes, unswept_so}
 use Rattle.gx_pool.proofs.Bringing.{only_read_joined}
 use Rattle.gx_node.specs.Owner.{CountsFaults, step_fails}
 use Rattle.gx_node.specs.declared.fault.StepFault.{StepFault}

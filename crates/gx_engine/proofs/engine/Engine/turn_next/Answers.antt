@@ -4,7 +4,7 @@ use Rattle.gx_storage.specs.State.{Volume}
 use Rattle.gx_engine.specs.declared.checkpoint.Checkpoint.{Checkpoint}
 use Rattle.gx_engine.specs.declared.checkpoint.Checkpoint.TheVariants.{Turning}
 use Rattle.gx_engine.specs.States.{Parts, StandsIn}
-use Rattle.gx_engine.proofs.CheckpointTurns.{turn_fails, turn_leads}
+use Rattle.gx_engine.proofs.checkpoints.Turns.{turn_fails, turn_leads}
 use Rattle.gx_engine.proofs.engine.Engine.turn_next.Goals as goal
 
 pub returns-in-Ok-clause-leads : goal.returns-in-Ok-clause-leads

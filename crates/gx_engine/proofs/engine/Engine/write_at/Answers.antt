@@ -12,8 +12,8 @@ use Rattle.gx_engine.specs.States.{Parts}
 use Rattle.gx_engine.specs.Writes.{write_events}
 use Rattle.gx_engine.proofs.Calling.{then_read}
 use Rattle.gx_engine.proofs.RoomMade.{stays_used}
-use Rattle.gx_engine.proofs.WriteSeeks.{comes_on, damaged_comes, no_room, refused_comes, why_begun}
-use Rattle.gx_engine.proofs.SeekMoves.{moves_on, never_moves, refused_moves}
+use Rattle.gx_engine.proofs.writes.seeks.Joined.{comes_on, damaged_comes, no_room, refused_comes, why_begun}
+use Rattle.gx_engine.proofs.writes.seeks.Moves.{moves_on, never_moves, refused_moves}
 use Rattle.gx_engine.proofs.UndoMoves.{why_pages}
 use Rattle.gx_engine.proofs.Failing.{then_told, pages_told, quiet_told}
 use Rattle.gx_node.specs.declared.fault.StepFault.{StepFault}

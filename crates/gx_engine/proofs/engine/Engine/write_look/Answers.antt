@@ -12,7 +12,7 @@ use Rattle.gx_engine.proofs.Further.{moves_again, on_again}
 use Rattle.gx_engine.proofs.LookMoves.{closes_moves, same_events}
 use Rattle.gx_engine.proofs.Reading.{err_map, ok_map, on_err_map, on_ok_map}
 use Rattle.gx_engine.proofs.Taking.{again, answered_taken, no_look, phase_now, put_back, read_rests, reads_of, reads_rested, rests, taken}
-use Rattle.gx_engine.proofs.WriteLooks.{memory_told, rests_yet}
+use Rattle.gx_engine.proofs.writes.looks.Moves.{memory_told, rests_yet}
 use Rattle.gx_pool.proofs.Bringing.{only_read_nothing}
 use Rattle.gx_engine.proofs.engine.Engine.write_look.Goals as goal
 

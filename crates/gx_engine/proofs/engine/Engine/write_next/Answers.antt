@@ -2,7 +2,7 @@ use Rattle.std.proofs.Common.{subst}
 use Rattle.std.specs.Prelude.{None}
 use Rattle.gx_storage.specs.Flushing.{IsLeastWritable}
 use Rattle.gx_engine.specs.States.{Parts}
-use Rattle.gx_engine.proofs.CheckpointTurns.{page_leads, page_written, some_writable}
+use Rattle.gx_engine.proofs.checkpoints.Turns.{page_leads, page_written, some_writable}
 use Rattle.gx_engine.proofs.engine.Engine.write_next.Goals as goal
 
 pub returns-in-Some-clause-leads : goal.returns-in-Some-clause-leads

@@ -8,7 +8,7 @@ use Rattle.gx_engine.specs.declared.work.Work.TheVariants.{Seeks}
 use Rattle.gx_engine.specs.Seeks.{IsSought, write_call}
 use Rattle.gx_engine.specs.States.{Parts}
 use Rattle.gx_engine.proofs.LookMoves.{replaced}
-use Rattle.gx_engine.proofs.SeekMoves.{right_moves, stands_moves}
+use Rattle.gx_engine.proofs.writes.seeks.Moves.{right_moves, stands_moves}
 use Rattle.gx_engine.proofs.engine.Engine.write_sought.Goals as goal
 
 pub returns-in-Right-clause-comes : goal.returns-in-Right-clause-comes

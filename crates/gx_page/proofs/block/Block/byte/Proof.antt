@@ -59,7 +59,7 @@ byte_spec 𝓤 𝓛 𝓜 𝓡 wired =
     use1 𝓛 (‵ (fhide (elements_shared u8 d.bytes b' o' κs.0)) ⊛ raw (fact 𝓤 (length d.bytes ≡ 4096))) (each_byte 𝓛 κs.0 d.bytes b' o') $ split ! $ move ! (1 ∷ []) $ heard ! (length d.bytes ≡ 4096) (λ size.
     let low : i < length d.bytes = omega arith in
     enter ! 𝓣.C 𝓣.Λ code.function _ Post $ alloc_all ! (λ l. pass_all ! refl ((tt, tt), ((tt, record { fits = are.1.0.1 }), tt)) $ let Ev = env code.function.locals l in
-    -- [the `&` to each byte; the `&` to the fields; the token]: the fields are looked into, where the pointer stands
+    -- [the `&` to each byte; the `&` to the fields; the token]: the fields are read, at the pointer
     move ! (1 ∷ 2 ∷ []) $ first ! $ blocks ! $ looks ! tt Fields (fields_copied 𝓛).opens fields b o (λ s ws. move ! (1 ∷ []) $ peeks ! Fields (Is Fields) (shows 𝓛 Fields) fields ws (λ is. move ! (1 ∷ []) $
     let told : ws ≡ word (block_ptr b' o') ∷ [] = fields_tell fields ws is ∙ ap (λ (p : Ptr). word p ∷ []) (at_block d.at inside) in let Cell = λ (us : List Val). ‵ (cell_at s Fields.mir us b o) in
     rewrite ! 0 Cell told refl $ sets ! (addr ! (through ! refl (fld ! refl (hop ! (look_in ! 0 (sub ! 0 refl (whole !))) (stop !))))) refl (tt, tt) $

@@ -48,7 +48,7 @@ bytes_spec 𝓤 𝓛 𝓜 𝓡 wired =
     via 𝓤 _ (begins_with 𝓛 κs.0 qs.0 Self) (qed 𝓛 (‵ Self ∷ ‵ (flft κs.0 qs.0) ∷ []) ∵
     fsplit ! $ drop ! $ use1 𝓛 (‵ (hidden_shr Fields κs.0 fields b o) ⊛ ‵ (hidden_shr the_bytes κs.0 d.bytes r.ref_ptr.0 r.ref_ptr.1) ⊛ raw (fact 𝓤 (InBlock d.at))) (reaches 𝓛 κs.0 d b o) $
     split3 ! $ move ! (2 ∷ []) $ heard ! (InBlock d.at) (λ inside. move ! (1 ∷ []) $ enter ! 𝓣.C 𝓣.Λ code.function (shr_vals self) Post $ alloc_all ! (λ l. pass_all ! refl ((tt, tt), tt) $ let Ev = env code.function.locals l in
-    -- [the `&` to the bytes; the `&` to the fields; the token]: the fields are looked into, where the pointer stands
+    -- [the `&` to the bytes; the `&` to the fields; the token]: the fields are read, at the pointer
     move ! (1 ∷ 2 ∷ []) $ first ! $ blocks ! $ looks ! tt Fields (fields_copied 𝓛).opens fields b o (λ s ws. move ! (1 ∷ []) $ peeks ! Fields (Is Fields) (shows 𝓛 Fields) fields ws (λ is. move ! (1 ∷ []) $
     let told : ws ≡ word (block_ptr r.ref_ptr.0 r.ref_ptr.1) ∷ [] = fields_tell fields ws is ∙ ap (λ (p : Ptr). word p ∷ []) (at_block d.at inside) in let Cell = λ (us : List Val). ‵ (cell_at s Fields.mir us b o) in
     rewrite ! 0 Cell told refl $ sets_last ! (addr ! (through ! refl (fld ! refl (hop ! (look_in ! 0 (sub ! 0 refl (whole !))) (stop !))))) refl (tt, tt) $ exec ! 𝓣.C 𝓣.Λ Ev (after 1 code.function.body) (at_ret Ev Post) $

@@ -45,7 +45,7 @@ abbrev loan : ℕ × ℕ → GName → List ℕ → MutBor (List ℕ)
 loan at γ bytes = record { ref_ptr = at; ghost_name = γ; now = bytes }
 
 module _ {M : Type 1} {𝓤 : Ura M} (𝓛 : Logic 𝓤) where
-  -- so the bytes go out as a `&mut` of their own, and the rest waits for them
+  -- so the bytes are lent as a separate `&mut`, and the rest waits for them
   goes_out : (κ : Lft) (q : Share) (b o : ℕ) (γ : GName) (d : R.Denot) (at : ℕ × ℕ) → Lie d at
       → ent 𝓤 (sep 𝓤 (sem 𝓛 (fobor κ q (Body (mem R) b o γ))) (sep 𝓤 (sem 𝓛 (fobs γ (R.coded.code d))) (sep 𝓤 (sem 𝓛 (fauth γ (R.coded.code d))) (sep 𝓤 (sem 𝓛 (part_at the_bytes full_share d.bytes at.0 at.1)) (sem 𝓛 (Rest d (block_ptr at.0 at.1) b o))))))
       (𝓛.H.⇛ (ex 𝓤 (λ (γ' : GName). sep 𝓤 (sem 𝓛 ((MutRef (named 0) κ the_bytes).own_val (loan at γ' d.bytes) (vptr at.0 at.1 ∷ []))) (sep 𝓤 (sem 𝓛 (flft κ q)) (sem 𝓛 (follows R the_bytes γ γ' (with_bytes d)))))))

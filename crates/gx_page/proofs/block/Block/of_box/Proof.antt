@@ -48,7 +48,7 @@ use Rattle.gx_page.proofs.block.Block.of_box.Code as code
 abbrev stayed : Stays ended.signature.params ended.kept
 stayed = (stay_dropped (plain (λ _. box_row)) yes, tt)
 
--- the block of a box, at the pointer that the call hands over
+-- the block of a box, at the pointer that the call passes
 abbrev block_of : box_row.Denot → Ptr → block.the_row.Denot
 block_of v p = record { at = p; alloc = v.alloc; bytes = v.value }
 

@@ -60,7 +60,7 @@ slice_spec 𝓤 𝓛 𝓜 𝓡 wired =
     let long : length part ≡ n = omega (arith, length-take n (drop-list from d.bytes), length-drop from d.bytes, asked.0, asked.1, size) in
     let few : n < 2 ^ 64 = let t = asked.1 in omega arith in let r : Bor (List ℕ) = record { ref_ptr = (b', from + o'); now = part } in
     enter ! 𝓣.C 𝓣.Λ code.function _ Post $ alloc_all ! (λ l. pass_all ! refl ((tt, tt), ((tt, record { fits = are.1.0.1 }), ((tt, record { fits = are.1.1.0.1 }), tt))) $ let Ev = env code.function.locals l in
-    -- [the `&` to each byte; the `&` to the fields; the token]: the fields are looked into, where the pointer stands
+    -- [the `&` to each byte; the `&` to the fields; the token]: the fields are read, at the pointer
     move ! (1 ∷ 2 ∷ []) $ first ! $ blocks ! $ looks ! tt Fields (fields_copied 𝓛).opens fields b o (λ s ws. move ! (1 ∷ []) $ peeks ! Fields (Is Fields) (shows 𝓛 Fields) fields ws (λ is. move ! (1 ∷ []) $
     let told : ws ≡ word (block_ptr b' o') ∷ [] = fields_tell fields ws is ∙ ap (λ (p : Ptr). word p ∷ []) (at_block d.at inside) in let Cell = λ (us : List Val). ‵ (cell_at s Fields.mir us b o) in
     rewrite ! 0 Cell told refl $ sets ! (of_opd ! (load ! (through ! refl (fld ! refl (stop !))) (look_in ! 0 (sub ! 0 refl (whole !))))) refl (tt, tt) $
@@ -68,7 +68,7 @@ slice_spec 𝓤 𝓛 𝓜 𝓡 wired =
     sets ! (bin ! (get ! refl) (get ! refl) asked.0) refl (tt, record { fits = few }) $
     sets_last ! (agg ! (and_then ! (get ! refl) (and_then ! (get ! refl) (no_more !)))) refl (tt, (tt, (record { fits = few }, tt))) $ exec ! 𝓣.C 𝓣.Λ Ev (after 1 code.function.body) (at_ret Ev Post) $
     sets ! (of_opd ! (get ! refl)) refl (tt, (tt, (record { fits = few }, tt))) $ returns ! (look_at ! 0 refl) $ free_all ! refl $
-    -- [the `&` to each byte; the token]: the bytes before the part and behind it are let go
+    -- [the `&` to each byte; the token]: the bytes before the part and behind it are released
     keep ! (2 ∷ 0 ∷ []) $ unhide ! $ use1 𝓛 (‵ (elements_shared u8 (drop-list from d.bytes) b' (from + o') κs.0)) (drop_each 𝓛 κs.0 from d.bytes b' o' (from + o') refl) $
     use1 𝓛 (‵ (elements_shared u8 part b' (from + o') κs.0)) (take_each 𝓛 κs.0 n (drop-list from d.bytes) b' (from + o')) $ hide ! $
     flt_i ! (length part * 1) (2 ^ 63) (omega arith) $ flt_i ! (length part) (2 ^ 64) (omega arith) $ fjoin ! $

@@ -1,4 +1,4 @@
--- The number stands where the header has it.
+-- The number is where the header has it.
 use Rattle.std.proofs.Common.{ap, ◌∙◌}
 use Rattle.gx_page.specs.Contents.{Contents}
 use Rattle.gx_page.proofs.Parts.{number_in}

@@ -1,7 +1,7 @@
 use Rattle.std.proofs.Common.{◌≡◌, ◌-◌, true, false, refl, ap, sym, ◌∙◌, subst}
 use Rattle.gx_machine.specs.Keys.{keys, IsLawful}
 use Rattle.gx_machine.specs.Machine.{is_session}
-use Rattle.gx_events.specs.Events.{IsEvent}
+use Rattle.gx_events.specs.Happenings.{IsHappening}
 use Rattle.gx_phases.specs.States.{State, phase_at, engine_of, IsKept}
 use Rattle.gx_phases.specs.Asked.{begins, AskedAt, IsAsked, asked_event}
 use Rattle.gx_phases.proofs.Keeping.{at_kept}
@@ -61,6 +61,6 @@ returns g c =
     record {
       asked = subst (λ (x : State g.row.B.Denot g.row.W.Denot). IsAsked k c.args.session c.args.call c.args.work x c.ask_at.result new) c.self.view_is done;
       event = λ live older.
-          subst (λ (x : State g.row.B.Denot g.row.W.Denot). IsEvent k (engine_of live older x) (asked_event c.args.session c.args.call x c.ask_at.result) (engine_of live older new)) c.self.view_is
+          subst (λ (x : State g.row.B.Denot g.row.W.Denot). IsHappening k (engine_of live older x) (asked_event c.args.session c.args.call x c.ask_at.result) (engine_of live older new)) c.self.view_is
           (ask_is_event k lawful c.args.session c.args.call c.args.work old c.ask_at.result new c.self.invariant done live older);
     }

@@ -1,14 +1,14 @@
 use Rattle.std.proofs.Common.{◌∙◌, sym, ap, refl, get_or, Some}
 use Rattle.gx_page.specs.Edits.{blank}
 use Rattle.gx_pool.specs.Edits.{with_page, stamped, later, changed_at}
-use Rattle.gx_pool.proofs.Places.{not_kept, frame_page, has_page}
+use Rattle.gx_pool.proofs.Places.{not_kept, frame_page}
 use Rattle.gx_pool.proofs.frames.Frames.change_kept.Goals as goal
 
 pub unreachable-requires : goal.unreachable-requires
 unreachable-requires c = not_kept c.args.self.now c.args.page (sym c.place.ensures.place ∙ c.in-None.is) c.requires.kept
 
 pub stamp-requires-clause-page : goal.stamp-requires-clause-page
-stamp-requires-clause-page c = has_page c.args.self.now c.args.page c.in-Some.i c.place.ensures.sound (sym c.place.ensures.place ∙ c.in-Some.is)
+stamp-requires-clause-page c = (c.place.ensures.sound.there c.args.page c.in-Some.i (sym c.place.ensures.place ∙ c.in-Some.is)).1
 
 pub returns : goal.returns
 returns c =

@@ -2,6 +2,7 @@ use Rattle.std.proofs.Common.{◌∙◌, get_or, ◌<◌, sym, ap, length, arith
 use Rattle.gx_pool.specs.Marks.{empty}
 use Rattle.gx_pool.specs.State.{State}
 use Rattle.gx_pool.proofs.Places.{vacated_sound, named_inside}
+use Rattle.gx_pool.proofs.Queues.{vacated_listed}
 use Rattle.gx_pool.proofs.frames.Frames.vacate.Goals as goal
 
 pub forget-requires : goal.forget-requires
@@ -16,4 +17,5 @@ invariant_of-self c =
       rw (c.set_mark-self-inside.ensures.put, c.forget.ensures, c.mark_in-mark.ensures, c.deref.ensures.value, c.empty.ensures) (vacated_sound s c.args.i c.self.invariant.0 inside),
       rw (c.set_mark-self-inside.ensures.put, length-set c.self.inside.marks.items c.args.i _) c.self.invariant.1,
       c.set_mark-self-inside.ensures.counted,
+      rw (c.set_mark-self-inside.ensures.put, c.empty.ensures) (vacated_listed s c.args.i c.self.inside.queue inside c.self.invariant.3),
     )

@@ -2,6 +2,7 @@ use Rattle.std.proofs.Common.{◌∙◌, sym, arith}
 use Rattle.gx_pool.specs.State.{State}
 use Rattle.gx_pool.proofs.Places.{empty_sound}
 use Rattle.gx_pool.proofs.Numbers.{empty_counted}
+use Rattle.gx_pool.proofs.Queues.{empty_listed}
 use Rattle.gx_pool.proofs.frames.Frames.with_capacity.Goals as goal
 
 pub invariant_of-result : goal.invariant_of-result
@@ -11,4 +12,5 @@ invariant_of-result c =
       empty_sound s (c.in_ok-blank_pages.ensures ∙ sym marks.0) (omega (arith, marks.0, c.requires)) c.in_ok-empty_places.ensures.0 marks.1 c.in_ok-empty_places.ensures.1,
       omega arith,
       empty_counted c.in_ok-empty_marks.field-0.items marks.1,
+      empty_listed 0 c.in_ok-empty_marks.field-0.items c.in_ok-none.field-0 marks.1,
     )

@@ -2,12 +2,11 @@ use Rattle.std.proofs.Common.{◌∙◌, ap, refl}
 use Rattle.std.proofs.lemmas.Result.{err_from_is_err_and}
 use Rattle.gx_page.specs.Format.{image_of}
 use Rattle.gx_geom.specs.declared.refusal.Refusal.{Refusal}
-use Rattle.gx_pool.proofs.Places.{has_page}
 use Rattle.gx_pool.proofs.Writing.{wrote_err, wrote_ok}
 use Rattle.gx_pool.proofs.pool.Pool.write_frame.Goals as goal
 
 pub stamp-requires-clause-page : goal.stamp-requires-clause-page
-stamp-requires-clause-page g c = has_page c.args.self.now.frames c.args.page c.args.i c.requires.sound c.requires.frame.0
+stamp-requires-clause-page g c = (c.requires.sound.there c.args.page c.args.i c.requires.frame.0).1
 
 pub returns-clause-written : goal.returns-clause-written
 returns-clause-written g c = λ k is.

@@ -11,7 +11,7 @@ use Rattle.gx_restart.specs.Reading.{OfItsTree}
 use Rattle.gx_restart.specs.Text.{head_line, pages_text}
 use Rattle.gx_restart.proofs.text.tree.dump.Given as goal
 
--- the pages before this one were brought, and told behind the first line
+-- the pages before this one were brought, and written behind the first line
 abbrev pub invariant-loop-last : goal.invariant-loop-last
 invariant-loop-last g l =
     let boxes : Members g.row.B.Denot = record { partial_cmp = g.B.PartialOrd.partial_cmp; eq = g.B.PartialEq.eq; cmp = g.B.Ord.cmp; overlap = g.B.Shape.overlap; inside = g.B.Shape.inside } in

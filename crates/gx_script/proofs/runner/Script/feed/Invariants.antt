@@ -4,7 +4,7 @@ use Rattle.gx_script.specs.Scripts.{IsUnended}
 use Rattle.gx_script.specs.Steps.{IsFed, Feeds}
 use Rattle.gx_script.proofs.runner.Script.feed.Given as goal
 
--- the lines before the rest were fed, and the rest stands behind the line that was begun
+-- the lines before the rest were fed, and the rest follows the line that was begun
 abbrev pub invariant-loop-line : goal.invariant-loop-line
 invariant-loop-line g l =
     let k = grammar g.B.Corners.COUNT g.B.Corners.corners g.B.Corners.fit g.B.Corners.made in

@@ -1,7 +1,0 @@
--- It owns nothing, so it may go to another thread.
-use denote.RattleType.{RattleType}
-use denote.Param.Send.{IsSend}
-use Rattle.gx_shared.specs.contracts.seen.Seen.{the_row}
-
-pub send : (T : RattleType) → IsSend (the_row T)
-send T = record { owned = λ seen vs. ((λ vss. (tt, ((λ uss. (tt, tt)), tt))), tt); leaving = λ k seen w. tt }
