@@ -6,7 +6,7 @@
 #
 #   bench/peers.sh [ENTRIES SEARCHES SINGLES [PROGRAM]]
 #
-# The counts are 100000, 100000 and 2000 where they aren't given. Without PROGRAM the one that stands here is proved and built. A peer that
+# The counts are 100000, 100000 and 2000 where they aren't given. Without PROGRAM the one of this checkout is proved and built. A peer that
 # isn't installed is left out, and that is said: Debian's packages are libsqlite3-dev, postgresql with libpq-dev, libspatialindex-dev and
 # libboost-dev. ROUNDS (3) is how often all is done, in turn; ratios are medians of the rounds' own. FOLDER (/tmp) is where the files lie.
 # With SLOW=1 each sync of a file takes a millisecond more. Where GROWTH names other numbers of entries (GROWTH='10000 1000000'), all is done
@@ -39,7 +39,7 @@ from="$top/bench/peers"
 peers=(gist)
 cc "${flags[@]}" -o "$work/gist" "$from/workload.c" "$from/gist.c" "$top"/c/gist_*.c
 
-# NAME HEADER PACKAGE: whether a peer can be built; says what lacks.
+# NAME HEADER PACKAGE: whether a peer can be built; says what is missing.
 has() {
     if echo "#include <$2>" | c++ -E -x c++ -I/usr/include/postgresql - > /dev/null 2>&1; then
         peers+=("$1")
@@ -78,7 +78,7 @@ source "$from/server.sh"
 # shellcheck disable=SC2086
 sizes="$(printf '%s\n' "$entries" ${GROWTH-} | sort -nu)"
 
-# ROUND PEER ENTRIES: a run of its own, on new files.
+# ROUND PEER ENTRIES: a separate run, on new files.
 run() {
     local one="$work/index" two="$work/second"
     rm -f "$one" "$one"[.-]* "$two" "$two"[.-]*
@@ -145,13 +145,13 @@ def table(own, rows, kind):
 
 NAMES = {"searches, a tenth of all": f"searches, {entries // 10:,} hits", "single commits of four writers": "by four writers",
          "single commits of four writers in turn": "by four in turn"}
-RATES = ("load, random order", "load, local order", "searches, ten hits", "searches, a tenth of all", "deletes", "single commits",
-         "single commits of four writers", "single commits of four writers in turn")
+RATES = ("load, random order", "load, local order", "searches, ten hits", "searches, ten hits, by sixteen", "searches, a tenth of all",
+         "deletes", "single commits", "single commits of four writers", "single commits of four writers in turn")
 BYTES = ("bytes on disk", "bytes of memory")
 table("gist, a second", [(NAMES.get(it, it), entries, it) for it in RATES + BYTES], RATE)
 table("gist, microseconds of processor", [(NAMES.get(it, it), entries, it) for it in RATES], PROCESSOR)
 if len(sizes) > 1:
-    grown = [(f"{it}; {size:,}", size, it) for it in RATES[:6] + BYTES for size in sizes]
+    grown = [(f"{it}; {size:,}", size, it) for it in RATES[:7] + BYTES for size in sizes]
     table("gist, a second, as it grows", grown, RATE)
 print(f"{entries:,} entries; what {len(told['gist', entries][0][1])} series of searches found is the same in all {len(peers)}, "
       f"in each of {rounds} rounds.")

@@ -1,9 +1,9 @@
 /* The calls of an open index that have boxes, those of the plane and those of space; gist_client.h says what each does.
    What both have in common is done for a shape. */
 #define _GNU_SOURCE /* reallocarray */
+#include "gist_digits.h"
 #include "gist_index.h"
 
-#include <inttypes.h>
 #include <stdbool.h>
 #include <stdlib.h>
 #include <string.h>
@@ -36,27 +36,35 @@ static int takes(const gist_index *index, const shape *of) {
     return told == GIST_OK && index->dimensions != of->dimensions ? GIST_BAD_PARAMETER : told;
 }
 
-/* Writes a box, and ends the line. Returns the length. */
-static size_t print_box(char *line, const shape *of, const char *box) {
+/* Writes the words with which a line begins, and returns what stands behind them. */
+static char *print_words(char *line, unsigned session, const char *command) {
+    line = gist_write_text(gist_write_number(line, session), " ");
+    return gist_write_text(line, command);
+}
+
+/* Writes a box, ends the line, and returns what stands behind it. */
+static char *print_box(char *line, const shape *of, const char *box) {
     int32_t corners[MOST_CORNERS];
-    size_t length = 0;
     memcpy(corners, box, of->box);
-    for (size_t i = 0; i < of->corners; i++) length += (size_t)snprintf(line + length, 13, " %" PRId32, corners[i]);
-    line[length] = '\n';
-    return length + 1;
+    for (size_t i = 0; i < of->corners; i++) {
+        *line++ = ' ';
+        line = gist_write_corner(line, corners[i]);
+    }
+    *line = '\n';
+    return line + 1;
 }
 
 /* Writes the lines that make these calls. Returns their length. */
 static size_t print_calls(char *lines, const shape *of, unsigned session, const char *command, const char *entries,
                           size_t calls) {
-    size_t length = 0;
+    char *line = lines;
     for (const char *it = entries; it < entries + calls * of->entry; it += of->entry) {
         uint64_t row;
         memcpy(&row, it, ROW);
-        length += (size_t)snprintf(lines + length, GIST_LINE, "%u %s %" PRIu64, session, command, row);
-        length += print_box(lines + length, of, it + ROW);
+        line = gist_write_text(print_words(line, session, command), " ");
+        line = print_box(gist_write_number(line, row), of, it + ROW);
     }
-    return length;
+    return (size_t)(line - lines);
 }
 
 static int write_many(gist_index *index, const shape *of, unsigned session, const char *command, const char *expected,
@@ -120,26 +128,14 @@ int gist_delete_many3(gist_index *index, unsigned session, const gist_entry3 *en
     return delete_many(index, &SPACE, session, entries, count, done);
 }
 
-/* Reads a corner, digits behind a minus sign or not, and returns what stands behind it. */
-static const char *read_corner(const char *at, int32_t *corner) {
-    uint64_t size;
-    bool is_negative = *at == '-';
-    at = gist_index_number(at + is_negative, &size);
-    *corner = (int32_t)(is_negative ? -(int64_t)size : (int64_t)size);
-    return at;
-}
-
-/* Reads a line `S entry R` with a box behind. Returns what stands behind it, or NULL where it is no such line. */
-static const char *read_entry(const char *line, const shape *of, char *entry) {
+/* Reads a line `S entry R` with a box behind. Returns what follows it, or NULL if it is no such line. */
+static const char *read_entry(const char *line, const shape *of, unsigned session, char *entry) {
     int32_t corners[MOST_CORNERS];
-    uint64_t session, row;
-    line = gist_index_number(line, &session);
-    if (strncmp(line, " entry ", 7) != 0) return NULL;
-    line = gist_index_number(line + 7, &row);
-    for (size_t i = 0; i < of->corners; i++) {
-        if (*line != ' ') return NULL;
-        line = read_corner(line + 1, &corners[i]);
-    }
+    uint64_t its, row;
+    if (!(line = gist_read_number(line, &its)) || its != session) return NULL;
+    if (!(line = gist_read_text(line, " entry ")) || !(line = gist_read_number(line, &row))) return NULL;
+    for (size_t i = 0; i < of->corners; i++)
+        if (*line != ' ' || !(line = gist_read_corner(line + 1, &corners[i]))) return NULL;
     memcpy(entry, &row, ROW);
     memcpy(entry + ROW, corners, of->box);
     return *line == '\n' ? line + 1 : NULL;
@@ -163,11 +159,11 @@ static int read_found(gist_index *index, const shape *of, unsigned session, cons
     uint64_t entries;
     int told = gist_index_answer(index, session, *line, "found ", line);
     if (told != GIST_OK) return told;
-    *line = strchr(gist_index_number(*line, &entries), '\n') + 1;
+    if (!(*line = gist_index_last_number(*line, &entries))) return gist_index_senseless(index);
     if (!hold(index, of, before + (size_t)entries)) return GIST_SYSTEM;
     char *entry = (char *)index->found + before * of->entry;
     for (size_t i = 0; i < entries; i++, entry += of->entry)
-        if (!(*line = read_entry(*line, of, entry))) return gist_index_senseless(index);
+        if (!(*line = read_entry(*line, of, session, entry))) return gist_index_senseless(index);
     *count = (size_t)entries;
     return GIST_OK;
 }
@@ -175,12 +171,10 @@ static int read_found(gist_index *index, const shape *of, unsigned session, cons
 /* Writes the lines that make these searches. Returns their length. */
 static size_t print_searches(char *lines, const shape *of, unsigned session, const char *query, const char *boxes,
                              size_t calls) {
-    size_t length = 0;
-    for (const char *it = boxes; it < boxes + calls * of->box; it += of->box) {
-        length += (size_t)snprintf(lines + length, GIST_LINE, "%u %s", session, query);
-        length += print_box(lines + length, of, it);
-    }
-    return length;
+    char *line = lines;
+    for (const char *it = boxes; it < boxes + calls * of->box; it += of->box)
+        line = print_box(print_words(line, session, query), of, it);
+    return (size_t)(line - lines);
 }
 
 /* Says where the entries lie that searches found, one search's behind the other's. */

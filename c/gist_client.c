@@ -1,9 +1,10 @@
 /* An open index of the client, and the calls without boxes; gist_client.h says what each call does. */
 #define _GNU_SOURCE
+#include "gist_digits.h"
 #include "gist_index.h"
 
 #include <errno.h>
-#include <inttypes.h>
+#include <limits.h>
 #include <signal.h>
 #include <stdbool.h>
 #include <stdlib.h>
@@ -28,7 +29,7 @@ static bool grow(gist_index *index) {
     return true;
 }
 
-/* Reads what has come behind the answers that are there. Returns how much, 0 at the end of all, -1 for a fault. */
+/* Reads what has come behind the answers that are kept. Returns how much, 0 at the end of all, -1 for a fault. */
 static ssize_t read_more(gist_index *index) {
     ssize_t got = gist_run_read(&index->run, index->bytes + index->length, index->room - index->length - 1);
     index->length += got > 0 ? (size_t)got : 0;
@@ -36,7 +37,7 @@ static ssize_t read_more(gist_index *index) {
     return got;
 }
 
-/* Ends the script, or the program at once, and reads until it has ended. From then on each call is told that it has. */
+/* Ends the script, or the program at once, and reads until it has ended. From then on each call returns that it has. */
 static int lose(gist_index *index, bool at_once) {
     if (at_once) kill(-index->run.pid, SIGKILL);
     gist_run_close_input(&index->run);
@@ -67,17 +68,21 @@ int gist_index_senseless(gist_index *index) {
     return GIST_PROTOCOL;
 }
 
-const char *gist_index_number(const char *at, uint64_t *number) {
-    for (*number = 0; *at >= '0' && *at <= '9'; at++) *number = 10 * *number + (uint64_t)(*at - '0');
-    return at;
+const char *gist_index_last_number(const char *at, uint64_t *number) {
+    at = gist_read_number(at, number);
+    return at && *at == '\n' ? at + 1 : NULL;
 }
 
 /* How many lines follow that the first line of an answer announces. */
 static size_t announced(const char *line) {
-    uint64_t session, found = 0;
-    line = gist_index_number(line, &session);
-    if (strncmp(line, " found ", 7) == 0) gist_index_number(line + 7, &found);
-    return (size_t)found;
+    uint64_t session, found;
+    if (!(line = gist_read_number(line, &session)) || !(line = gist_read_text(line, " found "))) return 0;
+    return gist_index_last_number(line, &found) ? (size_t)found : 0;
+}
+
+/* The next line feed of what was read, or NULL where none has come. */
+static const char *next_feed(const gist_index *index, size_t from) {
+    return memchr(index->bytes + from, '\n', index->length - from);
 }
 
 /* Leaves the line that isn't whole yet, where there is no room for more. */
@@ -99,7 +104,7 @@ static int read_answers(gist_index *index, size_t calls) {
             begins = 0;
         }
         if (read_more(index) <= 0) return lost(index);
-        for (const char *at; (at = strchr(index->bytes + begins, '\n')); begins = (size_t)(at + 1 - index->bytes)) {
+        for (const char *at; (at = next_feed(index, begins)); begins = (size_t)(at + 1 - index->bytes)) {
             if (behind == 0 && calls == 0) return gist_index_senseless(index);
             if (behind > 0) {
                 behind--;
@@ -128,30 +133,37 @@ int gist_index_exchange(gist_index *index, const char *lines, size_t length, siz
     return read_answers(index, calls);
 }
 
+/* Reads which session another one is in the way of. Returns whether the refusal says so. */
+static bool read_busy(gist_index *index, const char *refused) {
+    uint64_t other;
+    const char *words = gist_read_text(refused, "5 busy ");
+    if (!words || !gist_index_last_number(words, &other) || other > UINT_MAX) return false;
+    index->busy = (unsigned)other;
+    return true;
+}
+
 int gist_index_answer(gist_index *index, unsigned session, const char *line, const char *expected, const char **rest) {
-    size_t length = strlen(expected);
     uint64_t number;
-    if (strncmp(line, "refused ", 8) == 0) return lost(index);
-    const char *words = gist_index_number(line, &number);
-    if (words == line || *words != ' ' || number != session) return gist_index_senseless(index);
+    if (gist_read_text(line, "refused ")) return lost(index);
+    const char *words = gist_read_number(line, &number);
+    if (!words || *words != ' ' || number != session) return gist_index_senseless(index);
     words++;
-    if (strncmp(words, expected, length) == 0) {
-        *rest = words + length;
-        return GIST_OK;
-    }
-    int told = strncmp(words, "refused ", 8) == 0 ? gist_run_refusal(words + 8) : GIST_PROTOCOL;
-    if (told == GIST_BUSY && sscanf(words, "refused 5 busy %u", &index->busy) != 1) told = GIST_PROTOCOL;
+    if ((*rest = gist_read_text(words, expected))) return GIST_OK;
+    const char *refused = gist_read_text(words, "refused ");
+    int told = refused ? gist_run_refusal(refused) : GIST_PROTOCOL;
+    if (told == GIST_BUSY && !read_busy(index, refused)) told = GIST_PROTOCOL;
     return told == GIST_PROTOCOL ? gist_index_senseless(index) : told;
 }
 
-/* Makes one call, in the words that stand behind the session. */
+/* Makes one call, with these words behind the session. */
 static int call(gist_index *index, unsigned session, const char *words, const char *expected, const char **rest) {
     char line[GIST_LINE];
     const char *unused;
     int told = gist_index_usable(index);
     if (told != GIST_OK) return told;
-    int length = snprintf(line, sizeof line, "%u %s\n", session, words);
-    told = gist_index_exchange(index, line, (size_t)length, 1);
+    char *behind = gist_write_text(gist_write_number(line, session), " ");
+    behind = gist_write_text(gist_write_text(behind, words), "\n");
+    told = gist_index_exchange(index, line, (size_t)(behind - line), 1);
     return told == GIST_OK ? gist_index_answer(index, session, index->bytes, expected, rest ? rest : &unused) : told;
 }
 
@@ -222,8 +234,11 @@ int gist_begin(gist_index *index, unsigned session) {
 int gist_commit(gist_index *index, unsigned session, uint64_t *number) {
     const char *rest = NULL;
     int told = call(index, session, "COMMIT", "committed ", &rest);
-    if (told == GIST_OK && number) gist_index_number(rest, number);
-    return told;
+    if (told != GIST_OK) return told;
+    uint64_t made;
+    if (!gist_index_last_number(rest, &made)) return gist_index_senseless(index);
+    if (number) *number = made;
+    return GIST_OK;
 }
 
 int gist_abort(gist_index *index, unsigned session) {

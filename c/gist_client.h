@@ -1,6 +1,6 @@
 /* A client of gist, the crash-safe spatial index in a file, in C11 for Linux.
 
-   An open index is a process of its own, `gist run`, which is asked over a pair of sockets and a pipe. A fault of
+   An open index is a separate process, `gist run`, which is asked over a pair of sockets and a pipe. A fault of
    this process leaves the index alone, and a commit that was answered is in the file. docs/CLIENTS.md has the whole
    picture, docs/SCRIPT.md what each call means. Each call returns one of the statuses below.
 
@@ -16,7 +16,7 @@
 
    - Signals: a call that is interrupted by a handler goes on until it is answered, with SA_RESTART and without. None
      may be called within a handler, and none may be left by longjmp. No call raises SIGPIPE or changes what the
-     process does with a signal. The program is in a session of its own, so a Ctrl-C doesn't reach it.
+     process does with a signal. The program is in a separate session, so a Ctrl-C doesn't reach it.
 
    - Time: nothing bounds how long a call waits for the program. kill(pid, SIGKILL) with what gist_pid said, from a
      handler or another thread, ends such a wait: the call answers GIST_ENDED.
@@ -80,7 +80,7 @@ enum gist_status {
                            process opened the index; else a call of the system failed. The index is as it was */
 };
 
-/* How the program ended: its status, or minus the signal that killed it; and why, in words: what it wrote to standard
+/* How the program ended: its status, or minus the signal that killed it; and why, as a text: what it wrote to standard
    error, or what can be said without. Empty where it ended well. */
 typedef struct gist_end {
     int status;
@@ -159,11 +159,11 @@ int gist_open(gist_index **index, const char *program, const char *path, unsigne
    The refusals of gist_open, after part of the tree maybe; GIST_SYSTEM also where the stream takes no more. */
 int gist_dump(const char *program, const char *path, FILE *to, gist_end *end);
 
-/* Tests the index in the file `path` in a copy in memory, and leaves the file as it is. GIST_OK: it is sound, and
+/* Tests the index in the file `path` in a copy in memory, and doesn't change the file. GIST_OK: it is sound, and
    `counts`, where it isn't NULL, has what it holds. The index must not be open. The refusals of gist_open. */
 int gist_verify(const char *program, const char *path, gist_counts *counts, gist_end *end);
 
-/* The same, and tells also what the index was formatted with. */
+/* The same, and returns also what the index was formatted with. */
 int gist_stat(const char *program, const char *path, gist_stats *stats, gist_end *end);
 
 /* Gives up what is open, waits until the program has ended, and frees the index, whatever the status: GIST_OK where the
@@ -192,7 +192,7 @@ int gist_abort(gist_index *index, unsigned session);
 /* Of the calls from here on, those whose names end in 3 have boxes of space, and the others boxes of the plane. One of
    the wrong kind for its index is answered with GIST_BAD_PARAMETER, and asks nothing. */
 
-/* Adds an entry. GIST_PRESENT: it is there. GIST_BUSY; GIST_BAD_BOX; GIST_PAGES_FULL; GIST_CLAIMS_FULL. */
+/* Adds an entry. GIST_PRESENT: the index has it. GIST_BUSY; GIST_BAD_BOX; GIST_PAGES_FULL; GIST_CLAIMS_FULL. */
 int gist_insert(gist_index *index, unsigned session, uint64_t row, gist_box box);
 int gist_insert3(gist_index *index, unsigned session, uint64_t row, gist_box3 box);
 
@@ -209,7 +209,7 @@ int gist_insert_many3(gist_index *index, unsigned session, const gist_entry3 *en
 int gist_delete_many3(gist_index *index, unsigned session, const gist_entry3 *entries, size_t count, size_t *done);
 
 /* Finds entries. With GIST_OK *found has `*count` of them in order by row and then box; it is the index's, and stays
-   until its next search or its close. GIST_BUSY; GIST_BAD_BOX; GIST_PREDICATES_FULL; GIST_SYSTEM: memory lacks here. */
+   until its next search or its close. GIST_BUSY; GIST_BAD_BOX; GIST_PREDICATES_FULL; GIST_SYSTEM: no memory here. */
 int gist_search(gist_index *index, unsigned session, enum gist_query query, gist_box box, const gist_entry **found,
                 size_t *count);
 int gist_search3(gist_index *index, unsigned session, enum gist_query query, gist_box3 box, const gist_entry3 **found,

@@ -10,7 +10,7 @@
 #include <sys/stat.h>
 #include <unistd.h>
 
-/* So much is read of a program at once, and a longer line is handed on in pieces. */
+/* So much is read of a program at once, and a longer line is passed on in pieces. */
 enum { ROOM = 1 << 16 };
 
 /* Hands on lines, but for a refusal, and keeps the last one. Returns whether the stream takes them. */

@@ -39,10 +39,10 @@ int gist_index_senseless(gist_index *index);
 /* Writes lines, and reads the answers of the calls that they make. */
 int gist_index_exchange(gist_index *index, const char *lines, size_t length, size_t calls);
 
-/* What one answer says: GIST_OK where it is the expected one, and what stands behind that. */
+/* What one answer says: GIST_OK where it is the expected one, and what follows that. */
 int gist_index_answer(gist_index *index, unsigned session, const char *line, const char *expected, const char **rest);
 
-/* Reads the digits of a number, and returns what stands behind them. */
-const char *gist_index_number(const char *at, uint64_t *number);
+/* Reads the number that ends a line, and returns the next line, or NULL where no number ends it. */
+const char *gist_index_last_number(const char *at, uint64_t *number);
 
 #endif

@@ -2,6 +2,8 @@
 #define _GNU_SOURCE /* pipe2, memfd_create, POSIX_SPAWN_SETSID */
 #include "gist_run.h"
 
+#include "gist_digits.h"
+
 #include <errno.h>
 #include <fcntl.h>
 #include <signal.h>
@@ -39,7 +41,7 @@ static void shut(int *descriptor) {
 }
 
 /* The environment for the program: this process's, by which a launcher that isn't built starts no build. NULL where
-   memory lacks. */
+   memory is refused. */
 static char **environment(void) {
     static char no_build[] = "GIST_NO_BUILD=1";
     size_t count = 0;
@@ -52,7 +54,7 @@ static char **environment(void) {
 }
 
 /* Starts the program on these streams and with no other descriptor, where the C library can do that; with no signal
-   blocked; and in a session of its own, so that a Ctrl-C meant for this process doesn't end it in the middle of a
+   blocked; and in a separate session, so that a Ctrl-C meant for this process doesn't end it in the middle of a
    transaction. Returns 0, or the error's number. */
 static int spawn(pid_t *pid, const char *const *words, const int streams[3]) {
     posix_spawn_file_actions_t actions;
@@ -76,7 +78,7 @@ static int spawn(pid_t *pid, const char *const *words, const int streams[3]) {
     return failed;
 }
 
-/* Its standard input is a socket: that it ends there is told to the program even where a process that was forked off
+/* Its standard input is a socket: the program learns that it ends there even where a process that was forked off
    meanwhile holds the descriptor too. */
 int gist_run_start(gist_run *made, const char *program, const char **words) {
     int lines[2] = {-1, -1}, answers[2] = {-1, -1};
@@ -113,8 +115,9 @@ void gist_run_forget(gist_run *it) {
 }
 
 int gist_run_refusal(const char *words) {
-    unsigned long number = strtoul(words, NULL, 10);
-    return number >= 1 && number < GIST_ENDED ? (int)number : GIST_PROTOCOL;
+    uint64_t number;
+    words = gist_read_number(words, &number);
+    return words && *words == ' ' && number >= 1 && number < GIST_ENDED ? (int)number : GIST_PROTOCOL;
 }
 
 /* What a signal says about the end that it brings. */
@@ -134,7 +137,7 @@ static const char *cause(int signal) {
 }
 
 /* Puts what the program wrote to standard error into the sentence, without its name and line feeds at the end; and
-   how it ended in words, where a signal did that or it wrote nothing. */
+   a text for how it ended, where a signal did that or it wrote nothing. */
 static void tell(gist_end *end, int faults) {
     char *told = end->sentence;
     if (end->status < 0) told += snprintf(told, 256, "ended because %s (signal %d)", cause(-end->status), -end->status);
@@ -159,7 +162,7 @@ int gist_run_finish(gist_run *it, const char *last, gist_end *end) {
     while ((ended = waitpid(it->pid, &status, 0)) < 0 && errno == EINTR) continue;
     if (ended >= 0) end->status = WIFSIGNALED(status) ? -WTERMSIG(status) : WEXITSTATUS(status);
     tell(end, it->faults);
-    /* (a process that ignores SIGCHLD isn't told a status; then the sentence says whether there was a fault) */
+    /* (a process that ignores SIGCHLD gets no status; then the sentence says whether there was a fault) */
     if (ended < 0) end->status = end->sentence[0] != 0;
     gist_run_forget(it);
     int refused = strncmp(last, "refused ", 8) == 0 ? gist_run_refusal(last + 8) : GIST_PROTOCOL;

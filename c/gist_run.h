@@ -17,7 +17,7 @@ typedef struct gist_run {
     int faults; /* a file in memory for its standard error, which never fills as a pipe may */
 } gist_run;
 
-/* Starts the program with the words behind its name; words[0] is set to its path. Returns GIST_OK or GIST_SYSTEM. */
+/* Starts the program with the arguments behind its name; words[0] is set to its path. Returns GIST_OK or GIST_SYSTEM. */
 int gist_run_start(gist_run *made, const char *program, const char **words);
 
 /* Reads what has come of its output, once there is something. Returns how much, 0 at the end of all, -1 for a fault. */
@@ -36,7 +36,7 @@ int gist_run_finish(gist_run *it, const char *last, gist_end *end);
 /* The status for what a line says behind `refused `, or GIST_PROTOCOL. */
 int gist_run_refusal(const char *words);
 
-/* Answers a call whose words make no sense: GIST_SYSTEM, with EINVAL. */
+/* Refuses a call whose arguments make no sense: GIST_SYSTEM, with EINVAL. */
 int gist_run_invalid(void);
 
 /* As many frames as the index in a file has pages, 16 to 4096; 64 where the file can't be read. */

@@ -2,7 +2,7 @@
 #include "gist_client.h"
 
 typedef struct text {
-    const char *brief; /* the program's own words for it */
+    const char *brief; /* the program's own text for it */
     const char *whole; /* with what to do */
 } text;
 

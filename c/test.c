@@ -1,4 +1,4 @@
-/* Runs the tests of the client, or those that its words name, over the program that GIST names. The last line counts
+/* Runs the tests of the client, or those that its arguments name, over the program that GIST names. The last line counts
    those that passed and failed. */
 #define _GNU_SOURCE
 #include "test.h"
@@ -116,6 +116,9 @@ static const struct {
     {"surroundings", surroundings, 30},
     {"ends", ends, 30},
     {"odd_answers", odd_answers, 30},
+    {"answers", answers, 30},
+    {"cut_answers", cut_answers, 30},
+    {"long_answers", long_answers, 60},
     {"threads", threads, 60},
     {"shared", shared, 60},
     {"forked", forked, 30},

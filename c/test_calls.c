@@ -145,7 +145,13 @@ void searches(void) {
     boxes[5].x2 = -1;
     HOLDS(gist_search_many(index, 2, GIST_OVERLAP, boxes, 100, hits, &done) == GIST_BAD_BOX && done == 5);
     HOLDS(hits[4].count == 4 && is_entry(hits[4].found, 16));
-    HOLDS(gist_abort(index, 2) == GIST_OK);
+    HOLDS(gist_abort(index, 2) == GIST_OK && gist_begin(index, 2) == GIST_OK && gist_begin(index, 3) == GIST_OK);
+    /* one whose entry another session has written */
+    HOLDS(gist_busy(index) == 0 && gist_delete(index, 3, 40, entries[40].box) == GIST_OK);
+    boxes[0] = entries[0].box, boxes[1] = entries[40].box, boxes[2] = entries[1].box;
+    HOLDS(gist_search_many(index, 2, GIST_EQUAL, boxes, 3, hits, &done) == GIST_BUSY && done == 1);
+    HOLDS(gist_busy(index) == 3 && hits[0].count == 1 && is_entry(hits[0].found, 0));
+    HOLDS(gist_abort(index, 3) == GIST_OK && gist_abort(index, 2) == GIST_OK);
     HOLDS(gist_search_many(index, 2, GIST_WITHIN, boxes, 3, hits, &done) == GIST_NO_TRANSACTION && done == 0);
     HOLDS(gist_close(index, NULL) == GIST_OK);
 }

@@ -65,7 +65,7 @@ static int child_of(gist_index *index) {
     return gist_close(index, &end) == GIST_OK ? 0 : 4;
 }
 
-/* Opens an index and has a child close it, which tells its number and what it was answered; both live on. */
+/* Opens an index and has a child close it, which reports its number and the reply that it got; both live on. */
 static void closes_in_child(int to) {
     gist_index *index = opened("forked");
     if (fork() == 0) {

@@ -92,7 +92,7 @@ void surroundings(void) {
     HOLDS(getpgid((pid_t)gist_pid(index)) != getpgid(0));
     HOLDS(kill((pid_t)gist_pid(index), SIGTERM) == 0 && gist_close(index, &end) == GIST_ENDED &&
           end.status == -SIGTERM && strstr(end.sentence, "SIGTERM"));
-    /* where children are not waited for, a fault is still told */
+    /* where children are not waited for, a fault is still reported */
     signal(SIGCHLD, SIG_IGN);
     HOLDS(gist_format(NULL, "signals", 16, 4, GIST_OVERWRITE, NULL) == GIST_OK);
     HOLDS(gist_open(&index, NULL, "nowhere", 64, &end) == GIST_DEVICE);
@@ -126,7 +126,7 @@ void surroundings(void) {
     HOLDS(kill(child, SIGKILL) == 0 && waitpid(child, &status, 0) == child);
 }
 
-/* A program that ends tells why, in words. */
+/* A program that ends says why, as a text. */
 void ends(void) {
     gist_index *index;
     gist_end end;
@@ -140,7 +140,7 @@ void ends(void) {
     HOLDS(strcmp(end.sentence, "ended because SIGABRT ended it, a fault of the program (signal 6); it broke") == 0);
     script("breaks", "kill -USR2 $$");
     HOLDS(gist_open(&index, "./breaks", "x", 64, &end) == GIST_ENDED && strstr(end.sentence, "a signal ended it"));
-    /* a launcher is told to build nothing, and one that isn't built says so */
+    /* a launcher is asked to build nothing, and one that isn't built says so */
     script("launcher", "[ \"$GIST_NO_BUILD\" = 1 ] && echo told >&2; exit 3");
     HOLDS(gist_open(&index, "./launcher", "x", 64, &end) == GIST_ENDED && end.status == 3);
     HOLDS(strcmp(end.sentence, "told") == 0);
@@ -180,7 +180,7 @@ void odd_answers(void) {
     HOLDS(strcmp(gist_text(GIST_ENDED - 1), "no status") == 0);
 }
 
-/* Each thread opens, uses and closes indexes of its own. */
+/* Each thread opens, uses and closes its own indexes. */
 static void *work(void *name) {
     bool holds = gist_format(NULL, name, 64, 16, 0, NULL) == GIST_OK;
     for (uint64_t row = 0; holds && row < 10; row++) {

@@ -52,6 +52,10 @@ void peer_search(const pair *window, void (*found)(const pair *)) {
     }
 }
 
+void peer_search_many(const pair *windows, size_t count, void (*found)(const pair *)) {
+    for (size_t i = 0; i < count; i++) peer_search(&windows[i], found);
+}
+
 void peer_write(unsigned, const pair *it) {
     peer_insert(it, 1);
 }

@@ -61,13 +61,26 @@ void peer_delete(const pair *pairs, size_t count) {
     expect("delete", gist_delete_many(index_of, 1, entries, count, NULL));
 }
 
+static void hand(const gist_entry *hits, size_t count, void (*found)(const pair *)) {
+    for (size_t i = 0; i < count; i++)
+        found(&(pair){hits[i].row, hits[i].box.x1, hits[i].box.y1, hits[i].box.x2, hits[i].box.y2});
+}
+
 void peer_search(const pair *window, void (*found)(const pair *)) {
     const gist_entry *hits;
     size_t count;
     expect("search", gist_search(index_of, 1, GIST_OVERLAP, (gist_box){window->x1, window->y1, window->x2, window->y2},
                                  &hits, &count));
+    hand(hits, count, found);
+}
+
+void peer_search_many(const pair *windows, size_t count, void (*found)(const pair *)) {
+    gist_box boxes[SEARCHES] = {{0}};
+    gist_hits hits[SEARCHES];
     for (size_t i = 0; i < count; i++)
-        found(&(pair){hits[i].row, hits[i].box.x1, hits[i].box.y1, hits[i].box.x2, hits[i].box.y2});
+        boxes[i] = (gist_box){windows[i].x1, windows[i].y1, windows[i].x2, windows[i].y2};
+    expect("searches", gist_search_many(index_of, 1, GIST_OVERLAP, boxes, count, hits, NULL));
+    for (size_t i = 0; i < count; i++) hand(hits[i].found, hits[i].count, found);
 }
 
 /* A call, in its turn. */

@@ -15,8 +15,9 @@
 extern "C" {
 #endif
 
-/* How many entries a transaction has as they are loaded, and the memory that a peer may hold of its file, in KB. */
-enum { BATCH = 100, MEMORY = 16384 };
+/* How many entries a transaction has as they are loaded, how many searches one makes at most, and the memory that a
+   peer may hold of its file, in KB. */
+enum { BATCH = 100, SEARCHES = 16, MEMORY = 16384 };
 
 /* A row with its box. */
 typedef struct pair {
@@ -51,7 +52,9 @@ void peer_insert(const pair *pairs, size_t count);
 void peer_delete(const pair *pairs, size_t count);
 /* Calls `found` for each entry whose box shares a point with this one, whose row counts for nothing. */
 void peer_search(const pair *window, void (*found)(const pair *));
-/* Adds one entry with a commit of its own, as one of the writers, from 0; several threads do so at once. */
+/* The same for several windows, SEARCHES at most, all of them known before the first is asked. */
+void peer_search_many(const pair *windows, size_t count, void (*found)(const pair *));
+/* Adds one entry with its own commit, as one of the writers, from 0; several threads do so at once. */
 void peer_write(unsigned writer, const pair *it);
 /* The bytes that the index has on the disk. */
 uint64_t peer_bytes(const char *path);

@@ -110,16 +110,38 @@ static uint64_t number(const PGresult *got, int row, int column, int bytes) {
     return value;
 }
 
-void peer_search(const pair *window, void (*found)(const pair *)) {
-    words given;
-    const char *const values[] = {given.box};
-    write_words(&given, window);
-    PGresult *got = PQexecPrepared(*all, "overlap", 1, values, NULL, NULL, 1);
+/* Hands on what a search found, and frees it. */
+static void hand(PGresult *got, void (*found)(const pair *)) {
     if (PQresultStatus(got) != PGRES_TUPLES_OK) stop("overlap", PQerrorMessage(*all));
     for (int i = 0; i < PQntuples(got); i++)
         found(&(pair){number(got, i, 0, 8), (int32_t)number(got, i, 1, 4), (int32_t)number(got, i, 2, 4),
                       (int32_t)number(got, i, 3, 4), (int32_t)number(got, i, 4, 4)});
     PQclear(got);
+}
+
+void peer_search(const pair *window, void (*found)(const pair *)) {
+    words given;
+    const char *const values[] = {given.box};
+    write_words(&given, window);
+    hand(PQexecPrepared(*all, "overlap", 1, values, NULL, NULL, 1), found);
+}
+
+/* (all of them in one pipeline) */
+void peer_search_many(const pair *windows, size_t count, void (*found)(const pair *)) {
+    words given;
+    const char *const values[] = {given.box};
+    if (!PQenterPipelineMode(*all)) stop("pipeline", PQerrorMessage(*all));
+    for (size_t i = 0; i < count; i++) {
+        write_words(&given, &windows[i]);
+        if (!PQsendQueryPrepared(*all, "overlap", 1, values, NULL, NULL, 1)) stop("overlap", PQerrorMessage(*all));
+    }
+    if (!PQpipelineSync(*all)) stop("pipeline", PQerrorMessage(*all));
+    for (size_t i = 0; i < count; i++) {
+        hand(PQgetResult(*all), found);
+        PQclear(PQgetResult(*all));
+    }
+    expect(*all, PQgetResult(*all), PGRES_PIPELINE_SYNC);
+    if (!PQexitPipelineMode(*all)) stop("pipeline", PQerrorMessage(*all));
 }
 
 void peer_write(unsigned writer, const pair *it) {

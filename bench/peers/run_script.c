@@ -1,6 +1,6 @@
 /* Does the work of a script of `gist run` by another index: the same lines, in one session. Each line is `1 WORD ..` as
    docs/SCRIPT.md has it; BEGIN, INSERT, DELETE, OVERLAP, COMMIT and ABORT are known. What is found is printed as gist
-   prints it, and to standard error how many that were. The word is the index's path. */
+   prints it, and to standard error how many that were. The argument is the index's path. */
 #include "peers.h"
 
 #include <inttypes.h>

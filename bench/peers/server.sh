@@ -1,4 +1,4 @@
-# To be sourced. `start_postgres FOLDER BINARIES [LIBRARY]` starts a PostgreSQL server of its own in a folder, which
+# To be sourced. `start_postgres FOLDER BINARIES [LIBRARY]` starts a separate PostgreSQL server in a folder, which
 # can't be reached from elsewhere, with a library before its own if one is given; its process is then `server`, and the
 # folder FOLDER/server is that of its socket. It doesn't run as root.
 start_postgres() {

@@ -1,5 +1,5 @@
 /* SQLite's R*Tree: 32-bit corners, write-ahead log, full sync, prepared statements. Corners are below 2^24, so that
-   they are kept as they are. */
+   they are kept unchanged. */
 #include "peers.h"
 
 #include <sqlite3.h>
@@ -107,6 +107,10 @@ void peer_search(const pair *window, void (*found)(const pair *)) {
                       sqlite3_column_int(it, 3), sqlite3_column_int(it, 4)});
     if (told != SQLITE_DONE) stop("search", sqlite3_errmsg(all->base));
     sqlite3_reset(it);
+}
+
+void peer_search_many(const pair *windows, size_t count, void (*found)(const pair *)) {
+    for (size_t i = 0; i < count; i++) peer_search(&windows[i], found);
 }
 
 void peer_write(unsigned writer, const pair *it) {

@@ -3,7 +3,7 @@
    compared a line with how many entries were found and the sum of their rows. Memory and processor time are those of the
    process and of all below it, and of a server, whose process PEER_PID names.
 
-   The words are the index's path, one for a second index, how many entries are loaded, how many searches of some ten
+   The arguments are the index's path, one for a second index, how many entries are loaded, how many searches of some ten
    hits are made, and how many entries are added with a commit each. */
 #define _GNU_SOURCE
 #include "peers.h"
@@ -16,9 +16,8 @@
 #include <time.h>
 #include <unistd.h>
 
-/* Boxes have sides below SIDE in a plane in which some ten overlap a window of NEAR by NEAR. A transaction makes 16
- * searches at most. */
-enum { SIDE = 64, NEAR = 170, SEARCHES = 16 };
+/* Boxes have sides below SIDE in a plane in which some ten overlap a window of NEAR by NEAR. */
+enum { SIDE = 64, NEAR = 170 };
 
 static uint64_t state, hits, rows;
 static int32_t plane;
@@ -59,7 +58,7 @@ static double now(void) {
     return (double)at.tv_sec + (double)at.tv_nsec / 1e9;
 }
 
-/* The memory that a process has of its own, and its share of what it has with others, in bytes. */
+/* The private memory of a process, and its share of what it shares with others, in bytes. */
 static uint64_t memory_of(long pid) {
     char path[64], line[256];
     unsigned long long bytes = 0;
@@ -128,19 +127,33 @@ static void change(const char *work, void (*by)(const pair *, size_t), const pai
     tell(work, count, from);
 }
 
-/* Searches windows of this side, and says what was found. */
-static void search(const char *work, size_t count, int32_t side, uint64_t seed) {
+static void search_each(const pair *windows, size_t count, void (*found)(const pair *)) {
+    for (size_t i = 0; i < count; i++) peer_search(&windows[i], found);
+}
+
+/* Searches windows of this side, a transaction's by the function that is given, and says what was found. */
+static void search_by(const char *work, void (*by)(const pair *, size_t, void (*)(const pair *)), size_t count,
+                      int32_t side, uint64_t seed) {
     start from = begin();
     state = seed;
     hits = rows = 0;
-    for (size_t i = 0; i < count; i++) {
-        if (i % SEARCHES == 0) peer_begin();
-        int32_t x = draw(plane - side), y = draw(plane - side);
-        peer_search(&(pair){0, x, y, x + side, y + side}, add);
-        if (i % SEARCHES == SEARCHES - 1 || i == count - 1) peer_abort();
+    for (size_t at = 0; at < count; at += SEARCHES) {
+        pair windows[SEARCHES];
+        size_t many = count - at < SEARCHES ? count - at : SEARCHES;
+        for (size_t i = 0; i < many; i++) {
+            int32_t x = draw(plane - side), y = draw(plane - side);
+            windows[i] = (pair){0, x, y, x + side, y + side};
+        }
+        peer_begin();
+        by(windows, many, add);
+        peer_abort();
     }
     tell(work, count, from);
     printf("= %s\t%llu %llu\n", work, (unsigned long long)hits, (unsigned long long)rows);
+}
+
+static void search(const char *work, size_t count, int32_t side, uint64_t seed) {
+    search_by(work, search_each, count, side, seed);
 }
 
 typedef struct writer {
@@ -208,6 +221,7 @@ int main(int words_count, char **words) {
     change("load, random order", peer_insert, pairs, count);
     printf("bytes on disk\t%llu\n", (unsigned long long)peer_bytes(words[1]));
     search("searches, ten hits", searches, NEAR, 2);
+    search_by("searches, ten hits, by sixteen", peer_search_many, searches, NEAR, 2);
     search("searches, a tenth of all", searches / 500 + 1, far, 3);
     printf("bytes of memory\t%llu\n", (unsigned long long)(sum_of_all(memory_of) - before));
     change("deletes", peer_delete, pairs, count / 5);

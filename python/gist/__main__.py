@@ -24,7 +24,7 @@ _Entry = Tuple[int, AnyBox]
 
 
 def main(words: Optional[List[str]] = None) -> int:
-    """Does what the words say, and returns the status: 0 where all was done,
+    """Does what the arguments ask, and returns the status: 0 if all was done,
     1 with a line on standard error where it failed, 130 after Ctrl-C. Wrong
     words end the process with status 2."""
     asked = _parser().parse_args(words)

@@ -20,7 +20,7 @@ def copy(old: AnyPath, new: AnyPath, pages: Optional[int] = None,
     """Copies the live entries of one index into a new one; returns how many.
 
     Neither index may be open. The file new must not exist, or be empty. It
-    is there only once the copy is whole: until then a file beside it, which
+    exists only once the copy is whole: until then a file beside it, which
     has its name and some letters more, is written. pages is how many pages
     the new index may have, and else what pages_for says. progress is called
     after each commit with how many entries are copied so far.

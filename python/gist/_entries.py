@@ -1,8 +1,11 @@
 """Boxes and entries, and their lines in the script that the program reads."""
 
 from contextlib import suppress
-from itertools import chain
-from typing import Dict, Iterator, NamedTuple, Sequence, Tuple, Type, Union
+from itertools import chain, repeat
+from typing import (Any, Dict, Iterator, List, NamedTuple, Sequence, Tuple,
+                    Type, Union)
+
+from gist._refusals import ProtocolError
 
 MAX_ROW = 2 ** 64 - 1
 MIN_CORNER = -2 ** 31
@@ -10,6 +13,9 @@ MAX_CORNER = 2 ** 31 - 1
 
 # How much of what was found is taken apart at once, in bytes.
 _BLOCK = 1 << 14
+
+# Makes a box of as many numbers as it has; _make would count them again.
+_new: Any = tuple.__new__
 
 
 class Box(NamedTuple):
@@ -82,12 +88,18 @@ def _blocks(lines: bytes) -> Iterator[bytes]:
 
 
 def _entries(lines: bytes, box: Type[AnyBox]
-             ) -> Iterator[Tuple[int, AnyBox]]:
+             ) -> List[Tuple[int, AnyBox]]:
     """The entries of lines `S entry R` with a box's corners behind."""
     words = lines.split()
     step = 3 + len(box._fields)
-    corners = zip(*(map(int, words[at::step]) for at in range(3, step)))
-    return zip(map(int, words[2::step]), map(box._make, corners))
+    count = lines.count(b"\n")
+    if len(words) == count * step and words[1::step].count(b"entry") == count:
+        corners = zip(*[map(int, words[at::step]) for at in range(3, step)])
+        # (words that are no numbers raise ValueError)
+        with suppress(ValueError):
+            boxes = map(_new, repeat(box), corners)
+            return list(zip(map(int, words[2::step]), boxes))
+    raise ProtocolError("a search was answered with what is no entry")
 
 
 class Kind:

@@ -124,7 +124,7 @@ def dump(path: AnyPath, program: Optional[AnyPath] = None) -> Iterator[str]:
 def verify(path: AnyPath, program: Optional[AnyPath] = None) -> Report:
     """Tests the index in a file, in a copy in memory, and counts.
 
-    The index must not be open, and its file stays as it is. Raises Damaged
+    The index must not be open, and its file isn't changed. Raises Damaged
     for one that isn't sound, and what open raises.
     """
     words = words_of(program, "verify", "--", os.fspath(path))
@@ -150,7 +150,7 @@ def _check(name: str, number: int, least: int, most: int) -> None:
 
 
 def _make(path: AnyPath, overwrite: bool) -> bool:
-    """Makes a file where none is there, and returns whether it did."""
+    """Makes a file where none exists, and returns whether it did."""
     try:
         os.close(opened(path, os.O_RDWR | os.O_CREAT | os.O_EXCL))
         return True

@@ -14,7 +14,7 @@ import weakref
 from contextlib import suppress
 from functools import partial
 from select import PIPE_BUF
-from typing import BinaryIO, Callable, List, Optional, TypeVar
+from typing import BinaryIO, Callable, List, Optional, Tuple, TypeVar
 
 from gist._process import (fault_of, faults_file, sentence_of, start)
 from gist._refusals import Ended, GistError, ProtocolError
@@ -46,7 +46,7 @@ class Call:
     searches, at most SEARCHES.
     """
 
-    __slots__ = ("lines", "count", "is_search", "head", "answer")
+    __slots__ = ("lines", "count", "is_search", "heads", "head", "answer")
 
     def __init__(self, lines: bytes, count: int = 1,
                  is_search: bool = False) -> None:
@@ -54,6 +54,8 @@ class Call:
         self.count = count
         #: Whether they are searches, whose answers have many lines.
         self.is_search = is_search
+        #: Where in all answers the answer of each search begins.
+        self.heads: List[int] = []
         #: The front of the answers, and zeros. A read puts it here itself, so
         #: that it is kept where the read is the last that is done.
         self.head = bytearray(64)
@@ -255,23 +257,25 @@ class Program:
     def _read_found(self, call: Call) -> bytes:
         """Reads the answers of searches: each says how many lines it has."""
         parts: List[bytes] = []
-        rest = b""
-        calls, behind = call.count, 0
-        while calls or behind or rest:
-            parts.append(self._some(call))
-            *lines, rest = (rest + parts[-1]).split(b"\n")
+        rest, behind, before = b"", 0, 0
+        found = b"\n" + call.lines.partition(b" ")[0] + b" found "
+        while len(call.heads) < call.count or behind or rest:
+            read = rest + self._some(call)
+            lines = read[:read.rfind(b"\n") + 1]
+            rest = read[len(lines):]
             at = 0
             while at < len(lines):
                 if behind:
-                    step = min(behind, len(lines) - at)
-                    behind -= step
-                    at += step
+                    at, behind = _behind(lines, at, behind, found)
                     continue
-                if not calls:
+                if len(call.heads) == call.count:
                     raise self._senseless("more answers than calls")
-                calls -= 1
-                behind = found_in(lines[at])
-                at += 1
+                call.heads.append(before + at)
+                end = lines.index(b"\n", at)
+                behind = found_in(lines[at:end])
+                at = end + 1
+            before += len(lines)
+            parts.append(lines)
         return b"".join(parts)
 
     def _senseless(self, why: str) -> ProtocolError:
@@ -294,7 +298,7 @@ class Program:
         try:
             os.write(self._to, mark + b"ABORT\n")
             last = bytes(call.head).rstrip(b"\0")
-            # (it may stand behind a line of which the end was lost)
+            # (it may follow a line of which the end was lost)
             while mark + b"refused " not in _last_line(last):
                 last = (last + self._some(call))[-_TAIL:]
         except (EOFError, BrokenPipeError):
@@ -365,6 +369,22 @@ def found_in(line: bytes) -> int:
     words = line.split(b" ")
     is_found = len(words) == 3 and words[1] == b"found" and words[2].isdigit()
     return int(words[2]) if is_found else 0
+
+
+def _behind(lines: bytes, at: int, count: int, found: bytes
+            ) -> Tuple[int, int]:
+    """Where so many lines end, and how many of them are yet to come.
+
+    Mostly they end in front of an answer that begins with found; so they are
+    counted up to there, and looked at one by one only where that fails.
+    """
+    end = lines.find(found, at) + 1 or len(lines)
+    there = lines.count(b"\n", at, end)
+    if there <= count:
+        return end, count - there
+    for _ in range(count):
+        at = lines.index(b"\n", at) + 1
+    return at, 0
 
 
 def _last_line(data: bytes) -> bytes:

@@ -223,7 +223,7 @@ _BY_NUMBER = {it.number: it for it in Refused.__subclasses__()}
 
 def refusal(words: bytes, status: Optional[int] = None, sentence: str = "",
             place: Optional[int] = None) -> GistError:
-    """The exception for what stands behind 'refused': a number and a text."""
+    """The exception for what follows 'refused': a number and a text."""
     number, _, text = words.decode("ascii", "replace").partition(" ")
     if not number.isdigit():
         return ProtocolError(f"refused {number} {text}")

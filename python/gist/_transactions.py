@@ -56,13 +56,10 @@ class Reader:
         kind = self._hold.kind
         call = self._asking(*[f"OVERLAP {kind.corners_of(box)}"
                               for box in boxes], is_search=True)
-        lines = self._exchange(call).splitlines(keepends=True)
-        hits, at = [], 0
-        for _ in boxes:
-            count = int(self._result(lines[at][:-1], b"found "))
-            at += 1 + count
-            hits.append(Hits(count, b"".join(lines[at - count:at]), kind.box))
-        return hits
+        answers = self._exchange(call)
+        ends = call.heads[1:] + [len(answers)]
+        return [self._hits(answers[at:end])
+                for at, end in zip(call.heads, ends)]
 
     def within(self, box: Sequence[int]) -> Hits:
         """Finds the entries whose box lies in this one."""
@@ -91,11 +88,17 @@ class Reader:
                 raise
 
     def _search(self, command: str, box: Sequence[int]) -> Hits:
-        kind = self._hold.kind
-        answer = self._exchange(
-            self._asking(f"{command} {kind.corners_of(box)}"))
+        corners = self._hold.kind.corners_of(box)
+        return self._hits(self._exchange(
+            self._asking(f"{command} {corners}")))
+
+    def _hits(self, answer: bytes) -> Hits:
+        """What a search found, by its answer; raises its refusal."""
         head, _, lines = answer.partition(b"\n")
-        return Hits(int(self._result(head, b"found ")), lines, kind.box)
+        count = self._result(head, b"found ")
+        if not count.isdigit():
+            raise self._senseless(head, b"found ")
+        return Hits(int(count), lines, self._hold.kind.box)
 
     def _call(self, words: str, expected: bytes) -> bytes:
         return self._result(self._exchange(self._asking(words))[:-1],
@@ -131,9 +134,13 @@ class Reader:
             if isinstance(fault, NoTransaction):
                 self._hold.end()
             raise fault
+        raise self._senseless(line, expected)
+
+    def _senseless(self, line: bytes, expected: bytes) -> ProtocolError:
+        """Ends a program that answered what makes no sense."""
         if self._hold.sessions:
             self._hold.sessions.program.kill()
-        raise ProtocolError(f"{line!r} where {expected!r} was expected")
+        return ProtocolError(f"{line!r} where {expected!r} was expected")
 
 
 _Own = TypeVar("_Own", bound=Reader)
@@ -180,7 +187,7 @@ class Transaction(Reader):
         """Ends the transaction, keeps its changes and returns its number.
 
         When this returns, they are in the file and outlive a crash; when it
-        raises Device or Ended, they are there whole or not at all. Where an
+        raises Device or Ended, they are kept whole or not at all. Where an
         exception of another kind broke it off, as KeyboardInterrupt, call it
         again: it commits what wasn't committed, and returns the number.
         """

@@ -43,7 +43,7 @@ def descriptors() -> int:
 
 
 class Case(unittest.TestCase):
-    """Has a folder of its own, and leaves no process and no descriptor."""
+    """Has a separate folder, and leaves no process and no descriptor."""
 
     def setUp(self) -> None:
         folder = tempfile.TemporaryDirectory(prefix="gist-")
@@ -63,7 +63,7 @@ class Case(unittest.TestCase):
 
     def run_python(self, lines: str, *words: object,
                    timeout: float = 20) -> str:
-        """Runs lines in a Python of its own, and returns what it printed.
+        """Runs lines in a separate Python, and returns what it printed.
 
         It is killed after so many seconds, and the test fails.
         """

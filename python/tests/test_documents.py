@@ -1,4 +1,4 @@
-"""The lines of the documents, run as they stand, and the wheel."""
+"""The lines of the documents, run unchanged, and the wheel."""
 
 import importlib.util
 import io
@@ -38,7 +38,7 @@ class Documents(Case):
     """What a reader copies works."""
 
     def run_in_folder(self, *words: str) -> str:
-        """What a command prints in a folder of its own."""
+        """What a command prints in a separate folder."""
         with tempfile.TemporaryDirectory(dir=self.folder) as folder:
             run = subprocess.run(
                 words, cwd=folder, stdout=subprocess.PIPE, timeout=60,

@@ -16,7 +16,7 @@ from tests import PLANE, PROGRAM, REPOSITORY, Case, box_of, entries, rows
 # Where the file's first ten pages end: no page behind them can be written.
 TEN_PAGES = 2134016 + 10 * 4096
 
-# A client of its own, which is killed in the middle of a transaction.
+# A separate client, which is killed in the middle of a transaction.
 KILLED = """
 import os, signal, gist
 index = gist.open({path!r})
