@@ -1,4 +1,0 @@
-pub mod Chosen
-pub mod Counting
-pub mod Hits
-pub mod Rests

@@ -1,10 +1,4 @@
-pub mod Classed
 pub mod Refusing
 pub mod Faults
 pub mod Over
-pub mod Used
 pub mod Forgetting
-pub mod Dumped
-pub mod Durably
-pub mod Saying
-pub mod Shown

@@ -1,10 +1,7 @@
 pub mod Calls
-pub mod Crashes
 pub mod Empty
 pub mod Leaving
 pub mod Looking
 pub mod Record
 pub mod Results
 pub mod Spans
-pub mod Tearing
-pub mod Unrecorded

@@ -87,7 +87,7 @@ fn old_bytes<'a>(calls: &[PastCall], kept: &'a [u8], sectors: usize, s: usize) -
 }
 
 // Overwrites a sector with these bytes.
-#[tactic(auto, using(crate::proofs::Tearing::sector_put))]
+#[tactic(auto, using(crate::proofs::tear::Tearing::sector_put))]
 fn overwrite_sector(bytes: &mut Vec<u8>, s: usize, new: &[u8])
     requires size { length new.now ≡ 512 }
     requires inside { 512 * s + 512 ≤ length bytes.old.items }

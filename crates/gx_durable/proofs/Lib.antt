@@ -8,16 +8,12 @@ pub mod Fitting
 pub mod GoingOn
 pub mod Heads
 pub mod Images
-pub mod Joining
 pub mod Legality
 pub mod Moving
 pub mod Nodes
 pub mod Opening
-pub mod Paging
 pub mod Reading
 pub mod Recording
-pub mod Running
-pub mod Sayings
 pub mod Sizes
 pub mod Spellings
 pub mod Stamping

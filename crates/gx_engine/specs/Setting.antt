@@ -70,8 +70,8 @@ module _ {C B D : Type 0} (class : Ghosts C B) (state : D → Device) where
       BringPageComes (is_node (format_of class)) (state old.volume.shelf.disk) (state new.volume.shelf.disk) old new
       failed result
 
-  abbrev pub IsLentAs : ℕ → Parts B D → Contents → Type 0
-  IsLentAs page e contents =
+  abbrev pub IsLent : ℕ → Parts B D → Contents → Type 0
+  IsLent page e contents =
       StandsAs (format_of class) (is_node (format_of class)) (state e.volume.shelf.disk) page e contents
 
   -- the outcome of a look that read no page, and of a search's move

@@ -14,7 +14,7 @@ use Rattle.gx_events.specs.declared.outcome.Outcome.TheVariants.{Help, Refused}
 use Rattle.gx_engine.specs.declared.pages.NotLent.{NotLent}
 use Rattle.gx_engine.specs.declared.pages.NotLent.TheVariants as not_lent
 use Rattle.gx_engine.specs.contracts.engine.Engine as engine
-use Rattle.gx_engine.specs.Setting.{BringPageComesAs, IsLentAs, LeadsAs}
+use Rattle.gx_engine.specs.Setting.{BringPageComesAs, IsLent, LeadsAs}
 use Rattle.gx_engine.specs.States.{IsOrderly, Parts}
 use Rattle.gx_engine.specs.Sweeping.{bring_events}
 
@@ -31,7 +31,7 @@ pub record Views {B D : Type 0} (shape : Members B) (traits : Traits B) (state :
   pub stays : StaysAs (own traits) state old.volume.shelf new.volume.shelf
   pub leads : LeadsAs shape traits state old new (bring_events (brought_as result))
   pub order : IsOrderly old × IsOrderly new
-  pub lent : IfOk result (λ r. IsLentAs (own traits) state page new r.now)
+  pub lent : IfOk result (λ r. IsLent (own traits) state page new r.now)
 
 module _ (D C B : RattleType) (disk : disks.Ghosts D.Denot) (class : Ghosts C.Denot B.Denot) (said : List ℕ → B.Denot) (proper : B.Denot → Bool) (shape : Members B.Denot)
     (e : MutBor (Parts B.Denot D.Denot)) (page : ℕ) where

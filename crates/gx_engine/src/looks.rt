@@ -13,7 +13,7 @@ ghost use Rattle.gx_engine.specs.Holds.{MayHaveFound};
 ghost use Rattle.gx_engine.specs.Looks.{IsFirst, IsFirstUnless, look_events, work_before};
 ghost use Rattle.gx_engine.specs.Moves.{calling};
 ghost use Rattle.gx_engine.specs.Writes.{brought};
-ghost use Rattle.gx_storage.specs.Setting.{StaysAs, UnloggedAs, tree_at};
+ghost use Rattle.gx_storage.specs.Setting.{StaysAs, Unlogged, tree_at};
 ghost use Rattle.gx_engine.specs.Setting.{MovesAs, StopComesAs, phase_in};
 
 use crate::Engine;
@@ -60,7 +60,7 @@ impl<D: SectorDisk, K: ReadKeys + Probing> Engine<D, K> {
         requires works { self.old.sessions.failed ≡ false }
         requires more { 0 < length look.stack.items }
         requires first { IsFirstUnless begun self.old look }
-        ensures unlogged { OnOk result (UnloggedAs K.Key.Shape K.ReadKeys D.state
+        ensures unlogged { OnOk result (Unlogged K.Key.Shape K.ReadKeys D.state
             (bringing self.old.volume) self.old.volume self.new.volume) }
         ensures rest { OnOk result (self.new ≡ brought self.old self.new) }
         ensures stays { OnOk result (StaysAs K.KeyClass D.state self.old.volume.shelf self.new.volume.shelf) }

@@ -7,8 +7,8 @@ ghost use Rattle.gx_engine.specs.Calls.{IsRead, TellsWhere};
 ghost use Rattle.gx_engine.specs.States.{IsOrderly};
 ghost use Rattle.gx_engine.specs.Sweeping.{bring_events};
 ghost use Rattle.gx_engine.specs.Viewing.{lends_page};
-ghost use Rattle.gx_storage.specs.Setting.{StaysAs, UnloggedAs};
-ghost use Rattle.gx_engine.specs.Setting.{BringComesAs, BringPageComesAs, IsLentAs, LeadsAs};
+ghost use Rattle.gx_storage.specs.Setting.{StaysAs, Unlogged};
+ghost use Rattle.gx_engine.specs.Setting.{BringComesAs, BringPageComesAs, IsLent, LeadsAs};
 
 use crate::Engine;
 use crate::laws::a_class_is_lawful;
@@ -34,7 +34,7 @@ impl<D: SectorDisk, K: ReadKeys> Engine<D, K> {
         requires from { 1 ≤ page }
         requires to { page ≤ self.old.volume.shelf.used }
         requires works { self.old.sessions.failed ≡ false }
-        ensures unlogged { UnloggedAs K.Key.Shape K.ReadKeys D.state (bringing self.old.volume)
+        ensures unlogged { Unlogged K.Key.Shape K.ReadKeys D.state (bringing self.old.volume)
             self.old.volume self.new.volume }
         ensures stays { StaysAs K.KeyClass D.state self.old.volume.shelf self.new.volume.shelf }
         ensures held { OnOk result (IsHeld self.new.volume.shelf page) }
@@ -79,7 +79,7 @@ impl<D: SectorDisk, K: ReadKeys> Engine<D, K> {
     /// Lends a held page.
     pub fn held_page(&self, page: u32) -> &Page
         requires held { IsHeld self.now.volume.shelf page }
-        ensures { IsLentAs K.KeyClass D.state page self.now result.now }
+        ensures { IsLent K.KeyClass D.state page self.now result.now }
     {
         self.storage.held_page(page)
     }

@@ -17,14 +17,7 @@ use gx_disk::SectorDisk;
 use gx_events::{Event, Outcome};
 use gx_geom::{Refusal, Shape};
 use gx_machine::{Call, Reply};
-use gx_phases::Phase;
-
-/// Whether there is a session of this number.
-fn is_session(session: u8) -> bool
-    ensures { result ≡ is_session session }
-{
-    1 <= session && session <= 8
-}
+use gx_phases::{Phase, is_session};
 
 /// Whether a session has a call that isn't answered.
 fn has_call<B: Shape>(phase: &Phase<B, Work<B>>) -> bool

@@ -11,8 +11,6 @@ pub mod EventRuns
 pub mod Views
 pub mod Apart
 pub mod WhatStood
-pub mod WorkedEvents
-pub mod Meanwhile
 pub mod Reopened
 pub mod Claims
 pub mod Replies

@@ -1,16 +1,9 @@
-pub mod Placing
 pub mod Keeping
 pub mod Giving
-pub mod Gathering
-pub mod Changing
 pub mod Parts
 pub mod Told
 pub mod Reading
 pub mod Broken
-pub mod Extents
-pub mod Shown
 pub mod Laid
 pub mod OnDevice
-pub mod Redone
 pub mod FoundRedone
-pub mod GoingOn

@@ -1,2 +1,1 @@
-mod Wrong
 mod Storming

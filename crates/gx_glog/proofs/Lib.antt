@@ -1,5 +1,4 @@
 pub mod Besides
-pub mod Closing
 pub mod Cuts
 pub mod Fills
 pub mod FirstLog

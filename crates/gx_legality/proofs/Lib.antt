@@ -1,13 +1,9 @@
 pub mod Children
 pub mod Counted
-pub mod Denied
 pub mod Joined
-pub mod Naming
-pub mod Noted
 pub mod Numbered
 pub mod Once
 pub mod Passes
 pub mod Slots
 pub mod Sought
-pub mod Taken
 pub mod Walks

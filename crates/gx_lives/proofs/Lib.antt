@@ -1,16 +1,6 @@
 pub mod Calling
-pub mod Fitting
 pub mod Images
-pub mod Readings
-pub mod Lived
-pub mod OneRun
-pub mod Told
-pub mod Serially
-pub mod Kept
-pub mod Unchanged
-pub mod Later
 pub mod Beginning
 pub mod Narrow
 pub mod Undamaged
 pub mod Dumping
-pub mod OverDevices

@@ -5,15 +5,11 @@ pub mod SessionsApart
 pub mod Places
 pub mod StepEffects
 pub mod StepsKeep
-pub mod SerialRuns
-pub mod AloneRuns
 pub mod RunLemmas
 pub mod Answered
 pub mod Survival
 pub mod Transactions
 pub mod SetsByTests
-pub mod WorkedRun
 pub mod Searched
 pub mod SetLemmas
-pub mod Sorting
 pub mod Comparing

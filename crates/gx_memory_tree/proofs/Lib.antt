@@ -1,4 +1,0 @@
-mod Asked
-mod Down
-mod Splits
-mod Steps

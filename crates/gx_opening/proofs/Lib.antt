@@ -1,15 +1,9 @@
-pub mod Sectors
-pub mod Laying
-pub mod Noting
 pub mod Others
 pub mod Sounding
 pub mod Bridging
 pub mod Found
 pub mod Stood
-pub mod Faults
 pub mod Telling
 pub mod Resting
 pub mod Sparing
-pub mod Ordering
 pub mod Heads
-pub mod Coming

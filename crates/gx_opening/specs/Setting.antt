@@ -26,8 +26,8 @@ IsSoundStoreAs shape class state most touched s =
     IsSoundStore (format_of class) (is_node (format_of class)) state (rules_of shape most) touched s
 
 -- the outcome of a test of the tree that a store shows, whose pages can be read
-abbrev pub TreeFindsAs : {C B D : Type 0} → Members B → Ghosts C B → (D → Device) → ℕ → List (Touch (Entry B)) → Shelf D → Result (Option Damage) Refusal → Type 0
-TreeFindsAs shape class state most touched s result =
+abbrev pub TreeFinds : {C B D : Type 0} → Members B → Ghosts C B → (D → Device) → ℕ → List (Touch (Entry B)) → Shelf D → Result (Option Damage) Refusal → Type 0
+TreeFinds shape class state most touched s result =
     IsSteadyStore (format_of class) (is_node (format_of class)) state s → CanAllBeRead (is_node (format_of class) s.pages) s.used (state s.disk).seen
     → Finds (IsShownSound (rules_of shape most) touched (shown_tree (format_of class) (is_node (format_of class)) state s))
     (TreeShows (format_of class) (rules_of shape most) touched (state s.disk).seen s) IsLack result
@@ -43,8 +43,8 @@ module _ {B : Type 0} (shape : Members B) (traits : Traits B) where
   AreSoundAs l pages told seen = AreSound (known_at shape traits.is_proper l) (reading_by traits.said (own traits)) (is_node (format_of (own traits)) pages) told seen
 
   -- the outcome of examining the pages of a device that reads so, by what its log gives
-  abbrev pub PagesFindAs : Type 0 → Limits → ℕ → ℕ → Analysis (Entry B) → List ℕ → Result (Option Damage) Refusal → Type 0
-  PagesFindAs D l pages most told seen result =
+  abbrev pub PagesFind : Type 0 → Limits → ℕ → ℕ → Analysis (Entry B) → List ℕ → Result (Option Damage) Refusal → Type 0
+  PagesFind D l pages most told seen result =
       Finds (AreSoundAs l pages told seen) (PagesShowAs D shape (own traits) pages most told seen) (λ why. IsLack why × (told.used ≤ pages)) result
 
   -- the outcome of examining a device that is formatted for an index of the class, and any device
@@ -71,11 +71,11 @@ module _ {B : Type 0} (shape : Members B) (traits : Traits B) where
   abbrev pub IsFormattedAs : Device → Parameters → Type 0
   IsFormattedAs d p = IsFormatted shape traits.is_proper traits.said (format_of (own traits)) traits.CLASS d p
 
-  abbrev pub IndexStandsAs : Device → Device → Standing B → Type 0
-  IndexStandsAs d e s = Stands shape traits.is_proper traits.said (format_of (own traits)) traits.CLASS d e s
+  abbrev pub IndexStands : Device → Device → Standing B → Type 0
+  IndexStands d e s = Stands shape traits.is_proper traits.said (format_of (own traits)) traits.CLASS d e s
 
-  abbrev pub LeftDamagedAs : Device → Refusal → Type 0
-  LeftDamagedAs d why = LeavesDamaged shape traits.is_proper traits.said (format_of (own traits)) traits.CLASS d why
+  abbrev pub LeftDamaged : Device → Refusal → Type 0
+  LeftDamaged d why = LeavesDamaged shape traits.is_proper traits.said (format_of (own traits)) traits.CLASS d why
 
 module _ {B D : Type 0} (shape : Members B) (traits : Traits B) (state : D → Device) where
   -- a crash leaves what it could before, or an index with the same log and pages

@@ -1,16 +1,10 @@
 pub mod Changes
-pub mod Copies
 pub mod Faultless
-pub mod Firsts
 pub mod Images
-pub mod Memory
 pub mod Moves
-pub mod Opened
 pub mod Parts
 pub mod Pieces
-pub mod Reached
 pub mod Rooms
 pub mod Scans
 pub mod Slots
 pub mod Steps
-pub mod Walks

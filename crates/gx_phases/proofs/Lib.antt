@@ -2,11 +2,9 @@ pub mod Slots
 pub mod Claiming
 pub mod Keeping
 pub mod Asking
-pub mod Parts
 pub mod Moved
 pub mod Moving
 pub mod Undoing
 pub mod Noting
-pub mod Events
 pub mod Indexing
 pub mod Losing

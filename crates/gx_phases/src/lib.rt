@@ -10,5 +10,6 @@ mod phase;
 mod sessions;
 mod steps;
 
+pub use asks::is_session;
 pub use phase::Phase;
 pub use sessions::Sessions;

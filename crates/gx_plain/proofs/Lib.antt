@@ -1,10 +1,5 @@
-pub mod Filters
-pub mod Merging
-pub mod Parts
-pub mod TakenAway
 pub mod SlotLaws
 pub mod IndexLaws
-pub mod AnswerLaws
 pub mod SealLaws
 pub mod CallRuns
 pub mod Decided

@@ -24,7 +24,7 @@ fn gap<B: Shape>(e: &Entry<B>, set: &[Entry<B>]) -> usize
 
 /// Puts an entry behind so many places that are still free from `at` on, and moves what was from there up to `end`
 /// behind it.
-#[tactic(auto, using(crate::proofs::Merging::moved_front, crate::proofs::Merging::moved_tail))]
+#[tactic(auto, using(crate::proofs::merge::Merging::moved_front, crate::proofs::merge::Merging::moved_tail))]
 fn put_behind<B: Shape>(set: &mut [Entry<B>], at: usize, end: usize, free: usize, e: Entry<B>)
     requires order { at ≤ end }
     requires room { end + free < length set.old }

@@ -5,11 +5,7 @@ pub mod Creating
 pub mod Elsewhere
 pub mod Gated
 pub mod Going
-pub mod Keeping
 pub mod Numbers
-pub mod PageSets
 pub mod Places
-pub mod Queues
 pub mod Readable
 pub mod Shown
-pub mod Writing

@@ -363,7 +363,7 @@ impl Frames {
     }
 
     /// Notes up to which batch all are gated.
-    #[tactic(auto, using(crate::proofs::Queues::none_below, crate::proofs::Queues::sound_placed))]
+    #[tactic(auto, using(crate::proofs::frames::Queues::none_below, crate::proofs::frames::Queues::sound_placed))]
     pub(crate) fn set_gated(&mut self, batch: u64)
         ensures { self.new ≡ record self.old { gated = batch } }
     {

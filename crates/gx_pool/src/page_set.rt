@@ -34,7 +34,7 @@ impl Model for PageSet {
 
 impl PageSet {
     /// No page.
-    #[tactic(auto, using(crate::proofs::PageSets::no_bit, crate::proofs::PageSets::none_grouped, crate::proofs::PageSets::none_pages))]
+    #[tactic(auto, using(crate::proofs::page_set::PageSets::no_bit, crate::proofs::page_set::PageSets::none_grouped, crate::proofs::page_set::PageSets::none_pages))]
     pub(crate) fn none(alloc: Global) -> Result<PageSet, AllocError>
         ensures { IfOk result (λ set. (k : ℕ) → has set k ≡ 0) }
     {
@@ -45,7 +45,7 @@ impl PageSet {
     }
 
     /// Puts a page into the set.
-    #[tactic(auto, using(crate::proofs::PageSets::put_grouped, crate::proofs::PageSets::put_pages))]
+    #[tactic(auto, using(crate::proofs::page_set::PageSets::put_grouped, crate::proofs::page_set::PageSets::put_pages))]
     pub(crate) fn put(&mut self, page: usize)
         requires { page ≤ MAX_PAGES }
         ensures put { has self.new page ≡ 1 }
@@ -56,7 +56,7 @@ impl PageSet {
     }
 
     /// Takes a page out of the set.
-    #[tactic(auto, using(crate::proofs::PageSets::taken_grouped, crate::proofs::PageSets::kept_grouped, crate::proofs::PageSets::taken_pages))]
+    #[tactic(auto, using(crate::proofs::page_set::PageSets::taken_grouped, crate::proofs::page_set::PageSets::kept_grouped, crate::proofs::page_set::PageSets::taken_pages))]
     pub(crate) fn take(&mut self, page: usize)
         requires { page ≤ MAX_PAGES }
         ensures taken { has self.new page ≡ 0 }
@@ -69,7 +69,7 @@ impl PageSet {
     }
 
     /// The least page of the set from one on.
-    #[tactic(auto, using(crate::proofs::PageSets::few))]
+    #[tactic(auto, using(crate::proofs::page_set::PageSets::few))]
     pub(crate) fn first(&self, from: usize) -> Option<usize>
         requires { from ≤ MAX_PAGES + 1 }
         ensures found { IfSome result (λ page. IsFirst self.now from page × (page ≤ MAX_PAGES)) }
@@ -82,7 +82,7 @@ impl PageSet {
     }
 
     /// The least page of the set behind the word of a number that has none from that number on.
-    #[tactic(auto, using(crate::proofs::PageSets::word_inside, crate::proofs::PageSets::least_later, crate::proofs::PageSets::some_later, crate::proofs::PageSets::none_later))]
+    #[tactic(auto, using(crate::proofs::page_set::PageSets::word_inside, crate::proofs::page_set::PageSets::least_later, crate::proofs::page_set::PageSets::some_later, crate::proofs::page_set::PageSets::none_later))]
     fn first_behind(&self, from: usize) -> Option<usize>
         requires from { from ≤ MAX_PAGES + 1 }
         requires none { (n : ℕ) → from ≤ n → n / 64 ≡ from / 64 → has self.now n ≡ 0 }

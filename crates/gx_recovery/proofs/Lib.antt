@@ -15,14 +15,11 @@ pub mod Moves
 pub mod Undo
 pub mod MachineSteps
 pub mod DamageItems
-pub mod WorkedProofs
 pub mod Numbers
 pub mod SoundRecords
 pub mod Unnamed
 pub mod Bodies
 pub mod Listing
-pub mod Placing
-pub mod Searching
 pub mod Bridging
 pub mod Fitting
 pub mod Heads

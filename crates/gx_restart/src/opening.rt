@@ -5,7 +5,7 @@ ghost use Rattle.gx_engine.specs.Made.{Makes};
 ghost use Rattle.gx_glog.specs.declared.parameters.Parameters.{Parameters};
 ghost use Rattle.gx_opening.specs.Formatted.{IsAllowed};
 ghost use Rattle.gx_opening.specs.Standing.{MayStart};
-ghost use Rattle.gx_opening.specs.Setting.{IndexStandsAs, LeftDamagedAs};
+ghost use Rattle.gx_opening.specs.Setting.{IndexStands, LeftDamaged};
 ghost use Rattle.gx_restart.specs.Beginning.{CountsOpening, IsSameDevice};
 ghost use Rattle.gx_restart.specs.Setting.{HasBegunAs, HasNotBegunAs, HoldsFoundAs, KeepsItsSetAs, OpensSafelyAs};
 ghost use Rattle.gx_restart.specs.Setting.{IsOpenedAs, IsRefusedAs};
@@ -81,7 +81,7 @@ fn open_over<D: SectorDisk, K: ReadKeys + Probing>(
     ensures idle { IfOk result IsIdle }
     ensures began { IfOk result (BeganWith (Makes K.Key.Shape K.ReadKeys D.state) frames) }
     ensures keeps { (a : D) → (D.state disk).honest ≡ true
-        → IndexStandsAs K.Key.Shape K.ReadKeys (D.state a) (D.state disk) standing.now
+        → IndexStands K.Key.Shape K.ReadKeys (D.state a) (D.state disk) standing.now
         → MatchResult result
         (λ engine. HasBegunAs K.Key.Shape K.ReadKeys standing.now.parameters
         (D.state a).seen (D.state disk) (D.state engine.volume.shelf.disk) engine)
@@ -116,7 +116,7 @@ fn open_with<D: SectorDisk, K: ReadKeys + Probing>(
     ensures refused { (D.state disk).honest ≡ true → MIN_SECTORS ≤ (D.state disk).sectors
         → IfErr result (λ n. IsRefusedAs K.Key.Shape K.ReadKeys D.state disk n.disk n.why) }
     ensures damaged { (D.state disk).honest ≡ true
-        → IfErr result (λ n. LeftDamagedAs K.Key.Shape K.ReadKeys (D.state n.disk) n.why) }
+        → IfErr result (λ n. LeftDamaged K.Key.Shape K.ReadKeys (D.state n.disk) n.why) }
 {
     a_class_is_lawful::<K>();
     let (disk, found) = find::<D, K>(alloc, disk);
@@ -173,7 +173,7 @@ pub fn open<D: SectorDisk, K: ReadKeys + Probing>(
     ensures refused { (D.state disk).honest ≡ true → 16 ≤ frames → frames ≤ 4096 → MIN_SECTORS ≤ (D.state disk).sectors
         → IfErr result (λ n. IsRefusedAs K.Key.Shape K.ReadKeys D.state disk n.disk n.why) }
     ensures damaged { (D.state disk).honest ≡ true
-        → IfErr result (λ n. LeftDamagedAs K.Key.Shape K.ReadKeys (D.state n.disk) n.why) }
+        → IfErr result (λ n. LeftDamaged K.Key.Shape K.ReadKeys (D.state n.disk) n.why) }
 {
     what_is_found_stands::<D, K>();
     if frames < LEAST_FRAMES || MOST_FRAMES < frames {

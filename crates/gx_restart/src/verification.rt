@@ -3,7 +3,7 @@
 ghost use Rattle.std.specs.Prelude.{◌≡◌, ◌≢◌, ◌≤◌, ◌<◌, true, Err, IfErr, IfOk, IfSome};
 ghost use Rattle.gx_disk.specs.Looks.{Looks};
 ghost use Rattle.gx_opening.specs.Formatted.{Counted};
-ghost use Rattle.gx_opening.specs.Setting.{LeftDamagedAs};
+ghost use Rattle.gx_opening.specs.Setting.{LeftDamaged};
 ghost use Rattle.gx_restart.specs.Copied.{IsNoMore, memory_state, refusal_of_copy};
 ghost use Rattle.gx_restart.specs.Setting.{HandsOutAs, IsDamagedCopyAs, IsOpenedAs, IsUnverifiedAs, IsUnverifiedCopyAs};
 ghost use Rattle.gx_restart.specs.Setting.{IsVerifiedAs};
@@ -100,7 +100,7 @@ fn verify_copy<D: SectorDisk + Drop, K: ReadKeys + Probing>(
     ensures damaged { (D.state copy).honest ≡ true → IfErr result (λ n. n.why ≡ Refusal.Damaged
         → IsDamagedCopyAs K.Key.Shape K.ReadKeys (D.state copy) (D.state n.disk)) }
     ensures left { (D.state copy).honest ≡ true
-        → IfErr result (λ n. LeftDamagedAs K.Key.Shape K.ReadKeys (D.state n.disk) n.why) }
+        → IfErr result (λ n. LeftDamaged K.Key.Shape K.ReadKeys (D.state n.disk) n.why) }
     ensures device { IfErr result (λ n. n.why ≢ Refusal.Device) }
 {
     match open::<D, K>(alloc, copy, frames) {

@@ -1,5 +1,2 @@
-pub mod Agreeing
-pub mod Keeping
-pub mod Made
 pub mod Opening
 pub mod Sharing

@@ -1,7 +1,6 @@
 pub mod Begun
 pub mod Fairness
 pub mod Frames
-pub mod Placements
 pub mod Placing
 pub mod Steps
 pub mod Wastes

@@ -2,12 +2,9 @@ pub mod Calling
 pub mod Giving
 pub mod Helping
 pub mod Imaging
-pub mod Keying
-pub mod Marking
 pub mod Moving
 pub mod OnlyReads
 pub mod Recording
-pub mod Removing
 pub mod Shown
 pub mod SmallAdds
 pub mod SmallFits
@@ -22,7 +19,6 @@ pub mod SmallWidens
 pub mod Splitting
 pub mod Sweeping
 pub mod Turning
-pub mod Unpaged
 pub mod Writing
 pub mod Adding
 pub mod Descending

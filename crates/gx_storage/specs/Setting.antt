@@ -129,28 +129,28 @@ module _ {B D : Type 0} (shape : Members B) (traits : Traits B)
   abbrev pub LogsAs : ℕ → Volume D → Volume D → Rec → Type 0
   LogsAs size v w x = IsLogged known reading form passes size (at v) (at w) v w x
 
-  abbrev pub LogsIfAs : ℕ → Volume D → Volume D → Rec → Bool → Type 0
-  LogsIfAs size v w x changed = IsLoggedIf known reading form passes size (at v) (at w) v w x changed
+  abbrev pub LogsIf : ℕ → Volume D → Volume D → Rec → Bool → Type 0
+  LogsIf size v w x changed = IsLoggedIf known reading form passes size (at v) (at w) v w x changed
 
-  abbrev pub LogsMarkAs : ℕ → Entry B → ℕ → Bool → Volume D → Volume D → Sought → Type 0
-  LogsMarkAs transaction entry page marked v w sought =
+  abbrev pub LogsMark : ℕ → Entry B → ℕ → Bool → Volume D → Volume D → Sought → Type 0
+  LogsMark transaction entry page marked v w sought =
       MarkIsLogged known reading form passes traits.spelling traits.KEY transaction entry page marked (at v) (at w) v w
       sought
 
-  abbrev pub LogsDescentAs : ℕ → Volume D → Volume D → Descended B → Type 0
-  LogsDescentAs page v w did =
+  abbrev pub LogsDescent : ℕ → Volume D → Volume D → Descended B → Type 0
+  LogsDescent page v w did =
       DescentIsLogged known reading form passes traits.spelling traits.KEY page (at v) (at w) v w did
 
   -- nothing is logged, of an event that began so
-  abbrev pub UnloggedAs : Shelf D → Volume D → Volume D → Type 0
-  UnloggedAs begun v w = IsUnlogged known reading form passes begun (at v) (at w) v w
+  abbrev pub Unlogged : Shelf D → Volume D → Volume D → Type 0
+  Unlogged begun v w = IsUnlogged known reading form passes begun (at v) (at w) v w
 
   -- a leaf was swept, and its slots are logged; or that was refused
-  abbrev pub LogsSweepAs : ((Entry B → Bool) → Type 0) → Volume D → Volume D → ℕ → Bool → Type 0
-  LogsSweepAs IsTest v w page any = SweepIsLogged known reading form passes IsTest (at v) (at w) v w page any
+  abbrev pub LogsSweep : ((Entry B → Bool) → Type 0) → Volume D → Volume D → ℕ → Bool → Type 0
+  LogsSweep IsTest v w page any = SweepIsLogged known reading form passes IsTest (at v) (at w) v w page any
 
-  abbrev pub RefusesSweepAs : ((Entry B → Bool) → Type 0) → Volume D → Volume D → ℕ → StepFault StoreFault → Type 0
-  RefusesSweepAs IsTest v w page fault = SweepIsRefused known reading form passes IsTest (at v) (at w) v w page fault
+  abbrev pub RefusesSweep : ((Entry B → Bool) → Type 0) → Volume D → Volume D → ℕ → StepFault StoreFault → Type 0
+  RefusesSweep IsTest v w page fault = SweepIsRefused known reading form passes IsTest (at v) (at w) v w page fault
 
   -- What the flusher's calls keep, within whatever limits an index has: a step of the log, a page's write, a call
   -- that leaves the state, a record that gives no page, and a turn, which may begin.

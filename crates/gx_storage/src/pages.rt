@@ -11,7 +11,7 @@ ghost use Rattle.gx_node.specs.Writes.{is_sweepable};
 ghost use Rattle.gx_node.specs.Store.{node_of};
 ghost use Rattle.gx_storage.specs.Bringing.{bringing, has_removable};
 ghost use Rattle.gx_store.specs.Faults.{store_fails};
-ghost use Rattle.gx_storage.specs.Setting.{FaultsAs, StaysAs, ToldAs, UnloggedAs, tree_at};
+ghost use Rattle.gx_storage.specs.Setting.{FaultsAs, StaysAs, ToldAs, Unlogged, tree_at};
 
 use crate::Storage;
 use crate::changes::room::begin_reading;
@@ -63,7 +63,7 @@ impl<D: SectorDisk, K: ReadKeys> Storage<D, K> {
     pub fn bring(&mut self, page: u32) -> Result<(), StoreFault>
         requires from { 1 ≤ page }
         requires to { page ≤ self.old.shelf.used }
-        ensures unlogged { UnloggedAs K.Key.Shape K.ReadKeys D.state (bringing self.old) self.old self.new }
+        ensures unlogged { Unlogged K.Key.Shape K.ReadKeys D.state (bringing self.old) self.old self.new }
         ensures stays { StaysAs K.KeyClass D.state self.old.shelf self.new.shelf }
         ensures held { OnOk result (IsHeld self.new.shelf page) }
         ensures told { ToldAs D.state store_fails self.old.shelf self.new.shelf result }

@@ -9,7 +9,7 @@ ghost use Rattle.gx_tree.specs.Wants.{wants};
 ghost use Rattle.gx_node.specs.Owner.{look_fails, step_fails};
 ghost use Rattle.gx_store.specs.Faults.{store_fails};
 ghost use Rattle.gx_storage.specs.Bringing.{bringing};
-ghost use Rattle.gx_storage.specs.Setting.{IsWhyAs, IsWhyOfLookAs, StaysAs, ToldAs, UnloggedAs, tree_at};
+ghost use Rattle.gx_storage.specs.Setting.{IsWhyAs, IsWhyOfLookAs, StaysAs, ToldAs, Unlogged, tree_at};
 
 use crate::Storage;
 use crate::changes::room::begin_reading;
@@ -30,7 +30,7 @@ impl<D: SectorDisk, K: ReadKeys + Probing> Storage<D, K> {
         look: &mut Look<K::Key>,
     ) -> Result<(), LookFault<StoreFault>>
         requires { 0 < length look.old.stack.items }
-        ensures unlogged { UnloggedAs K.Key.Shape K.ReadKeys D.state (bringing self.old) self.old self.new }
+        ensures unlogged { Unlogged K.Key.Shape K.ReadKeys D.state (bringing self.old) self.old self.new }
         ensures stays { StaysAs K.KeyClass D.state self.old.shelf self.new.shelf }
         ensures step { OnOk result (LookStep (tree_at K.KeyClass D.state self.new.shelf)
             (wants K.passes wanted.now.keys wanted.now.row) (K.passes wanted.now.bounds) look.old.stack.items
@@ -56,7 +56,7 @@ impl<D: SectorDisk, K: ReadKeys + Probing> Storage<D, K> {
         wanted: &Wanted<K>,
         page: u32,
     ) -> Result<Sought, StepFault<StoreFault>>
-        ensures unlogged { UnloggedAs K.Key.Shape K.ReadKeys D.state (bringing self.old) self.old self.new }
+        ensures unlogged { Unlogged K.Key.Shape K.ReadKeys D.state (bringing self.old) self.old self.new }
         ensures stays { StaysAs K.KeyClass D.state self.old.shelf self.new.shelf }
         ensures held { OnOk result (IsHeld self.new.shelf page) }
         ensures sought { IfOk result (Seeks (wants K.passes wanted.now.keys wanted.now.row)

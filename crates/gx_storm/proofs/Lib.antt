@@ -1,4 +1,0 @@
-mod Judging
-pub mod Following
-pub mod Asking
-pub mod Replaying

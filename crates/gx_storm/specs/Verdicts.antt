@@ -71,7 +71,7 @@ pub record EndsStorm {B E : Type 0} (k : Keys B) (events : Ghosts E B) (starts :
   pub stands : events.granted → Stands k events.sees starts engine items
 
 -- the verdict if the replay of the record is defined
-abbrev pub AgreesAs : {B : Type 0} → ℕ → List (Item B) → List (Handed B) → Verdict → Type 0
-AgreesAs calls items all verdict.Sound = HasAll calls items all × (lesser (least_told items) (least_given_up all) ≡ None)
-AgreesAs calls items all (verdict.Mismatch place) = (place ≡ length items) × LacksReplies calls items all
-AgreesAs calls items all (verdict.Refused why) = IsLeast calls items all why
+abbrev pub Agrees : {B : Type 0} → ℕ → List (Item B) → List (Handed B) → Verdict → Type 0
+Agrees calls items all verdict.Sound = HasAll calls items all × (lesser (least_told items) (least_given_up all) ≡ None)
+Agrees calls items all (verdict.Mismatch place) = (place ≡ length items) × LacksReplies calls items all
+Agrees calls items all (verdict.Refused why) = IsLeast calls items all why

@@ -2,7 +2,7 @@
 ghost use Rattle.std.specs.Prelude.{◌+◌, ◌≤◌, length, MatchBool, Some};
 ghost use Rattle.gx_machine.specs.Keys.{keys_of};
 ghost use Rattle.gx_machine.specs.declared.limits.TheConstants.{SESSIONS};
-ghost use Rattle.gx_storm.specs.Verdicts.{AgreesAs, HasAll, HasReplies, LacksReplies, Says};
+ghost use Rattle.gx_storm.specs.Verdicts.{Agrees, HasAll, HasReplies, LacksReplies, Says};
 
 use crate::Handed;
 use crate::items::{Mismatch, replay};
@@ -68,7 +68,7 @@ fn agreed<B: Shape, E: Events<B>, R: Run<B>>(
     all: &[Handed<B>],
 ) -> Verdict
     requires { length all.now ≤ SESSIONS }
-    ensures { AgreesAs calls book.now.1 all.now result }
+    ensures { Agrees calls book.now.1 all.now result }
 {
     if !has_all(book, calls, all) {
         return Verdict::Mismatch(book.calls().len() as u64);

@@ -4,12 +4,9 @@ pub mod KeysKept
 pub mod Lawful
 pub mod LeafSteps
 pub mod Marking
-pub mod Named
 pub mod Owner
 pub mod Parted
-pub mod Raised
 pub mod Restarts
-pub mod RootSplits
 pub mod Searched
 pub mod Sides
 pub mod Splits

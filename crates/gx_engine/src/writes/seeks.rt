@@ -14,7 +14,7 @@ ghost use Rattle.gx_engine.specs.declared.work.Work.TheVariants.{Seeks};
 ghost use Rattle.gx_engine.specs.Seeks.{SeeksAs, set_outcome, set_state, standing_refusal, write_call, written_reply};
 ghost use Rattle.gx_engine.specs.States.{is_due};
 ghost use Rattle.gx_engine.specs.Writes.{WritesAs, write_events};
-ghost use Rattle.gx_storage.specs.Setting.{StaysAs, ToldAs, UnloggedAs};
+ghost use Rattle.gx_storage.specs.Setting.{StaysAs, ToldAs, Unlogged};
 ghost use Rattle.gx_engine.specs.Setting.{IsSoughtAs, IsUnsoughtAs, MovesAs, SeekingAs, phase_in};
 
 use crate::Engine;
@@ -112,7 +112,7 @@ impl<D: SectorDisk, K: ReadKeys + Probing> Engine<D, K> {
         entry: &Entry<K::Key>,
         leaf: u32,
     ) -> Result<Sought, StepFault<StoreFault>>
-        ensures unlogged { UnloggedAs K.Key.Shape K.ReadKeys D.state (bringing self.old.volume)
+        ensures unlogged { Unlogged K.Key.Shape K.ReadKeys D.state (bringing self.old.volume)
             self.old.volume self.new.volume }
         ensures stays { StaysAs K.KeyClass D.state self.old.volume.shelf self.new.volume.shelf }
         ensures sought { IfOk result (IsSoughtAs K.Key.Shape K.KeyClass D.state self.new.volume entry.now leaf) }

@@ -10,7 +10,7 @@ ghost use Rattle.gx_pool.specs.Bringing.{OnlyRead};
 ghost use Rattle.gx_pool.specs.State.{kept};
 ghost use Rattle.gx_recovery.specs.Known.{Limits};
 ghost use Rattle.gx_opening.specs.Shown.{IsLack, IsUnreadable, tree_told_of};
-ghost use Rattle.gx_opening.specs.Setting.{PagesFindAs, TreeFindsAs};
+ghost use Rattle.gx_opening.specs.Setting.{PagesFind, TreeFinds};
 
 use super::Damage;
 use crate::legal::test_refusal;
@@ -81,7 +81,7 @@ fn in_tree<D: SectorDisk, K: ReadKeys>(
     ensures reads { OnlyReadsStore (format_of K.KeyClass) (is_node (format_of K.KeyClass)) D.state store.old store.new }
     ensures failed { result ≡ Err Refusal.Device → (D.state store.old.disk).faults < (D.state store.new.disk).faults }
     ensures finds { AreOfOthers (entry_cmp (keys_of K.Key.Shape)) touched.now
-        → TreeFindsAs K.Key.Shape K.KeyClass D.state most touched.now store.old result }
+        → TreeFinds K.Key.Shape K.KeyClass D.state most touched.now store.old result }
 {
     going_on::<D, K>();
     let Ok(notes) = notes_of(alloc, touched) else {
@@ -111,7 +111,7 @@ fn over_frames<D: SectorDisk, K: ReadKeys>(
     ensures finds { (l : Limits) → l.pages ≡ pages → l.most ≡ most → (D.state disk).honest ≡ true
         → AreOfOthers (entry_cmp (keys_of K.Key.Shape)) analysis.now.told.touched
         → CanAllBeRead (is_node (format_of K.KeyClass) pages) analysis.now.told.used (D.state disk).seen
-        → PagesFindAs K.Key.Shape K.ReadKeys D l pages most analysis.now.told (D.state disk).seen result.1 }
+        → PagesFind K.Key.Shape K.ReadKeys D l pages most analysis.now.told (D.state disk).seen result.1 }
 {
     a_store_starts::<D, K>();
     going_on::<D, K>();
@@ -137,7 +137,7 @@ pub(crate) fn in_pages<D: SectorDisk, K: ReadKeys>(
     ensures failed { result.1 ≡ Err Refusal.Device → (D.state disk).faults < (D.state result.0).faults }
     ensures finds { (l : Limits) → l.pages ≡ pages → l.most ≡ most → (D.state disk).honest ≡ true
         → AreOfOthers (entry_cmp (keys_of K.Key.Shape)) analysis.now.told.touched
-        → PagesFindAs K.Key.Shape K.ReadKeys D l pages most analysis.now.told (D.state disk).seen result.1 }
+        → PagesFind K.Key.Shape K.ReadKeys D l pages most analysis.now.told (D.state disk).seen result.1 }
 {
     let used = analysis.used();
     if pages < used {

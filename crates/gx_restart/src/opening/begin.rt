@@ -3,7 +3,7 @@ ghost use Rattle.std.specs.Prelude.{◌≡◌, ◌≤◌, ◌+◌, ◌*◌, fals
 ghost use Rattle.gx_disk.specs.declared.layout.TheConstants.{PAGES_AT, PAGE_SECTORS};
 ghost use Rattle.gx_opening.specs.Formatted.{IsAllowed};
 ghost use Rattle.gx_opening.specs.Standing.{MayStart};
-ghost use Rattle.gx_opening.specs.Setting.{IndexStandsAs};
+ghost use Rattle.gx_opening.specs.Setting.{IndexStands};
 ghost use Rattle.gx_restart.specs.Beginning.{CountsOpening, IsSameDevice, StartsFrom};
 ghost use Rattle.gx_restart.specs.Setting.{HasBegunAs, HasNotBegunAs};
 ghost use Rattle.gx_restart.specs.Undoing.{OnlyUndoes};
@@ -79,7 +79,7 @@ pub(crate) fn begin_engine<D: SectorDisk, K: ReadKeys>(
     ensures undoes { IfOk result OnlyUndoes }
     ensures works { IfOk result (λ engine. engine.sessions.failed ≡ false) }
     ensures begun { (a : D) → (D.state disk).honest ≡ true
-        → IndexStandsAs K.Key.Shape K.ReadKeys (D.state a) (D.state disk) standing.now
+        → IndexStands K.Key.Shape K.ReadKeys (D.state a) (D.state disk) standing.now
         → MatchResult result
         (λ engine. HasBegunAs K.Key.Shape K.ReadKeys standing.now.parameters
         (D.state a).seen (D.state disk) (D.state engine.volume.shelf.disk) engine)

@@ -9,7 +9,7 @@ ghost use Rattle.gx_store.specs.Faults.{store_fails};
 ghost use Rattle.gx_storage.specs.Changes.{begun};
 ghost use Rattle.gx_storage.specs.Imaged.{is_imaged};
 ghost use Rattle.gx_storage.specs.Setting.{IsSteadyAs, IsWhyAs, LogsAs, OwnNumberAs, ShowsTheSame, ToldAs};
-ghost use Rattle.gx_storage.specs.Setting.{UnloggedAs, tree_at};
+ghost use Rattle.gx_storage.specs.Setting.{Unlogged, tree_at};
 ghost use Rattle.gx_storage.specs.Small.{IsSpelled, add_room, add_said};
 
 use crate::Storage;
@@ -40,7 +40,7 @@ impl<D: SectorDisk, K: ReadKeys> Storage<D, K> {
             (add_room (is_imaged self.old.imaged page) K.KEY) self.old self.new
             (add_said K.spelling (is_imaged self.old.imaged page) transaction entry.now.row entry.now.key page
             (D.state self.new.shelf.disk).seen self.new.shelf)) }
-        ensures unlogged { OnErr result (UnloggedAs K.Key.Shape K.ReadKeys D.state
+        ensures unlogged { OnErr result (Unlogged K.Key.Shape K.ReadKeys D.state
             (begun self.old (add_room (is_imaged self.old.imaged page) K.KEY)) self.old self.new) }
         ensures added { IsSteadyAs D.state self.old.shelf
             → OnOk result (Appends self.old.most (tree_at K.KeyClass D.state self.old.shelf)

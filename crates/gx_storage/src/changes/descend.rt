@@ -8,8 +8,8 @@ ghost use Rattle.gx_store.specs.Faults.{store_fails};
 ghost use Rattle.gx_storage.specs.Changes.{begun, begun_at, has_room};
 ghost use Rattle.gx_storage.specs.Changing.{HasToWiden, unwidened};
 ghost use Rattle.gx_storage.specs.Imaged.{is_imaged};
-ghost use Rattle.gx_storage.specs.Setting.{IsSinceAs, IsSteadyAs, IsWhyAs, LogsDescentAs, OwnNumberAs, ShowsTheSame};
-ghost use Rattle.gx_storage.specs.Setting.{ToldAs, UnloggedAs, store_at, tree_at};
+ghost use Rattle.gx_storage.specs.Setting.{IsSinceAs, IsSteadyAs, IsWhyAs, LogsDescent, OwnNumberAs, ShowsTheSame};
+ghost use Rattle.gx_storage.specs.Setting.{ToldAs, Unlogged, store_at, tree_at};
 ghost use Rattle.gx_storage.specs.Small.{widen_room};
 
 use crate::Storage;
@@ -79,8 +79,8 @@ impl<D: SectorDisk, K: ReadKeys> Storage<D, K> {
         coming: &K::Key,
     ) -> Result<Descended<K::Key>, StepFault<StoreFault>>
         requires still { self.old.log.turn ≡ Closed }
-        ensures logged { IfOk result (LogsDescentAs K.Key.Shape K.ReadKeys D.state item.now.page self.old self.new) }
-        ensures unlogged { OnErr result (UnloggedAs K.Key.Shape K.ReadKeys D.state
+        ensures logged { IfOk result (LogsDescent K.Key.Shape K.ReadKeys D.state item.now.page self.old self.new) }
+        ensures unlogged { OnErr result (Unlogged K.Key.Shape K.ReadKeys D.state
             (begun self.old (widen_room (is_imaged self.old.imaged item.now.page) K.KEY)) self.old self.new) }
         ensures descended { IsSteadyAs D.state self.old.shelf
             → IfOk result (StepsDown K.cost K.joined self.old.most (store_at K.KeyClass D.state self.old.shelf)

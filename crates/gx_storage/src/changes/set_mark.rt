@@ -9,8 +9,8 @@ ghost use Rattle.gx_store.specs.Faults.{store_fails};
 ghost use Rattle.gx_storage.specs.Changes.{begun, begun_at, has_room};
 ghost use Rattle.gx_storage.specs.Imaged.{is_imaged};
 ghost use Rattle.gx_storage.specs.Numbers.{OwnWhereSet};
-ghost use Rattle.gx_storage.specs.Setting.{HasEntryAs, IsSinceAs, IsSteadyAs, IsWhyAs, LogsMarkAs, MarksEntryAs};
-ghost use Rattle.gx_storage.specs.Setting.{ShowsTheSame, ToldAs, UnloggedAs, tree_at};
+ghost use Rattle.gx_storage.specs.Setting.{HasEntryAs, IsSinceAs, IsSteadyAs, IsWhyAs, LogsMark, MarksEntryAs};
+ghost use Rattle.gx_storage.specs.Setting.{ShowsTheSame, ToldAs, Unlogged, tree_at};
 ghost use Rattle.gx_storage.specs.Small.{mark_room};
 
 use crate::Storage;
@@ -66,9 +66,9 @@ impl<D: SectorDisk, K: ReadKeys + Probing> Storage<D, K> {
         marked: bool,
     ) -> Result<Sought, StepFault<StoreFault>>
         requires still { self.old.log.turn ≡ Closed }
-        ensures logged { IfOk result (LogsMarkAs K.Key.Shape K.ReadKeys D.state transaction entry.now
+        ensures logged { IfOk result (LogsMark K.Key.Shape K.ReadKeys D.state transaction entry.now
             page marked self.old self.new) }
-        ensures unlogged { OnErr result (UnloggedAs K.Key.Shape K.ReadKeys D.state
+        ensures unlogged { OnErr result (Unlogged K.Key.Shape K.ReadKeys D.state
             (begun self.old (mark_room (is_imaged self.old.imaged page) K.KEY)) self.old self.new) }
         ensures marked { IfOk result (MarksEntryAs K.Key.Shape K.KeyClass D.state self.old self.new entry.now page
             marked) }

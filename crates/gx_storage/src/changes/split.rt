@@ -14,7 +14,7 @@ ghost use Rattle.gx_store.specs.Faults.{store_fails};
 ghost use Rattle.gx_storage.specs.Changes.{begun};
 ghost use Rattle.gx_storage.specs.Giving.{rising};
 ghost use Rattle.gx_node.specs.Lists.{Each};
-ghost use Rattle.gx_storage.specs.Setting.{IsSteadyAs, IsWhyOfSplitAs, LogsIfAs, OwnNumberAs, ShowsTheSame, UnloggedAs};
+ghost use Rattle.gx_storage.specs.Setting.{IsSteadyAs, IsWhyOfSplitAs, LogsIf, OwnNumberAs, ShowsTheSame, Unlogged};
 ghost use Rattle.gx_storage.specs.Setting.{ToldAs, pages_given_at, store_at, tree_at};
 
 use crate::Storage;
@@ -45,10 +45,10 @@ impl<D: SectorDisk, K: ReadKeys> Storage<D, K> {
         requires still { self.old.log.turn ≡ Closed }
         requires most { 4 ≤ self.old.most }
         requires space { MAX_ENTRIES ≤ length keys.old }
-        ensures logged { IfOk result (λ did. LogsIfAs K.Key.Shape K.ReadKeys D.state SPLIT_RECORD
+        ensures logged { IfOk result (λ did. LogsIf K.Key.Shape K.ReadKeys D.state SPLIT_RECORD
             self.old self.new (pages_given_at D.state (rising page parent (suc self.old.shelf.used)) self.new.shelf)
             (has_split did)) }
-        ensures unlogged { OnErr result (UnloggedAs K.Key.Shape K.ReadKeys D.state
+        ensures unlogged { OnErr result (Unlogged K.Key.Shape K.ReadKeys D.state
             (begun self.old SPLIT_RECORD) self.old self.new) }
         ensures split { IsSteadyAs D.state self.old.shelf
             → IfOk result (Splits (rules_of K.Key.Shape self.old.most) K.sides_of

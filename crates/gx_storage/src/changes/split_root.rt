@@ -13,7 +13,7 @@ ghost use Rattle.gx_node.specs.Owner.{split_fails};
 ghost use Rattle.gx_store.specs.Faults.{store_fails};
 ghost use Rattle.gx_storage.specs.Changes.{begun};
 ghost use Rattle.gx_node.specs.Lists.{Each};
-ghost use Rattle.gx_storage.specs.Setting.{IsSteadyAs, IsWhyOfSplitAs, LogsAs, OwnNumberAs, ShowsTheSame, UnloggedAs};
+ghost use Rattle.gx_storage.specs.Setting.{IsSteadyAs, IsWhyOfSplitAs, LogsAs, OwnNumberAs, ShowsTheSame, Unlogged};
 ghost use Rattle.gx_storage.specs.Setting.{ToldAs, pages_given_at, store_at, tree_at};
 
 use crate::Storage;
@@ -43,7 +43,7 @@ impl<D: SectorDisk, K: ReadKeys> Storage<D, K> {
         ensures logged { OnOk result (LogsAs K.Key.Shape K.ReadKeys D.state SPLIT_RECORD self.old
             self.new (pages_given_at D.state (1 ∷ suc self.old.shelf.used ∷ suc (suc self.old.shelf.used) ∷ [])
             self.new.shelf)) }
-        ensures unlogged { OnErr result (UnloggedAs K.Key.Shape K.ReadKeys D.state
+        ensures unlogged { OnErr result (Unlogged K.Key.Shape K.ReadKeys D.state
             (begun self.old SPLIT_RECORD) self.old self.new) }
         ensures split { IsSteadyAs D.state self.old.shelf
             → IfOk result (DidSplitRoot (rules_of K.Key.Shape self.old.most) K.sides_of

@@ -13,7 +13,7 @@ ghost use Rattle.gx_node.specs.Owner.{step_fails};
 ghost use Rattle.gx_store.specs.Faults.{store_fails};
 ghost use Rattle.gx_storage.specs.Bringing.{has_removable};
 ghost use Rattle.gx_storage.specs.Changes.{begun_at};
-ghost use Rattle.gx_storage.specs.Setting.{IsSinceAs, IsSteadyAs, IsWhyAs, LogsSweepAs, OwnNumberAs, RefusesSweepAs};
+ghost use Rattle.gx_storage.specs.Setting.{IsSinceAs, IsSteadyAs, IsWhyAs, LogsSweep, OwnNumberAs, RefusesSweep};
 ghost use Rattle.gx_storage.specs.Setting.{ShowsTheSame, ToldAs, store_at, tree_at};
 ghost use Rattle.gx_storage.specs.Small.{sweep_room};
 ghost use Rattle.gx_storage.specs.Sweeping.{Answers, slots_planned};
@@ -89,9 +89,9 @@ impl<D: SectorDisk, K: ReadKeys> Storage<D, K> {
     ) -> Result<bool, StepFault<StoreFault>>
         requires still { self.old.log.turn ≡ Closed }
         requires claimed { F.IsAlwaysCallable claimed }
-        ensures logged { IfOk result (LogsSweepAs K.Key.Shape K.ReadKeys D.state
+        ensures logged { IfOk result (LogsSweep K.Key.Shape K.ReadKeys D.state
             (Answers F.post claimed) self.old self.new page) }
-        ensures unlogged { IfErr result (RefusesSweepAs K.Key.Shape K.ReadKeys D.state
+        ensures unlogged { IfErr result (RefusesSweep K.Key.Shape K.ReadKeys D.state
             (Answers F.post claimed) self.old self.new page) }
         ensures swept { IsSteadyAs D.state self.old.shelf → (test : Entry K.Key → Bool) → Answers F.post claimed test
             → IfOk result (Swept test (store_at K.KeyClass D.state self.old.shelf)

@@ -1,7 +1,7 @@
 use Rattle.std.proofs.Common.{◌∙◌, subst, arith}
 use Rattle.std.proofs.lemmas.List.{length-set}
 use Rattle.gx_bench.specs.Choices.{IsChosen}
-use Rattle.gx_bench.proofs.Chosen.{one_more_chosen, fewer_chosen, none_chosen}
+use Rattle.gx_bench.proofs.choose.Chosen.{one_more_chosen, fewer_chosen, none_chosen}
 use Rattle.gx_bench.proofs.choose.choose_all.Goals as goal
 
 pub loop-place-init : goal.loop-place-init

@@ -1,6 +1,6 @@
 use Rattle.std.proofs.Common.{ℕ, ◌<◌, List, length, sym, subst}
 use Rattle.gx_record.specs.Seen.{rec_of}
-use Rattle.gx_bench.proofs.Rests.{ReadTo, nothing_read, one_more, less_left, left_within, all_read}
+use Rattle.gx_bench.proofs.records.Rests.{ReadTo, nothing_read, one_more, less_left, left_within, all_read}
 use Rattle.gx_bench.proofs.records.gx_bench_read.Goals as goal
 
 pub loop-size-init : goal.loop-size-init

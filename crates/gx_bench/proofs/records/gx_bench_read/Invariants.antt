@@ -1,5 +1,5 @@
 use Rattle.std.proofs.Common.{length}
-use Rattle.gx_bench.proofs.Rests.{ReadTo}
+use Rattle.gx_bench.proofs.records.Rests.{ReadTo}
 use Rattle.gx_bench.proofs.records.gx_bench_read.Given as goal
 
 abbrev pub invariant-loop-size : goal.invariant-loop-size

@@ -2,7 +2,7 @@ use Rattle.std.proofs.Common.{◌∙◌}
 use Rattle.gx_bench.specs.Sent.{key_of}
 use Rattle.gx_bench.specs.Scans.{hits_in_all}
 use Rattle.std.proofs.lemmas.List.{length-set}
-use Rattle.gx_bench.proofs.Hits.{one_more_count}
+use Rattle.gx_bench.proofs.scan.Hits.{one_more_count}
 use Rattle.gx_bench.proofs.scan.count_all.Goals as goal
 
 pub loop-place-preserved : goal.loop-place-preserved

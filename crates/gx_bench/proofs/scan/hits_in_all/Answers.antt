@@ -1,7 +1,7 @@
 use Rattle.std.proofs.Common.{◌∙◌, arith}
 use Rattle.gx_class.specs.Probes.{corners, are_between}
 use Rattle.gx_bench.specs.Sent.{key_of}
-use Rattle.gx_bench.proofs.Hits.{leaf_at, same_hits, one_more_page, same_key}
+use Rattle.gx_bench.proofs.scan.Hits.{leaf_at, same_hits, one_more_page, same_key}
 use Rattle.gx_bench.proofs.scan.hits_in_all.Goals as goal
 
 pub loop-page-preserved : goal.loop-page-preserved

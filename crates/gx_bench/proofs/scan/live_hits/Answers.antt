@@ -7,7 +7,7 @@ use Rattle.gx_class.specs.Probes.{corners, are_between}
 use Rattle.gx_node.specs.Trees.{Pair, Node}
 use Rattle.gx_node.specs.Reading.{pair_of}
 use Rattle.gx_bench.specs.Scans.{boxes, is_live_hit}
-use Rattle.gx_bench.proofs.Counting.{one_more_block}
+use Rattle.gx_bench.proofs.scan.Counting.{one_more_block}
 use Rattle.gx_bench.proofs.scan.live_hits.Goals as goal
 
 pub live_in_block-hits-requires : goal.live_in_block-hits-requires

@@ -8,7 +8,7 @@ use Rattle.gx_node.specs.Trees.{Pair}
 use Rattle.gx_node.proofs.Blocks.{block_within}
 use Rattle.gx_node.proofs.Gathering.{hits_few}
 use Rattle.gx_node.proofs.Slots.{some_at}
-use Rattle.gx_bench.proofs.Counting.{one_more_slot, one_counted}
+use Rattle.gx_bench.proofs.scan.Counting.{one_more_slot, one_counted}
 use Rattle.gx_bench.proofs.scan.live_in_block.Goals as goal
 
 pub is_marked-requires : goal.is_marked-requires

@@ -1,4 +1,4 @@
-use Rattle.gx_class.proofs.Raised.{products}
+use Rattle.gx_class.proofs.box_penalty.LaneAreas.{products}
 use Rattle.gx_class.proofs.box_penalty.areas.Goals as goal
 
 pub returns : goal.returns

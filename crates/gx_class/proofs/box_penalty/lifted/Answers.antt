@@ -1,6 +1,6 @@
 use Rattle.std.proofs.Common.{refl}
 use Rattle.std.specs.Int.{w32}
-use Rattle.gx_class.proofs.Raised.{lifted_by}
+use Rattle.gx_class.proofs.box_penalty.LaneAreas.{lifted_by}
 use Rattle.gx_class.proofs.box_penalty.lifted.Goals as goal
 use borrow.Rule.Simd.Lanes.{act2}
 use borrow.Table.Row.{s_int}

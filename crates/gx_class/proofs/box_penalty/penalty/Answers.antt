@@ -2,7 +2,7 @@ use Rattle.std.proofs.Common.{◌≡◌, ◌∙◌, ◌+◌, ◌-◌, ◌%◌, a
 use Rattle.gx_geom.specs.Rectangles.{area, union}
 use Rattle.gx_geom.specs.BoxLaws.{union_is_box}
 use Rattle.gx_class.specs.Boxes.{corners_of}
-use Rattle.gx_class.proofs.Raised.{side_small, area_small, area_grows, difference_is}
+use Rattle.gx_class.proofs.box_penalty.LaneAreas.{side_small, area_small, area_grows, difference_is}
 use Rattle.gx_class.proofs.box_penalty.penalty.Goals as goal
 
 pub returns : goal.returns

@@ -1,4 +1,4 @@
-use Rattle.gx_class.proofs.Raised.{sides_are}
+use Rattle.gx_class.proofs.box_penalty.LaneAreas.{sides_are}
 use Rattle.gx_class.proofs.box_penalty.sides.Goals as goal
 
 pub returns : goal.returns

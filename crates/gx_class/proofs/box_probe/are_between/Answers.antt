@@ -1,4 +1,4 @@
-use Rattle.gx_class.proofs.Lanes.{lanes_tell}
+use Rattle.gx_class.proofs.box_probe.Lanes.{lanes_tell}
 use Rattle.gx_class.proofs.box_probe.are_between.Goals as goal
 
 pub returns : goal.returns

@@ -3,7 +3,7 @@ use Rattle.std.proofs.Common.{ℕ, ◌+◌, ap, sym, ◌∙◌, arith}
 use Rattle.std.specs.Prelude.{count_by}
 use Rattle.gx_geom.specs.Spans.{span_cmp}
 use Rattle.gx_class.specs.Halving.{comes_before}
-use Rattle.gx_class.proofs.Placed.{counted_one, counted_none, all_counted}
+use Rattle.gx_class.proofs.interval_class.Placed.{counted_one, counted_none, all_counted}
 use Rattle.gx_class.proofs.interval_class.place.Goals as goal
 use Rattle.gx_class.proofs.interval_class.place.Goals.{then-comes_before, else-comes_before}
 

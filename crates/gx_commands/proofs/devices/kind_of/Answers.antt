@@ -1,6 +1,6 @@
 use Rattle.std.proofs.Common.{Err, refl}
 use Rattle.std.proofs.lemmas.Result.{err_from_is_err_and}
-use Rattle.gx_commands.proofs.Classed.{found, none_found}
+use Rattle.gx_commands.proofs.devices.Classed.{found, none_found}
 use Rattle.gx_commands.proofs.devices.kind_of.Goals as goal
 
 pub returns-in_err-class : goal.returns-in_err-class

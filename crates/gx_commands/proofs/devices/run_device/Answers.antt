@@ -1,5 +1,5 @@
 use Rattle.std.proofs.Common.{inl, inr, refl}
-use Rattle.gx_commands.proofs.Classed.{plane_read, space_read}
+use Rattle.gx_commands.proofs.devices.Classed.{plane_read, space_read}
 use Rattle.gx_commands.proofs.devices.run_device.Goals as goal
 
 pub returns-in-Ok-Plane : goal.returns-in-Ok-Plane

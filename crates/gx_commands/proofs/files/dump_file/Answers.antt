@@ -1,6 +1,6 @@
 use Rattle.std.proofs.Common.{inr, refl}
 use Rattle.gx_commands.specs.Streams.{outputs_of}
-use Rattle.gx_commands.proofs.Used.{used}
+use Rattle.gx_commands.proofs.files.Used.{used}
 use Rattle.gx_commands.proofs.files.dump_file.Goals as goal
 
 pub returns-in-Ok : goal.returns-in-Ok

@@ -1,6 +1,6 @@
 use Rattle.std.proofs.Common.{inr, refl}
 use Rattle.gx_commands.specs.Streams.{outputs_of}
-use Rattle.gx_commands.proofs.Used.{room_for, used, used_for}
+use Rattle.gx_commands.proofs.files.Used.{room_for, used, used_for}
 use Rattle.gx_commands.proofs.files.format_file.Goals as goal
 
 pub returns-in-Ok : goal.returns-in-Ok

@@ -1,4 +1,4 @@
-use Rattle.gx_commands.proofs.Saying.{dump_says, run_says}
+use Rattle.gx_commands.proofs.laws.Saying.{dump_says, run_says}
 use Rattle.gx_commands.proofs.laws.a_command_leaves_what_a_device_says.Goals as goal
 
 pub returns-clause-run : goal.returns-clause-run

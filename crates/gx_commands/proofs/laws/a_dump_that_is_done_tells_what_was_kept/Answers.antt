@@ -1,4 +1,4 @@
-use Rattle.gx_commands.proofs.Dumped.{tells_kept}
+use Rattle.gx_commands.proofs.laws.Dumped.{tells_kept}
 use Rattle.gx_commands.proofs.laws.a_dump_that_is_done_tells_what_was_kept.Goals as goal
 
 pub returns : goal.returns

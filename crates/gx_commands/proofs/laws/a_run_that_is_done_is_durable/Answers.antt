@@ -1,4 +1,4 @@
-use Rattle.gx_commands.proofs.Durably.{ends_durably}
+use Rattle.gx_commands.proofs.laws.Durably.{ends_durably}
 use Rattle.gx_commands.proofs.laws.a_run_that_is_done_is_durable.Goals as goal
 
 pub returns : goal.returns

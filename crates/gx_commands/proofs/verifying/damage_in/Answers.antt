@@ -1,5 +1,5 @@
 use Rattle.std.proofs.Common.{refl}
-use Rattle.gx_commands.proofs.Shown.{found_in}
+use Rattle.gx_commands.proofs.verifying.Shown.{found_in}
 use Rattle.gx_commands.proofs.verifying.damage_in.Goals as goal
 
 pub returns-in-Some : goal.returns-in-Some

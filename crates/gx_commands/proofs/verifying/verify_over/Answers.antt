@@ -1,5 +1,5 @@
 use Rattle.std.proofs.Common.{Err, Ok}
-use Rattle.gx_commands.proofs.Shown.{shown_of, so_told}
+use Rattle.gx_commands.proofs.verifying.Shown.{shown_of, so_told}
 use Rattle.gx_commands.proofs.verifying.verify_over.Goals as goal
 
 pub returns-in-Ok : goal.returns-in-Ok

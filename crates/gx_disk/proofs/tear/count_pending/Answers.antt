@@ -1,6 +1,6 @@
 use Rattle.std.proofs.Common.{ℕ, ap, false, if◌then◌else◌, arith}
 use Rattle.gx_disk.specs.Memory.{pending_after}
-use Rattle.gx_disk.proofs.Tearing.{pending_below_none, pending_below_next}
+use Rattle.gx_disk.proofs.tear.Tearing.{pending_below_none, pending_below_next}
 use Rattle.gx_disk.proofs.tear.count_pending.Goals as goal
 
 pub loop-s-init : goal.loop-s-init

@@ -1,4 +1,4 @@
-use Rattle.gx_disk.proofs.Tearing.{pending_step, pending_all}
+use Rattle.gx_disk.proofs.tear.Tearing.{pending_step, pending_all}
 use Rattle.gx_disk.proofs.tear.is_pending.Goals as goal
 
 pub loop-call-preserved : goal.loop-call-preserved

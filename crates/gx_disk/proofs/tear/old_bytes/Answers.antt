@@ -2,7 +2,7 @@ use Rattle.std.proofs.Common.{◌∙◌, sym, ap, length, drop, arith}
 use Rattle.std.proofs.lemmas.List.{length-take-le, length-drop}
 use Rattle.gx_disk.specs.Sectors.{sector_of}
 use Rattle.gx_disk.specs.declared.memory.PastCall.TheVariants.{Write}
-use Rattle.gx_disk.proofs.Tearing.{front_room, front_found, front_within, front_fits, front_sized, front_same, walk_over}
+use Rattle.gx_disk.proofs.tear.Tearing.{front_room, front_found, front_within, front_fits, front_sized, front_same, walk_over}
 use Rattle.gx_disk.proofs.tear.old_bytes.Goals as goal
 
 pub kept_at-requires : goal.kept_at-requires

@@ -1,7 +1,7 @@
 use Rattle.std.proofs.Common.{◌≡◌, ◌∙◌, sym, inl, inr, refl, false, arith}
 use Rattle.std.proofs.lemmas.Bool.{cases_lt}
 use Rattle.gx_disk.specs.Memory.{pending_after}
-use Rattle.gx_disk.proofs.Tearing.{pending_below_none, pending_below_next}
+use Rattle.gx_disk.proofs.tear.Tearing.{pending_below_none, pending_below_next}
 use Rattle.gx_disk.proofs.tear.tear.Goals as goal
 
 pub loop-s-init : goal.loop-s-init

@@ -1,7 +1,7 @@
 use Rattle.std.proofs.Common.{ap, refl}
 use Rattle.std.proofs.lemmas.Result.{err_from_is_err_and}
 use Rattle.gx_durable.proofs.Apart.{batches_apart}
-use Rattle.gx_durable.proofs.Running.{step_runs}
+use Rattle.gx_durable.proofs.calls.Running.{step_runs}
 use Rattle.gx_durable.proofs.Stamping.{step_placed, told_at}
 use Rattle.gx_durable.proofs.calls.log_step.Goals as goal
 

@@ -1,6 +1,6 @@
 use Rattle.std.proofs.Common.{◌∙◌, ap}
 use Rattle.gx_durable.proofs.Nodes.{node_read}
-use Rattle.gx_durable.proofs.Sayings.{same_entry}
+use Rattle.gx_durable.proofs.class_laws.Sayings.{same_entry}
 use Rattle.gx_durable.proofs.class_laws.bytes_are_read.Goals as goal
 
 pub returns-clause-keys : goal.returns-clause-keys

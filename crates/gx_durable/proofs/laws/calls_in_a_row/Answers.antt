@@ -1,4 +1,4 @@
-use Rattle.gx_durable.proofs.Joining.{calls_join, each_moment}
+use Rattle.gx_durable.proofs.laws.Joining.{calls_join, each_moment}
 use Rattle.gx_durable.proofs.laws.calls_in_a_row.Goals as goal
 
 pub returns-clause-join : goal.returns-clause-join

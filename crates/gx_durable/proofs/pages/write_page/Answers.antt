@@ -1,7 +1,7 @@
 use Rattle.std.proofs.Common.{ap}
 use Rattle.gx_pool.specs.Marks.{is_gated}
 use Rattle.gx_pool.specs.State.{stamp_of}
-use Rattle.gx_durable.proofs.Paging.{page_runs}
+use Rattle.gx_durable.proofs.pages.Paging.{page_runs}
 use Rattle.gx_durable.proofs.pages.write_page.Goals as goal
 
 pub returns-clause-runs : goal.returns-clause-runs

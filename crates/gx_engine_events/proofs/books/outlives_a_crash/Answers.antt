@@ -1,4 +1,4 @@
-use Rattle.gx_engine_events.proofs.Acknowledged.{all_covered}
+use Rattle.gx_engine_events.proofs.books.Acknowledged.{all_covered}
 use Rattle.gx_engine_events.proofs.books.outlives_a_crash.Goals as goal
 
 pub returns : goal.returns

@@ -1,4 +1,4 @@
-use Rattle.gx_engine_events.proofs.Holds.{event_leaves, hold_leaves}
+use Rattle.gx_engine_events.proofs.laws.Holds.{event_leaves, hold_leaves}
 use Rattle.gx_engine_events.proofs.laws.a_hold_leaves_sets_of_the_machine.Goals as goal
 
 pub returns-clause-event : goal.returns-clause-event

@@ -4,7 +4,7 @@ use Rattle.gx_events.specs.Engines.{opened_machine}
 use Rattle.gx_events.specs.Worked.{sought, first_engine, last_engine, worked_events}
 use Rattle.gx_events.proofs.EventRuns.{run_follows}
 use Rattle.gx_events.proofs.Views.{opened_sound, opened_seen}
-use Rattle.gx_events.proofs.WorkedEvents.{lawful, worked}
+use Rattle.gx_events.proofs.engine_laws.WorkedEvents.{lawful, worked}
 use Rattle.gx_events.proofs.engine_laws.an_interleaving_worked_out.Goals as goal
 
 pub returns-clause-lawful : goal.returns-clause-lawful

@@ -1,5 +1,5 @@
 use Rattle.gx_events.proofs.Apart.{event_leaves}
-use Rattle.gx_events.proofs.Meanwhile.{events_leave, match_stays}
+use Rattle.gx_events.proofs.engine_laws.Meanwhile.{events_leave, match_stays}
 use Rattle.gx_events.proofs.engine_laws.events_of_others_leave_a_session.Goals as goal
 
 pub returns-clause-one : goal.returns-clause-one

@@ -1,6 +1,6 @@
 use Rattle.std.proofs.Common.{refl, arith}
 use Rattle.gx_format.specs.Fresh.{fresh_root}
-use Rattle.gx_format.proofs.Refusing.{run_formats, on_ok, of_class}
+use Rattle.gx_format.proofs.fresh.Refusing.{run_formats, on_ok, of_class}
 use Rattle.gx_format.proofs.fresh.format.Goals as goal
 
 pub returns-clause-formats : goal.returns-clause-formats

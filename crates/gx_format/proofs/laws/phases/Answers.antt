@@ -1,4 +1,4 @@
-use Rattle.gx_format.proofs.Phases.{clearing_leaves, laying_leaves, naming_leaves, formatting_leaves}
+use Rattle.gx_format.proofs.laws.LayingPhases.{clearing_leaves, laying_leaves, naming_leaves, formatting_leaves}
 use Rattle.gx_format.proofs.laws.phases.Goals as goal
 
 pub returns : goal.returns

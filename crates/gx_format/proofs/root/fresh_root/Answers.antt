@@ -1,7 +1,7 @@
 use Rattle.std.proofs.Common.{◌∙◌, ap, refl, subst, arith}
 use Rattle.gx_page.specs.Contents.{Contents}
 use Rattle.gx_page.specs.Format.{IsWellFormed}
-use Rattle.gx_format.proofs.Roots.{root_is}
+use Rattle.gx_format.proofs.root.Roots.{root_is}
 use Rattle.gx_format.proofs.root.fresh_root.Goals as goal
 
 pub append-requires-clause-inner : goal.append-requires-clause-inner

@@ -3,8 +3,8 @@ use Rattle.std.specs.Prelude.{Ok}
 use Rattle.gx_found_log.specs.Found.{PlaceRead}
 use Rattle.gx_recovery.specs.declared.rule.LogRule.TheVariants.{FirstGate}
 use Rattle.gx_found_log.specs.Faults.{refusal_of, refusing}
-use Rattle.gx_found_log.proofs.Extents.{extent_ended, extent_refused}
-use Rattle.gx_found_log.proofs.Shown.{refused_ok, refused_err, gate_shown, place_shows}
+use Rattle.gx_found_log.proofs.found.Extents.{extent_ended, extent_refused}
+use Rattle.gx_found_log.proofs.found.Shown.{refused_ok, refused_err, gate_shown, place_shows}
 use Rattle.gx_found_log.proofs.found.on_extent.Goals as goal
 
 pub returns-in-Ok-false-clause-extent : goal.returns-in-Ok-false-clause-extent

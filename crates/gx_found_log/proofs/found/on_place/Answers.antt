@@ -1,8 +1,8 @@
 use Rattle.std.proofs.Common.{refl}
 use Rattle.gx_geom.specs.declared.refusal.Refusal.TheVariants.{Damaged}
 use Rattle.gx_found_log.specs.Faults.{refusal_of}
-use Rattle.gx_found_log.proofs.Shown.{two_ways, reads_alone, place_unread, missized_shown, misfit_shown}
-use Rattle.gx_found_log.proofs.Extents.{is_some_read, place_read, place_refused}
+use Rattle.gx_found_log.proofs.found.Shown.{two_ways, reads_alone, place_unread, missized_shown, misfit_shown}
+use Rattle.gx_found_log.proofs.found.Extents.{is_some_read, place_read, place_refused}
 use Rattle.gx_found_log.proofs.found.on_place.Goals as goal
 
 pub returns-in-Ok-clause-place : goal.returns-in-Ok-clause-place

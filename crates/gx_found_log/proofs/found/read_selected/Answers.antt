@@ -1,8 +1,8 @@
 use Rattle.std.proofs.Common.{◌∙◌}
 use Rattle.gx_disk.proofs.Looking.{looks_joined}
 use Rattle.gx_found_log.specs.Faults.{refusal_of}
-use Rattle.gx_found_log.proofs.Extents.{found_whole, not_found}
-use Rattle.gx_found_log.proofs.Shown.{log_shows}
+use Rattle.gx_found_log.proofs.found.Extents.{found_whole, not_found}
+use Rattle.gx_found_log.proofs.found.Shown.{log_shows}
 use Rattle.gx_found_log.proofs.found.read_selected.Goals as goal
 
 pub returns-in-Ok-on_extent-clause-log : goal.returns-in-Ok-on_extent-clause-log

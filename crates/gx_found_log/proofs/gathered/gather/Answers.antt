@@ -4,7 +4,7 @@ use Rattle.gx_record.specs.Seen.{rec_of}
 use Rattle.gx_recovery.specs.Kept.{Kept}
 use Rattle.gx_found_log.specs.Told.{RecordTold}
 use Rattle.gx_found_log.proofs.Broken.{page_breaks}
-use Rattle.gx_found_log.proofs.Gathering.{record_gathered}
+use Rattle.gx_found_log.proofs.gathered.Gathering.{record_gathered}
 use Rattle.gx_found_log.proofs.gathered.gather.Goals as goal
 
 pub returns-clause-told : goal.returns-clause-told

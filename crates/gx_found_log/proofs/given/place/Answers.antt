@@ -1,5 +1,5 @@
 use Rattle.std.proofs.Common.{◌∙◌, sym}
-use Rattle.gx_found_log.proofs.Placing.{stands_at, image_at}
+use Rattle.gx_found_log.proofs.given.Placing.{stands_at, image_at}
 use Rattle.gx_found_log.proofs.given.place.Goals as goal
 
 pub returns-then-page-clause-place : goal.returns-then-page-clause-place

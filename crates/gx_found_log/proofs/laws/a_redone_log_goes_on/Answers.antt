@@ -1,4 +1,4 @@
-use Rattle.gx_found_log.proofs.GoingOn.{redone_goes_on}
+use Rattle.gx_found_log.proofs.laws.GoingOn.{redone_goes_on}
 use Rattle.gx_found_log.proofs.laws.a_redone_log_goes_on.Goals as goal
 
 pub returns : goal.returns

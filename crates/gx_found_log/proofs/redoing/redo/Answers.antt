@@ -1,4 +1,4 @@
-use Rattle.gx_found_log.proofs.Redone.{redone_so}
+use Rattle.gx_found_log.proofs.redoing.Redone.{redone_so}
 use Rattle.gx_found_log.proofs.redoing.redo.Goals as goal
 
 pub returns-clause-redoes : goal.returns-clause-redoes

@@ -2,7 +2,7 @@ use Rattle.std.proofs.Common.{◌≡◌, ◌∙◌, ap, inl, map, rules}
 use Rattle.clap.specs.Words.{fault_of, kind_of}
 use Rattle.clap.specs.declared.error.kind.ErrorKind.TheVariants.{OutOfMemory}
 use Rattle.gx_words.specs.Program.{gist_app}
-use Rattle.gx_front.proofs.Wrong.{no_memory_fault, some_fault}
+use Rattle.gx_front.proofs.program.Wrong.{no_memory_fault, some_fault}
 use Rattle.gx_front.proofs.program.before_threads.Goals as goal
 
 pub returns-in-Err-2-clause-ended : goal.returns-in-Err-2-clause-ended

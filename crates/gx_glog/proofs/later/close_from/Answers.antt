@@ -1,6 +1,6 @@
 use Rattle.std.proofs.Common.{◌+◌, ◌*◌, arith}
 use Rattle.std.proofs.lemmas.Result.{err_from_is_err_and}
-use Rattle.gx_glog.proofs.Closing.{closes_made, closes_failed}
+use Rattle.gx_glog.proofs.later.Closing.{closes_made, closes_failed}
 use Rattle.gx_glog.proofs.later.close_from.Goals as goal
 
 pub returns-clause-call : goal.returns-clause-call

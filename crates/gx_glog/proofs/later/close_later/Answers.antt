@@ -1,6 +1,6 @@
 use Rattle.std.proofs.Common.{◌∙◌}
 use Rattle.std.proofs.lemmas.Result.{err_from_is_err_and}
-use Rattle.gx_glog.proofs.Closing.{write_fails, synced_closes}
+use Rattle.gx_glog.proofs.later.Closing.{write_fails, synced_closes}
 use Rattle.gx_glog.proofs.later.close_later.Goals as goal
 
 pub returns-in_err-close_from-clause-closes : goal.returns-in_err-close_from-clause-closes

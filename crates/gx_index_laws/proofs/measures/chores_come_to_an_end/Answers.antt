@@ -1,4 +1,4 @@
-use Rattle.gx_index_laws.proofs.Chores.{upkeep_below, chore_falls}
+use Rattle.gx_index_laws.proofs.measures.Chores.{upkeep_below, chore_falls}
 use Rattle.gx_index_laws.proofs.measures.chores_come_to_an_end.Goals as goal
 
 pub returns-clause-most : goal.returns-clause-most

@@ -1,4 +1,4 @@
-use Rattle.gx_index_laws.proofs.Unfreed.{unfreed}
+use Rattle.gx_index_laws.proofs.measures.Unfreed.{unfreed}
 use Rattle.gx_index_laws.proofs.measures.what_frees_no_claim_leaves_no_more.Goals as goal
 
 pub returns : goal.returns

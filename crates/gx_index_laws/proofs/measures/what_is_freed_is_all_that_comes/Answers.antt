@@ -1,4 +1,4 @@
-use Rattle.gx_index_laws.proofs.Freed.{commit_frees, end_frees}
+use Rattle.gx_index_laws.proofs.measures.Freed.{commit_frees, end_frees}
 use Rattle.gx_index_laws.proofs.measures.what_is_freed_is_all_that_comes.Goals as goal
 
 pub returns-clause-commits : goal.returns-clause-commits

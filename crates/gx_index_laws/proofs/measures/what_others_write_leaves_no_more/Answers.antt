@@ -1,4 +1,4 @@
-use Rattle.gx_index_laws.proofs.Others.{others_add, others_mark, others_undo}
+use Rattle.gx_index_laws.proofs.measures.Others.{others_add, others_mark, others_undo}
 use Rattle.gx_index_laws.proofs.measures.what_others_write_leaves_no_more.Goals as goal
 
 pub returns-clause-adds : goal.returns-clause-adds

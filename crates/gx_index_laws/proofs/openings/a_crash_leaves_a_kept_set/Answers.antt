@@ -1,4 +1,4 @@
-use Rattle.gx_index_laws.proofs.Images.{image_stands, acknowledged_is_left}
+use Rattle.gx_index_laws.proofs.openings.Images.{image_stands, acknowledged_is_left}
 use Rattle.gx_index_laws.proofs.openings.a_crash_leaves_a_kept_set.Goals as goal
 
 pub returns-clause-kept : goal.returns-clause-kept

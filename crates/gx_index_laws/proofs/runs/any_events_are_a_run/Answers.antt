@@ -1,4 +1,4 @@
-use Rattle.gx_index_laws.proofs.Joins.{happening_runs, whole_after, fresh_runs}
+use Rattle.gx_index_laws.proofs.runs.Joins.{happening_runs, whole_after, fresh_runs}
 use Rattle.gx_index_laws.proofs.runs.any_events_are_a_run.Goals as goal
 
 pub returns-clause-runs : goal.returns-clause-runs

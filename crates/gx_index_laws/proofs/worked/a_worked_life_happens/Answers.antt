@@ -1,4 +1,4 @@
-use Rattle.gx_index_laws.proofs.WorkedLife.{numbers_lawful, worked_life, last_whole}
+use Rattle.gx_index_laws.proofs.worked.WorkedLife.{numbers_lawful, worked_life, last_whole}
 use Rattle.gx_index_laws.proofs.worked.a_worked_life_happens.Goals as goal
 
 pub returns-clause-lawful : goal.returns-clause-lawful

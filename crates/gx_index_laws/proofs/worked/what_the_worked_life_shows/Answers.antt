@@ -1,6 +1,6 @@
 use Rattle.std.proofs.Common.{refl}
 use Rattle.gx_index_laws.specs.Classes.{is_live}
-use Rattle.gx_index_laws.proofs.WorkedLife.{splits, is_left, restarts, goes}
+use Rattle.gx_index_laws.proofs.worked.WorkedLife.{splits, is_left, restarts, goes}
 use Rattle.gx_index_laws.proofs.worked.what_the_worked_life_shows.Goals as goal
 
 pub returns-clause-searches : goal.returns-clause-searches

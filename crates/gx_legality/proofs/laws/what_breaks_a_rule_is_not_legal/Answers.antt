@@ -1,4 +1,4 @@
-use Rattle.gx_legality.proofs.Denied.{denied}
+use Rattle.gx_legality.proofs.laws.Denied.{denied}
 use Rattle.gx_legality.proofs.laws.what_breaks_a_rule_is_not_legal.Goals as goal
 
 pub returns : goal.returns

@@ -3,7 +3,7 @@ use Rattle.gx_machine.specs.Keys.{entry_cmp}
 use Rattle.gx_node.specs.Edits.{entry_of}
 use Rattle.gx_node.specs.Reading.{format_of}
 use Rattle.gx_node.specs.Store.{node_of}
-use Rattle.gx_legality.proofs.Taken.{page_goes, page_ends, none_past}
+use Rattle.gx_legality.proofs.leaves.Taken.{page_goes, page_ends, none_past}
 use Rattle.gx_legality.proofs.leaves.gather_page.Goals as goal
 
 pub returns-in_default-clause-gathers : goal.returns-in_default-clause-gathers

@@ -5,7 +5,7 @@ use Rattle.gx_node.specs.Reading.{format_of}
 use Rattle.gx_node.specs.Store.{node_of}
 use Rattle.gx_legality.specs.Placing.{is_noted, met, stage_at}
 use Rattle.gx_legality.proofs.Sought.{met_more, met_all}
-use Rattle.gx_legality.proofs.Taken.{none_past}
+use Rattle.gx_legality.proofs.leaves.Taken.{none_past}
 use Rattle.gx_legality.proofs.leaves.meet_page.Goals as goal
 
 pub returns-in_default : goal.returns-in_default

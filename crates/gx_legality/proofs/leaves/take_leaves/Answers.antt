@@ -10,7 +10,7 @@ use Rattle.gx_legality.specs.Gathered.{Gathers}
 use Rattle.gx_legality.specs.Placing.{come_to, is_noted, met, passed, stage_at}
 use Rattle.gx_legality.proofs.Children.{reads_same, reads_more}
 use Rattle.gx_legality.proofs.Sought.{passed_page, passed_end, passed_done, chain_on}
-use Rattle.gx_legality.proofs.Taken.{chain_goes, chain_ends, chain_is_done}
+use Rattle.gx_legality.proofs.leaves.Taken.{chain_goes, chain_ends, chain_is_done}
 use Rattle.gx_legality.proofs.leaves.take_leaves.Goals as goal
 
 pub returns-then-page-eq0-clause-gathers : goal.returns-then-page-eq0-clause-gathers

@@ -4,7 +4,7 @@ use Rattle.std.proofs.lemmas.Result.{err_from_is_err_and}
 use Rattle.gx_node.specs.Reading.{format_of}
 use Rattle.gx_node.specs.Trees.{Child, child_pages}
 use Rattle.gx_node.specs.Store.{node_of}
-use Rattle.gx_legality.proofs.Naming.{page_at, is_named, marks_go, marks_twice}
+use Rattle.gx_legality.proofs.named.Naming.{page_at, is_named, marks_go, marks_twice}
 use Rattle.gx_legality.proofs.named.mark_children.Goals as goal
 
 pub returns-in_err-mark-clause-refused : goal.returns-in_err-mark-clause-refused

@@ -1,7 +1,7 @@
 use Rattle.std.proofs.Common.{◌≡◌, ◌≢◌, ◌-◌, ◌≤◌, Some, length, arith, rules}
 use Rattle.std.specs.Prelude.{slice_get}
 use Rattle.std.specs.declared.cmp.Ordering.TheVariants.{Less}
-use Rattle.gx_legality.proofs.Noted.{note_at, noted_less, rises_more, all_rise}
+use Rattle.gx_legality.proofs.notes.Noted.{note_at, noted_less, rises_more, all_rise}
 use Rattle.gx_legality.proofs.notes.are_in_order.Goals as goal
 
 pub returns-then-ne : goal.returns-then-ne

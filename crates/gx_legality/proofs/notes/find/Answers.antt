@@ -1,7 +1,7 @@
 use Rattle.std.proofs.Common.{◌≡◌, ◌<◌, ◌+◌, ◌-◌, ◌/◌, Some, length, arith, rules}
 use Rattle.std.specs.Prelude.{slice_get}
 use Rattle.std.specs.declared.cmp.Ordering.TheVariants.{Less, Equal, Greater}
-use Rattle.gx_legality.proofs.Noted.{note_at, before_middle, after_middle, only_noted}
+use Rattle.gx_legality.proofs.notes.Noted.{note_at, before_middle, after_middle, only_noted}
 use Rattle.gx_legality.proofs.notes.find.Goals as goal
 
 pub loop-low-preserved-in-Less : goal.loop-low-preserved-in-Less

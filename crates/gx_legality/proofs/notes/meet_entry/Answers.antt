@@ -1,6 +1,6 @@
 use Rattle.std.proofs.Common.{◌<◌, length, arith, rules}
 use Rattle.gx_legality.specs.Placing.{stage_at}
-use Rattle.gx_legality.proofs.Noted.{meets_one}
+use Rattle.gx_legality.proofs.notes.Noted.{meets_one}
 use Rattle.gx_legality.proofs.notes.meet_entry.Goals as goal
 
 pub returns-in-Some : goal.returns-in-Some

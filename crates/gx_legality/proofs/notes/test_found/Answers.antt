@@ -2,7 +2,7 @@ use Rattle.std.proofs.Common.{◌≡◌, Some, ap, arith, rules}
 use Rattle.std.specs.Prelude.{slice_get}
 use Rattle.std.proofs.lemmas.Option.{slice_get_within}
 use Rattle.gx_legality.specs.declared.notes.NotedPair.{NotedPair}
-use Rattle.gx_legality.proofs.Noted.{note_at}
+use Rattle.gx_legality.proofs.notes.Noted.{note_at}
 use Rattle.gx_legality.proofs.notes.test_found.Goals as goal
 
 pub returns-then-not-is_found-clause-refused : goal.returns-then-not-is_found-clause-refused

@@ -1,4 +1,4 @@
-use Rattle.gx_lives.proofs.OverDevices.{new_by}
+use Rattle.gx_lives.proofs.commands.OverDevices.{new_by}
 use Rattle.gx_lives.proofs.commands.a_format_begins_a_life.Goals as goal
 
 pub returns : goal.returns

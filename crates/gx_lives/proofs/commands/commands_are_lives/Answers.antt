@@ -1,6 +1,6 @@
 use Rattle.std.proofs.Common.{◌≤◌, arith}
 use Rattle.gx_disk.specs.declared.layout.TheConstants.{MIN_SECTORS}
-use Rattle.gx_lives.proofs.OverDevices.{given}
+use Rattle.gx_lives.proofs.commands.OverDevices.{given}
 use Rattle.gx_lives.proofs.commands.commands_are_lives.Goals as goal
 
 pub returns : goal.returns

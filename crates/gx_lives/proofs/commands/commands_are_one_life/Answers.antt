@@ -1,7 +1,7 @@
 use Rattle.std.proofs.Common.{refl, []}
 use Rattle.gx_opening.specs.Formatted.{IsAllowed}
 use Rattle.gx_lives.specs.Lives.{Lies}
-use Rattle.gx_lives.proofs.OverDevices.{all_given}
+use Rattle.gx_lives.proofs.commands.OverDevices.{all_given}
 use Rattle.gx_lives.proofs.commands.commands_are_one_life.Goals as goal
 
 pub returns : goal.returns

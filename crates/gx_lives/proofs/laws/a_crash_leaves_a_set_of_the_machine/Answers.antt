@@ -1,8 +1,8 @@
 use Rattle.std.proofs.Common.{◌<◌, subst}
 use Rattle.std.specs.Prelude.{◌^◌}
 use Rattle.gx_opening.specs.Standing.{limits_of}
-use Rattle.gx_lives.proofs.Fitting.{fit_of}
-use Rattle.gx_lives.proofs.Lived.{left_of_stage}
+use Rattle.gx_lives.proofs.laws.Fitting.{fit_of}
+use Rattle.gx_lives.proofs.laws.Lived.{left_of_stage}
 use Rattle.gx_lives.proofs.laws.a_crash_leaves_a_set_of_the_machine.Goals as goal
 
 pub returns : goal.returns

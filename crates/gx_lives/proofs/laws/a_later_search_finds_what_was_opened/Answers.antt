@@ -6,7 +6,7 @@ use Rattle.gx_machine.specs.Runs.{IsRun, Step}
 use Rattle.gx_opening.specs.Formatted.{IsAllowed}
 use Rattle.gx_lives.specs.Lives.{Lies, Works}
 use Rattle.gx_lives.specs.Lives as life
-use Rattle.gx_lives.proofs.Later.{finds_opened, one_opening}
+use Rattle.gx_lives.proofs.laws.Later.{finds_opened, one_opening}
 use Rattle.gx_lives.proofs.laws.a_later_search_finds_what_was_opened.Goals as goal
 
 pub returns : goal.returns

@@ -1,6 +1,6 @@
 use Rattle.std.proofs.Common.{refl}
 use Rattle.gx_machine.specs.Machine.{fresh_machine}
-use Rattle.gx_lives.proofs.Serially.{finds_exactly}
+use Rattle.gx_lives.proofs.laws.Serially.{finds_exactly}
 use Rattle.gx_lives.proofs.laws.a_run_from_nothing_is_serial.Goals as goal
 
 pub returns-clause-serial : goal.returns-clause-serial

@@ -1,4 +1,4 @@
-use Rattle.gx_lives.proofs.Told.{opened_later}
+use Rattle.gx_lives.proofs.laws.Told.{opened_later}
 use Rattle.gx_lives.proofs.laws.acknowledged_commits_are_opened.Goals as goal
 
 pub returns : goal.returns

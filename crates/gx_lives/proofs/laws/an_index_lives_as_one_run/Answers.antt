@@ -7,8 +7,8 @@ use Rattle.gx_machine.specs.Machine.{fresh_machine}
 use Rattle.gx_opening.specs.Formatted.{IsAllowed}
 use Rattle.gx_lives.specs.Lives.{Lies}
 use Rattle.gx_lives.proofs.Beginning.{begins}
-use Rattle.gx_lives.proofs.OneRun.{lies_so}
-use Rattle.gx_lives.proofs.Told.{covered}
+use Rattle.gx_lives.proofs.laws.OneRun.{lies_so}
+use Rattle.gx_lives.proofs.laws.Told.{covered}
 use Rattle.gx_lives.proofs.laws.an_index_lives_as_one_run.Goals as goal
 
 pub returns : goal.returns

@@ -1,7 +1,7 @@
 use Rattle.std.proofs.Common.{◌≡◌, ◌<◌, subst}
 use Rattle.std.specs.Prelude.{◌^◌}
 use Rattle.gx_opening.specs.Standing.{limits_of}
-use Rattle.gx_lives.proofs.Fitting.{fit_of}
+use Rattle.gx_lives.proofs.laws.Fitting.{fit_of}
 use Rattle.gx_lives.proofs.Undamaged.{formatted_so, only_fails}
 use Rattle.gx_lives.proofs.laws.an_opening_finds_no_damage.Goals as goal
 

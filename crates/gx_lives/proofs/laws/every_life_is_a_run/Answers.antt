@@ -1,4 +1,4 @@
-use Rattle.gx_lives.proofs.Told.{told}
+use Rattle.gx_lives.proofs.laws.Told.{told}
 use Rattle.gx_lives.proofs.laws.every_life_is_a_run.Goals as goal
 
 pub returns : goal.returns

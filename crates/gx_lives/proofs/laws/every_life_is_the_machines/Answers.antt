@@ -1,8 +1,8 @@
 use Rattle.std.proofs.Common.{◌<◌, subst}
 use Rattle.std.specs.Prelude.{◌^◌}
 use Rattle.gx_opening.specs.Standing.{limits_of}
-use Rattle.gx_lives.proofs.Fitting.{fit_of}
-use Rattle.gx_lives.proofs.Lived.{lived}
+use Rattle.gx_lives.proofs.laws.Fitting.{fit_of}
+use Rattle.gx_lives.proofs.laws.Lived.{lived}
 use Rattle.gx_lives.proofs.laws.every_life_is_the_machines.Goals as goal
 
 pub returns : goal.returns

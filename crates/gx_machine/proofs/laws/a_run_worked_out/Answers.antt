@@ -1,7 +1,7 @@
 use Rattle.std.proofs.lemmas.List.Elements.{All-nil}
 use Rattle.gx_machine.specs.Sets.{InOrder}
 use Rattle.gx_machine.specs.Worked.{number_keys}
-use Rattle.gx_machine.proofs.WorkedRun.{numbers_are_lawful, worked, worked_insert}
+use Rattle.gx_machine.proofs.laws.WorkedRun.{numbers_are_lawful, worked, worked_insert}
 use Rattle.gx_machine.proofs.laws.a_run_worked_out.Goals as goal
 
 pub returns-clause-run : goal.returns-clause-run

@@ -1,4 +1,4 @@
-use Rattle.gx_machine.proofs.AloneRuns.{committed_alone}
+use Rattle.gx_machine.proofs.laws.AloneRuns.{committed_alone}
 use Rattle.gx_machine.proofs.laws.committed_transactions_run_alone.Goals as goal
 
 pub returns : goal.returns

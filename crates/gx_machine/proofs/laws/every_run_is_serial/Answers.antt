@@ -1,4 +1,4 @@
-use Rattle.gx_machine.proofs.SerialRuns.{serial}
+use Rattle.gx_machine.proofs.laws.SerialRuns.{serial}
 use Rattle.gx_machine.proofs.laws.every_run_is_serial.Goals as goal
 
 pub returns : goal.returns

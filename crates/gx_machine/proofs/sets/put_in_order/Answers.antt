@@ -1,7 +1,7 @@
 use Rattle.std.specs.Cmp.{both_tied, unsigned_ties}
 use Rattle.std.proofs.lemmas.List.Filters.{dedup_is}
 use Rattle.gx_machine.specs.Keys.{keys}
-use Rattle.gx_machine.proofs.Sorting.{sorted_set}
+use Rattle.gx_machine.proofs.sets.Sorting.{sorted_set}
 use Rattle.gx_machine.proofs.sets.put_in_order.Goals as goal
 
 pub returns-clause-items : goal.returns-clause-items

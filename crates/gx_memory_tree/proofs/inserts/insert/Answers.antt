@@ -8,7 +8,7 @@ use Rattle.gx_node.specs.Trees.{Rules, IsLawful, is_entry, standing}
 use Rattle.gx_memory_tree.specs.declared.inserts.DescentPlace.{DescentPlace}
 use Rattle.gx_memory_tree.specs.Inserting.{GoesOn, HasAdded, IsInsert, MakesWay}
 use Rattle.gx_node.specs.Store.{Store, tree_of}
-use Rattle.gx_memory_tree.proofs.Steps.{added_after, begins, live_after, no_way, once_after, way_on}
+use Rattle.gx_memory_tree.proofs.inserts.Steps.{added_after, begins, live_after, no_way, once_after, way_on}
 use Rattle.gx_memory_tree.proofs.inserts.insert.Goals as goal
 
 pub steps-init : goal.steps-init

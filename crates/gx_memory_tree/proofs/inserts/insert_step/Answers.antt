@@ -9,8 +9,8 @@ use Rattle.gx_tree.specs.Descending.{StepsDown}
 use Rattle.gx_memory_tree.specs.Inserting.{GoesOn, IsFullAt, MakesRoom, SplitsOrNot, from_top}
 use Rattle.gx_node.specs.Store.{Store, node_at, tree_of}
 use Rattle.gx_tree.specs.Writing.{Appends}
-use Rattle.gx_memory_tree.proofs.Down.{down_on, widened_on}
-use Rattle.gx_memory_tree.proofs.Steps.{begins_again, full_at, has_added, room_on, split_or_not, split_since}
+use Rattle.gx_memory_tree.proofs.inserts.Down.{down_on, widened_on}
+use Rattle.gx_memory_tree.proofs.inserts.Steps.{begins_again, full_at, has_added, room_on, split_or_not, split_since}
 use Rattle.gx_tree.proofs.Searched.{same_err}
 use Rattle.gx_memory_tree.proofs.inserts.insert_step.Goals as goal
 

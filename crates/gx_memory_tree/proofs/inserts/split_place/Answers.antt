@@ -4,7 +4,7 @@ use Rattle.std.specs.Ordering.{is_eq}
 use Rattle.gx_node.specs.Trees.{Rules}
 use Rattle.gx_node.specs.declared.fault.SplitFault.TheVariants.{Step}
 use Rattle.gx_node.specs.declared.fault.StepFault.TheVariants.{Damaged}
-use Rattle.gx_memory_tree.proofs.Splits.{never_damaged_below, splits_below}
+use Rattle.gx_memory_tree.proofs.inserts.Splits.{never_damaged_below, splits_below}
 use Rattle.gx_tree.proofs.Searched.{same_err}
 use Rattle.gx_memory_tree.proofs.inserts.split_place.Goals as goal
 

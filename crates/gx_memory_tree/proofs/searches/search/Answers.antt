@@ -13,7 +13,7 @@ use Rattle.gx_tree.specs.Found.{pairs_found}
 use Rattle.gx_tree.specs.Looking.{LookStep}
 use Rattle.gx_node.specs.Store.{tree_of}
 use Rattle.gx_tree.specs.Wants.{wants}
-use Rattle.gx_memory_tree.proofs.Asked.{reads_begin, reads_more, reads_fail}
+use Rattle.gx_memory_tree.proofs.searches.Asked.{reads_begin, reads_more, reads_fail}
 use Rattle.gx_node.proofs.Listed.{same_store}
 use Rattle.gx_tree.proofs.Searched.{all_found, leads_to, same_err}
 use Rattle.gx_tree.proofs.Turned.{goes_on, falls, next_is_used, last_of, reads_less, lies_ahead}

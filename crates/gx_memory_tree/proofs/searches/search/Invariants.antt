@@ -5,7 +5,7 @@ use Rattle.gx_tree.specs.Found.{pairs_found}
 use Rattle.gx_node.specs.Owner.{KeepsSince, IsWhyLater}
 use Rattle.gx_node.specs.Store.{tree_of}
 use Rattle.gx_tree.specs.Wants.{wants}
-use Rattle.gx_memory_tree.proofs.Asked.{ReadsOn}
+use Rattle.gx_memory_tree.proofs.searches.Asked.{ReadsOn}
 use Rattle.gx_memory_tree.proofs.searches.search.Given as goal
 
 abbrev pub invariant-pages : goal.invariant-pages

@@ -1,4 +1,4 @@
-use Rattle.gx_node.proofs.Keys.{read_is}
+use Rattle.gx_node.proofs.entry.Keys.{read_is}
 use Rattle.gx_node.proofs.entry.read_key.Goals as goal
 
 pub returns : goal.returns

@@ -1,4 +1,4 @@
-use Rattle.gx_node.proofs.Gathered.{gathers_by_hits}
+use Rattle.gx_node.proofs.laws.Gathered.{gathers_by_hits}
 use Rattle.gx_node.proofs.laws.hits.Goals as goal
 
 pub returns : goal.returns

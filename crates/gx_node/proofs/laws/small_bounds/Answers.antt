@@ -1,6 +1,6 @@
 use Rattle.gx_node.specs.Reading.{format_of}
 use Rattle.gx_node.proofs.Parts.{IsLawful}
-use Rattle.gx_node.proofs.SmallNodes.{bound_means}
+use Rattle.gx_node.proofs.laws.SmallNodes.{bound_means}
 use Rattle.gx_node.proofs.laws.small_bounds.Goals as goal
 
 pub returns : goal.returns

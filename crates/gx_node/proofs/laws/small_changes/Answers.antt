@@ -1,6 +1,6 @@
 use Rattle.gx_node.specs.Reading.{format_of}
 use Rattle.gx_node.proofs.Parts.{IsLawful}
-use Rattle.gx_node.proofs.SmallKeeps.{changes_keep}
+use Rattle.gx_node.proofs.laws.SmallKeeps.{changes_keep}
 use Rattle.gx_node.proofs.laws.small_changes.Goals as goal
 
 pub returns : goal.returns

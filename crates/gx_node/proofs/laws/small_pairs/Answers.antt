@@ -3,7 +3,7 @@ use Rattle.std.specs.Cmp.{tied_itself, Equal-is}
 use Rattle.std.specs.Ordering.{is_eq}
 use Rattle.gx_node.specs.Reading.{format_of}
 use Rattle.gx_node.proofs.Parts.{IsLawful}
-use Rattle.gx_node.proofs.SmallNodes.{pair_means}
+use Rattle.gx_node.proofs.laws.SmallNodes.{pair_means}
 use Rattle.gx_node.proofs.laws.small_pairs.Goals as goal
 
 pub returns : goal.returns

@@ -1,7 +1,7 @@
 use Rattle.std.proofs.Common.{◌∙◌, ◌-◌, ◌*◌, ap, refl, arith, [], length, take}
 use Rattle.gx_node.specs.Reading.{format_of}
 use Rattle.gx_node.proofs.Heaps.{cut_at}
-use Rattle.gx_node.proofs.Scanning.{all_of_length}
+use Rattle.gx_node.proofs.scan.Scanning.{all_of_length}
 use Rattle.gx_node.proofs.scan.item_in.Goals as goal
 
 pub overflow_mul-slot : goal.overflow_mul-slot

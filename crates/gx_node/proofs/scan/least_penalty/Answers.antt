@@ -1,8 +1,8 @@
 use Rattle.std.proofs.Common.{◌∙◌, ◌<◌, ap, sym, arith, [], length}
 use Rattle.gx_node.specs.Reading.{format_of, has_key, key_of}
-use Rattle.gx_node.proofs.Choice.{choice_begins, choice_keeps, choice_takes}
+use Rattle.gx_node.proofs.scan.Choice.{choice_begins, choice_keeps, choice_takes}
 use Rattle.gx_node.proofs.Heaps.{cut_item}
-use Rattle.gx_node.proofs.Scanning.{all_of_length}
+use Rattle.gx_node.proofs.scan.Scanning.{all_of_length}
 use Rattle.gx_node.proofs.scan.least_penalty.Goals as goal
 
 pub overflow_sub-heap : goal.overflow_sub-heap

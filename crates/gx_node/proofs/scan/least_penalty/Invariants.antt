@@ -1,5 +1,5 @@
 use Rattle.gx_node.specs.Reading.{format_of, key_of}
-use Rattle.gx_node.proofs.Choice.{IsChoice}
+use Rattle.gx_node.proofs.scan.Choice.{IsChoice}
 use Rattle.gx_node.proofs.scan.least_penalty.Given as goal
 
 abbrev pub invariant-loop-slot : goal.invariant-loop-slot

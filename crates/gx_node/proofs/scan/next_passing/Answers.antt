@@ -3,7 +3,7 @@ use Rattle.std.proofs.Common.{◌∙◌, ◌<◌, ◌-◌, ◌*◌, ap, sym, ari
 use Rattle.gx_page.proofs.Images.{length-heap}
 use Rattle.gx_node.specs.Reading.{format_of, has_key, key_of}
 use Rattle.gx_node.proofs.Heaps.{heap_front, cut_item}
-use Rattle.gx_node.proofs.Scanning.{all_of_length, scan_begins, scan_goes_on, scan_finds}
+use Rattle.gx_node.proofs.scan.Scanning.{all_of_length, scan_begins, scan_goes_on, scan_finds}
 use Rattle.gx_node.proofs.scan.next_passing.Goals as goal
 
 pub overflow_mul-from : goal.overflow_mul-from

@@ -1,5 +1,5 @@
 use Rattle.gx_node.specs.Reading.{format_of, key_of}
-use Rattle.gx_node.proofs.Scanning.{IsScan}
+use Rattle.gx_node.proofs.scan.Scanning.{IsScan}
 use Rattle.gx_node.proofs.scan.next_passing.Given as goal
 
 abbrev pub invariant-loop-slot : goal.invariant-loop-slot

@@ -5,7 +5,7 @@ use Rattle.gx_node.specs.Hits.{hits_among}
 use Rattle.gx_node.specs.Reading.{format_of, has_key, key_of}
 use Rattle.gx_node.proofs.Heaps.{heap_front, cut_item}
 use Rattle.gx_node.proofs.Gathering.{gathering_begins, gathering_goes_on}
-use Rattle.gx_node.proofs.Scanning.{all_of_length}
+use Rattle.gx_node.proofs.scan.Scanning.{all_of_length}
 use Rattle.gx_node.proofs.scan.passing.Goals as goal
 
 pub overflow_mul-from : goal.overflow_mul-from

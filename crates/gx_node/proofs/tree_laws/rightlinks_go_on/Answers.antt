@@ -1,4 +1,4 @@
-use Rattle.gx_node.proofs.Rightlinks.{goes_on_begins, goes_on_step, goes_on_steps}
+use Rattle.gx_node.proofs.tree_laws.Rightlinks.{goes_on_begins, goes_on_step, goes_on_steps}
 use Rattle.gx_node.proofs.tree_laws.rightlinks_go_on.Goals as goal
 
 pub returns-clause-begins : goal.returns-clause-begins

@@ -1,4 +1,4 @@
-use Rattle.gx_node.proofs.InReach.{wanted_in_reach}
+use Rattle.gx_node.proofs.tree_laws.InReach.{wanted_in_reach}
 use Rattle.gx_node.proofs.tree_laws.what_is_not_found_is_in_reach.Goals as goal
 
 pub returns : goal.returns

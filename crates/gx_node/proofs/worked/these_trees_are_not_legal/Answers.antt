@@ -1,4 +1,4 @@
-use Rattle.gx_node.proofs.WorkedSteps.{twice_not_legal, off_not_legal, small_not_legal}
+use Rattle.gx_node.proofs.worked.WorkedSteps.{twice_not_legal, off_not_legal, small_not_legal}
 use Rattle.gx_node.proofs.worked.these_trees_are_not_legal.Goals as goal
 
 pub returns-clause-named_twice : goal.returns-clause-named_twice

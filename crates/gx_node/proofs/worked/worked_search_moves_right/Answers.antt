@@ -1,5 +1,5 @@
 use Rattle.std.proofs.Common.{refl}
-use Rattle.gx_node.proofs.WorkedLook.{held_look, held_leads}
+use Rattle.gx_node.proofs.worked.WorkedLook.{held_look, held_leads}
 use Rattle.gx_node.proofs.worked.worked_search_moves_right.Goals as goal
 
 pub returns-clause-root : goal.returns-clause-root

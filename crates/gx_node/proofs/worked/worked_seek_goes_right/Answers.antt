@@ -1,5 +1,5 @@
 use Rattle.std.proofs.Common.{refl}
-use Rattle.gx_node.proofs.WorkedLook.{held_seek}
+use Rattle.gx_node.proofs.worked.WorkedLook.{held_seek}
 use Rattle.gx_node.proofs.worked.worked_seek_goes_right.Goals as goal
 
 pub returns-clause-seek : goal.returns-clause-seek

@@ -1,4 +1,4 @@
-use Rattle.gx_node.proofs.WorkedSteps.{held_are_steps, nine_are_steps, swept_are_steps}
+use Rattle.gx_node.proofs.worked.WorkedSteps.{held_are_steps, nine_are_steps, swept_are_steps}
 use Rattle.gx_node.proofs.worked.worked_steps_are_steps.Goals as goal
 
 pub returns-clause-held : goal.returns-clause-held

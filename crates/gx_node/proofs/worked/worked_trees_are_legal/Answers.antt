@@ -1,5 +1,5 @@
 use Rattle.std.proofs.Common.{refl}
-use Rattle.gx_node.proofs.WorkedTrees.{held_legal, held_end_legal, nine_legal}
+use Rattle.gx_node.proofs.worked.WorkedTrees.{held_legal, held_end_legal, nine_legal}
 use Rattle.gx_node.proofs.worked.worked_trees_are_legal.Goals as goal
 
 pub returns-clause-held : goal.returns-clause-held

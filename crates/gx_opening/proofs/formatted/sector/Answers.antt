@@ -1,5 +1,5 @@
 use Rattle.std.proofs.Common.{◌≡◌, ◌∙◌, length, rules}
-use Rattle.gx_opening.proofs.Sectors.{sector_read}
+use Rattle.gx_opening.proofs.formatted.Sectors.{sector_read}
 use Rattle.gx_opening.proofs.formatted.sector.Goals as goal
 
 pub returns-clause-bytes : goal.returns-clause-bytes

@@ -1,6 +1,6 @@
 use Rattle.std.proofs.Common.{inl, inr}
 use Rattle.std.proofs.lemmas.Result.{err_from_is_err_and}
-use Rattle.gx_opening.proofs.Laying.{none_laid, redone_lays, redo_refused}
+use Rattle.gx_opening.proofs.log.Laying.{none_laid, redone_lays, redo_refused}
 use Rattle.gx_opening.proofs.log.lay_found.Goals as goal
 use Rattle.gx_opening.proofs.log.lay_found.Goals.{then-found-eq0-via-then-found-eq0, then-found-eq0-via-else-found-eq0+then-found-gt-PLACES}
 

@@ -1,5 +1,5 @@
 use Rattle.std.proofs.lemmas.Result.{err_from_is_err_and}
-use Rattle.gx_opening.proofs.Laying.{read_laid, read_refused}
+use Rattle.gx_opening.proofs.log.Laying.{read_laid, read_refused}
 use Rattle.gx_opening.proofs.log.lay_log.Goals as goal
 
 pub returns-clause-lays : goal.returns-clause-lays

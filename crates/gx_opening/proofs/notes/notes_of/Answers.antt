@@ -3,7 +3,7 @@ use Rattle.std.specs.Prelude.{slice_get}
 use Rattle.std.proofs.lemmas.Option.{slice_get_read}
 use Rattle.gx_legality.specs.declared.notes.NotedPair.{NotedPair}
 use Rattle.gx_opening.specs.Noting.{AreNoted, IsPut, note_of}
-use Rattle.gx_opening.proofs.Noting.{noted_more}
+use Rattle.gx_opening.proofs.notes.Noting.{noted_more}
 use Rattle.gx_opening.proofs.notes.notes_of.Goals as goal
 
 pub loop-at-preserved : goal.loop-at-preserved

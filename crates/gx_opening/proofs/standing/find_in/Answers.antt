@@ -2,8 +2,8 @@ use Rattle.std.proofs.Common.{◌∙◌}
 use Rattle.gx_machine.specs.Keys.{Members}
 use Rattle.gx_node.specs.Reading.{format_of}
 use Rattle.gx_opening.specs.Standing.{known_for, limits_of, reading}
-use Rattle.gx_opening.proofs.Faults.{told_later}
-use Rattle.gx_opening.proofs.Ordering.{tested_in_order}
+use Rattle.gx_opening.proofs.standing.Faults.{told_later}
+use Rattle.gx_opening.proofs.standing.Ordering.{tested_in_order}
 use Rattle.gx_opening.proofs.Stood.{cut_off_others, may_start, read_safe, tested_so, unsound_left}
 use Rattle.gx_opening.proofs.standing.find_in.Goals as goal
 

@@ -7,8 +7,8 @@ use Rattle.gx_machine.specs.declared.entry.Entry.{Entry}
 use Rattle.gx_machine.specs.Keys.{Members}
 use Rattle.gx_node.specs.Reading.{format_of}
 use Rattle.gx_opening.specs.Standing.{limits_of}
-use Rattle.gx_opening.proofs.Faults.{found_told, told_later}
-use Rattle.gx_opening.proofs.Ordering.{laid_in_order, synced_so, unlaid_in_order, unwritten_so}
+use Rattle.gx_opening.proofs.standing.Faults.{found_told, told_later}
+use Rattle.gx_opening.proofs.standing.Ordering.{laid_in_order, synced_so, unlaid_in_order, unwritten_so}
 use Rattle.gx_opening.proofs.Stood.{formatted_so, laid_so, never_damaged, one_cause, stood_safe, told_cause, unlaid_left, unlaid_so}
 use Rattle.gx_opening.proofs.standing.stand.Goals as goal
 

@@ -1,7 +1,7 @@
 use Rattle.std.proofs.Common.{◌≡◌, ◌≤◌, refl}
 use Rattle.gx_geom.specs.declared.refusal.Refusal.TheVariants.{Memory}
 use Rattle.gx_opening.specs.Standing.{limits_of}
-use Rattle.gx_opening.proofs.Faults.{with_faults}
+use Rattle.gx_opening.proofs.standing.Faults.{with_faults}
 use Rattle.gx_opening.proofs.Stood.{with_cause, with_known, with_same, with_told, with_why}
 use Rattle.gx_opening.proofs.standing.tested.Goals as goal
 

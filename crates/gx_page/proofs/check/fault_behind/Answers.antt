@@ -1,6 +1,6 @@
 -- The first of the two tests that fails says which fault it is.
 use Rattle.std.proofs.Common.{sym, ◌∙◌}
-use Rattle.gx_page.proofs.Firsts.{first_directory, first_free, no_fault}
+use Rattle.gx_page.proofs.check.Firsts.{first_directory, first_free, no_fault}
 use Rattle.gx_page.proofs.check.fault_behind.Goals as goal
 
 pub returns-then-not-is_directory : goal.returns-then-not-is_directory

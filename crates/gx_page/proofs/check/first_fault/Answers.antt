@@ -1,6 +1,6 @@
 -- The first test that fails says which fault it is.
 use Rattle.std.proofs.Common.{sym, ◌∙◌}
-use Rattle.gx_page.proofs.Firsts.{first_size, first_reserved}
+use Rattle.gx_page.proofs.check.Firsts.{first_size, first_reserved}
 use Rattle.gx_page.proofs.check.first_fault.Goals as goal
 
 pub returns-then-bytes-ne-PAGE_SIZE : goal.returns-then-bytes-ne-PAGE_SIZE

@@ -1,4 +1,4 @@
-use Rattle.gx_phases.proofs.Events.{is_sealed, is_durable, is_acknowledged}
+use Rattle.gx_phases.proofs.laws.Events.{is_sealed, is_durable, is_acknowledged}
 use Rattle.gx_phases.proofs.laws.a_commit_goes_its_way.Goals as goal
 
 pub returns-clause-seals : goal.returns-clause-seals

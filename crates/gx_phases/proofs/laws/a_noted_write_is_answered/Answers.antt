@@ -1,6 +1,6 @@
 use Rattle.std.proofs.Common.{true, false}
 use Rattle.gx_machine.specs.declared.call.Call.TheVariants.{Insert, Delete}
-use Rattle.gx_phases.proofs.Events.{is_written}
+use Rattle.gx_phases.proofs.laws.Events.{is_written}
 use Rattle.gx_phases.proofs.laws.a_noted_write_is_answered.Goals as goal
 
 pub returns-clause-inserts : goal.returns-clause-inserts

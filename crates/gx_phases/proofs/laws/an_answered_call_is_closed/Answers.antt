@@ -1,5 +1,5 @@
 use Rattle.gx_machine.specs.declared.call.Call.TheVariants.{Insert, Delete, Search}
-use Rattle.gx_phases.proofs.Events.{is_closed}
+use Rattle.gx_phases.proofs.laws.Events.{is_closed}
 use Rattle.gx_phases.proofs.laws.an_answered_call_is_closed.Goals as goal
 
 pub returns-clause-present : goal.returns-clause-present

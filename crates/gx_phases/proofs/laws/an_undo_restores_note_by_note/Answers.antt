@@ -1,5 +1,5 @@
 use Rattle.gx_phases.proofs.Undoing.{none_restored}
-use Rattle.gx_phases.proofs.Events.{is_undone, one_more, is_restored}
+use Rattle.gx_phases.proofs.laws.Events.{is_undone, one_more, is_restored}
 use Rattle.gx_phases.proofs.laws.an_undo_restores_note_by_note.Goals as goal
 
 pub returns-clause-none : goal.returns-clause-none

@@ -4,7 +4,7 @@ use Rattle.std.specs.Prelude.{Some, slice_get}
 use Rattle.std.proofs.lemmas.Option.{slice_get_read}
 use Rattle.gx_machine.specs.Keys.{keys, IsLawful}
 use Rattle.gx_machine.specs.Sets.{including_all}
-use Rattle.gx_plain.proofs.Merging.{front_in_order, front_lacks, turned}
+use Rattle.gx_plain.proofs.merge.Merging.{front_in_order, front_lacks, turned}
 use Rattle.gx_plain.proofs.merge.merge_down.Goals as goal
 
 pub put_last-at-requires-clause-in_order : goal.put_last-at-requires-clause-in_order

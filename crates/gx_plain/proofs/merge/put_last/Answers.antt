@@ -1,6 +1,6 @@
 use Rattle.std.proofs.Common.{rules}
 use Rattle.gx_machine.specs.Keys.{keys, IsLawful}
-use Rattle.gx_plain.proofs.Merging.{last_put}
+use Rattle.gx_plain.proofs.merge.Merging.{last_put}
 use Rattle.gx_plain.proofs.merge.put_last.Goals as goal
 
 pub returns-clause-put : goal.returns-clause-put

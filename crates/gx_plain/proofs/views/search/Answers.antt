@@ -7,7 +7,7 @@ use Rattle.gx_machine.specs.Keys.{Keys, keys, IsLawful, matches}
 use Rattle.gx_machine.specs.Sets.{has, including_all, excluding_all, found, InOrder}
 use Rattle.gx_machine.specs.declared.query.Query.{Query}
 use Rattle.gx_machine.proofs.SetLaws.{filter_including_all, in_order_filter}
-use Rattle.gx_plain.proofs.Filters.{filters_swap}
+use Rattle.gx_plain.proofs.views.Filters.{filters_swap}
 use Rattle.gx_plain.proofs.views.search.Goals as goal
 
 -- at the loop's end nothing of added is left

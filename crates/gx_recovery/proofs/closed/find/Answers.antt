@@ -1,4 +1,4 @@
-use Rattle.gx_recovery.proofs.Searching.{number_searched}
+use Rattle.gx_recovery.proofs.closed.Searching.{number_searched}
 use Rattle.gx_recovery.proofs.closed.find.Goals as goal
 
 pub returns : goal.returns

@@ -2,7 +2,7 @@ use Rattle.std.proofs.Common.{get_or, ap, sym}
 use Rattle.std.specs.Prelude.{nat_le}
 use Rattle.gx_recovery.specs.Analysis.{touching}
 use Rattle.gx_recovery.specs.Kept.{by_order}
-use Rattle.gx_recovery.proofs.Placing.{as_many}
+use Rattle.gx_recovery.proofs.touched.Placing.{as_many}
 use Rattle.gx_recovery.proofs.touched.has_place.Goals as goal
 
 pub returns-in-Ok : goal.returns-in-Ok

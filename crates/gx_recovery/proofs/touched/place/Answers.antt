@@ -1,7 +1,7 @@
 use Rattle.std.proofs.lemmas.Grind.{common_steps}
 use Rattle.std.proofs.Common.{arith}
 use Rattle.gx_recovery.specs.Kept.{by_order}
-use Rattle.gx_recovery.proofs.Placing.{stands_at}
+use Rattle.gx_recovery.proofs.touched.Placing.{stands_at}
 use Rattle.gx_recovery.proofs.touched.place.Goals as goal
 
 pub returns-in-Equal : goal.returns-in-Equal

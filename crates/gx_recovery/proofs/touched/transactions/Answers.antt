@@ -1,6 +1,6 @@
 use Rattle.std.proofs.Common.{◌+◌, arith}
 use Rattle.std.proofs.lemmas.List.{take_rest}
-use Rattle.gx_recovery.proofs.Placing.{counted}
+use Rattle.gx_recovery.proofs.touched.Placing.{counted}
 use Rattle.gx_recovery.proofs.touched.transactions.Goals as goal
 
 pub loop-i-preserved : goal.loop-i-preserved

@@ -1,4 +1,4 @@
-use Rattle.gx_recovery.proofs.WorkedProofs.{worked_lawful, fresh_healthy, worked_life}
+use Rattle.gx_recovery.proofs.worked.WorkedProofs.{worked_lawful, fresh_healthy, worked_life}
 use Rattle.gx_recovery.proofs.worked.a_worked_life_meets_the_definitions.Goals as goal
 
 pub returns-clause-lawful : goal.returns-clause-lawful

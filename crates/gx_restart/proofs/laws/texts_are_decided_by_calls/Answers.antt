@@ -1,5 +1,5 @@
 use Rattle.gx_script.specs.Corners.{grammar}
-use Rattle.gx_restart.proofs.Decided.{index_text, opened_rests, opened_seen, same_text}
+use Rattle.gx_restart.proofs.laws.Decided.{index_text, opened_rests, opened_seen, same_text}
 use Rattle.gx_restart.proofs.laws.texts_are_decided_by_calls.Goals as goal
 
 pub returns-clause-decided : goal.returns-clause-decided

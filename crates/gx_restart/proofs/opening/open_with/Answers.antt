@@ -8,7 +8,7 @@ use Rattle.gx_opening.specs.Formatted.{FaultsAre}
 use Rattle.gx_opening.specs.Standing.{FindsInOrder, limits_of}
 use Rattle.gx_opening.specs.declared.standing.Standing.{Standing}
 use Rattle.gx_restart.proofs.Ends.{came_opened, came_refused, came_safe, came_undamaged, enough_of, stands_of, told_later}
-use Rattle.gx_restart.proofs.Ordered.{found_in_order, not_found}
+use Rattle.gx_restart.proofs.opening.Ordered.{found_in_order, not_found}
 use Rattle.gx_restart.proofs.opening.open_with.Goals as goal
 
 pub returns-in-Ok-clause-safe : goal.returns-in-Ok-clause-safe

@@ -1,6 +1,6 @@
 use Rattle.gx_node.specs.Reading.{format_of}
 use Rattle.gx_opening.specs.Standing.{limits_of}
-use Rattle.gx_restart.proofs.Verified.{opened_verified}
+use Rattle.gx_restart.proofs.verification.Verified.{opened_verified}
 use Rattle.gx_restart.proofs.verification.report_of.Goals as goal
 
 pub returns-in-Ok-clause-verified : goal.returns-in-Ok-clause-verified

@@ -3,7 +3,7 @@ use Rattle.gx_node.specs.Reading.{format_of}
 use Rattle.gx_opening.specs.Shown.{HoldsDamaged}
 use Rattle.gx_restart.specs.Verified.{IsDamagedCopy}
 use Rattle.gx_restart.proofs.Copied.{damaged_as, damaged_left, never_device, refused_so}
-use Rattle.gx_restart.proofs.Verified.{memory_only, memory_so, never_damaged}
+use Rattle.gx_restart.proofs.verification.Verified.{memory_only, memory_so, never_damaged}
 use Rattle.gx_restart.proofs.verification.verify_copy.Goals as goal
 
 pub returns-in-Ok-clause-verified : goal.returns-in-Ok-clause-verified

@@ -1,7 +1,7 @@
 use Rattle.std.proofs.Common.{refl}
 use Rattle.gx_node.specs.Reading.{format_of}
 use Rattle.gx_restart.proofs.Copied.{few_there, left_there, uncopied_undamaged, uncopied_unverified, unverified_there, verified_there}
-use Rattle.gx_restart.proofs.Verified.{counted_refused, counted_then, refused_then}
+use Rattle.gx_restart.proofs.verification.Verified.{counted_refused, counted_then, refused_then}
 use Rattle.gx_restart.proofs.verification.verify_or_copy.Goals as goal
 
 pub returns-in-Ok-verify_copy-clause-verified : goal.returns-in-Ok-verify_copy-clause-verified

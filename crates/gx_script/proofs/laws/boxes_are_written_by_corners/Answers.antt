@@ -1,4 +1,4 @@
-use Rattle.gx_script.proofs.PrintedLemmas.{rectangle_written, solid_written}
+use Rattle.gx_script.proofs.laws.PrintedLemmas.{rectangle_written, solid_written}
 use Rattle.gx_script.proofs.laws.boxes_are_written_by_corners.Goals as goal
 
 pub returns-clause-plane : goal.returns-clause-plane

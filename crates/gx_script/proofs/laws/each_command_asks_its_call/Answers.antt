@@ -1,5 +1,5 @@
 use Rattle.std.proofs.Common.{refl}
-use Rattle.gx_script.proofs.PrintedLemmas.{number_of-decimal, key_words-printed}
+use Rattle.gx_script.proofs.laws.PrintedLemmas.{number_of-decimal, key_words-printed}
 use Rattle.gx_script.proofs.laws.each_command_asks_its_call.Goals as goal
 
 pub returns-clause-begin : goal.returns-clause-begin

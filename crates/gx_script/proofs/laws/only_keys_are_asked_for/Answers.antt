@@ -1,4 +1,4 @@
-use Rattle.gx_script.proofs.PrintedLemmas.{no_key-printed, reversed-printed}
+use Rattle.gx_script.proofs.laws.PrintedLemmas.{no_key-printed, reversed-printed}
 use Rattle.gx_script.proofs.laws.only_keys_are_asked_for.Goals as goal
 
 pub returns-clause-bad : goal.returns-clause-bad

@@ -1,4 +1,4 @@
-use Rattle.gx_script.proofs.PrintedLemmas.{number_of-decimal, corner_of-printed}
+use Rattle.gx_script.proofs.laws.PrintedLemmas.{number_of-decimal, corner_of-printed}
 use Rattle.gx_script.proofs.laws.printed_numbers_are_read.Goals as goal
 
 pub returns-clause-number : goal.returns-clause-number

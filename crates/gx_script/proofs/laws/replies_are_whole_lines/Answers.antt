@@ -1,4 +1,4 @@
-use Rattle.gx_script.proofs.TextLemmas.{reply-lines, bad-lines}
+use Rattle.gx_script.proofs.laws.TextLemmas.{reply-lines, bad-lines}
 use Rattle.gx_script.proofs.laws.replies_are_whole_lines.Goals as goal
 
 pub returns-clause-reply : goal.returns-clause-reply

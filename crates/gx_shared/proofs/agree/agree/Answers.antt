@@ -1,7 +1,7 @@
 use Rattle.std.proofs.Common.{arith, ◌≡◌, ◌<◌, ◌≤◌, length}
 use Rattle.std.proofs.lemmas.Bool.Decides.{nat_tests}
 use Rattle.gx_shared.specs.Agreed.{replies_of}
-use Rattle.gx_shared.proofs.Agreeing.{on_other, on_reply, at_end}
+use Rattle.gx_shared.proofs.agree.Agreeing.{on_other, on_reply, at_end}
 use Rattle.gx_shared.proofs.agree.agree.Goals.{in-Some+else-next-replies+else-not-is_same_reply, in_default}
 use Rattle.gx_shared.proofs.agree.agree.Goals as goal
 

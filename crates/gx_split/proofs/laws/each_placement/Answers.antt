@@ -1,5 +1,5 @@
 use Rattle.gx_split.specs.Split.{measure}
-use Rattle.gx_split.proofs.Placements.{placement}
+use Rattle.gx_split.proofs.laws.Placements.{placement}
 use Rattle.gx_split.proofs.laws.each_placement.Goals as goal
 
 pub returns : goal.returns

@@ -1,4 +1,4 @@
-use Rattle.gx_storage.proofs.Keying.{shows_keys}
+use Rattle.gx_storage.proofs.laws.Keying.{shows_keys}
 use Rattle.gx_storage.proofs.laws.a_volume_shows_keys.Goals as goal
 
 pub returns : goal.returns

@@ -4,7 +4,7 @@ use Rattle.std.proofs.lemmas.Bool.{lt-ltb}
 use Rattle.gx_node.specs.Edits.{entry_of}
 use Rattle.gx_node.proofs.Slots.{some_at}
 use Rattle.gx_node.specs.Writes.{is_sweepable}
-use Rattle.gx_storage.proofs.Removing.{none_passes, one_passes}
+use Rattle.gx_storage.proofs.pages.Removing.{none_passes, one_passes}
 use Rattle.gx_storage.proofs.pages.any_removable.Goals as goal
 
 pub returns-then-is_removable : goal.returns-then-is_removable

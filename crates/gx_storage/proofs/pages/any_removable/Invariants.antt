@@ -2,7 +2,7 @@ use Rattle.std.proofs.Common.{◌≡◌, Bool}
 use Rattle.gx_machine.specs.declared.entry.Entry.{Entry}
 use Rattle.gx_node.specs.Edits.{entry_of}
 use Rattle.gx_node.specs.Writes.{is_sweepable}
-use Rattle.gx_storage.proofs.Removing.{NonePasses}
+use Rattle.gx_storage.proofs.pages.Removing.{NonePasses}
 use Rattle.gx_storage.proofs.pages.any_removable.Given as goal
 
 abbrev pub invariant-loop-slot : goal.invariant-loop-slot

@@ -1,5 +1,5 @@
 use Rattle.gx_machine.specs.Keys.{keys}
-use Rattle.gx_storm.proofs.Following.{asked_along}
+use Rattle.gx_storm.proofs.answers.Following.{asked_along}
 use Rattle.gx_storm.proofs.answers.fits_here.Goals as goal
 
 pub returns-in-Asked : goal.returns-in-Asked

@@ -1,6 +1,6 @@
 use Rattle.std.proofs.Common.{◌∙◌, sym}
 use Rattle.gx_machine.specs.Keys.{keys}
-use Rattle.gx_storm.proofs.Following.{sealed_nowhere, unsealed_along}
+use Rattle.gx_storm.proofs.answers.Following.{sealed_nowhere, unsealed_along}
 use Rattle.gx_storm.proofs.answers.is_answer.Goals as goal
 
 pub returns-then-is_some : goal.returns-then-is_some

@@ -1,6 +1,6 @@
 use Rattle.std.proofs.Common.{sym}
 use Rattle.gx_machine.specs.Keys.{keys}
-use Rattle.gx_storm.proofs.Following.{closes_along, never_fits}
+use Rattle.gx_storm.proofs.answers.Following.{closes_along, never_fits}
 use Rattle.gx_storm.proofs.answers.replies.Goals as goal
 
 pub returns-in-Closed : goal.returns-in-Closed

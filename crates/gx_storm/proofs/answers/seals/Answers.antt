@@ -1,7 +1,7 @@
 use Rattle.std.proofs.Common.{refl}
 use Rattle.std.specs.Prelude.{◌==◌}
 use Rattle.gx_machine.specs.Keys.{keys}
-use Rattle.gx_storm.proofs.Following.{seals_none, seals_some}
+use Rattle.gx_storm.proofs.answers.Following.{seals_none, seals_some}
 use Rattle.gx_storm.proofs.answers.seals.Goals as goal
 
 pub returns-in-Some : goal.returns-in-Some

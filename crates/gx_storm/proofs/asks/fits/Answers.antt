@@ -1,6 +1,6 @@
 use Rattle.std.proofs.lemmas.Result.{IfOk-weaker}
 use Rattle.gx_machine.specs.Keys.{keys}
-use Rattle.gx_storm.proofs.Asking.{behind, here}
+use Rattle.gx_storm.proofs.asks.Asking.{behind, here}
 use Rattle.gx_storm.proofs.asks.fits.Goals as goal
 
 pub returns-in-Some : goal.returns-in-Some

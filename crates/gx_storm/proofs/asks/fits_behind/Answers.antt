@@ -1,7 +1,7 @@
 use Rattle.std.proofs.lemmas.Result.{IfOk-weaker}
 use Rattle.gx_machine.specs.declared.reply.Asked.TheVariants as asked
 use Rattle.gx_machine.specs.Keys.{keys}
-use Rattle.gx_storm.proofs.Asking.{is_asked, at_once, then_here}
+use Rattle.gx_storm.proofs.asks.Asking.{is_asked, at_once, then_here}
 use Rattle.gx_storm.proofs.asks.fits_behind.Goals as goal
 
 pub returns-in-Now : goal.returns-in-Now

@@ -1,5 +1,5 @@
 use Rattle.gx_machine.specs.Keys.{keys}
-use Rattle.gx_storm.proofs.Asking.{is_asked, ends_by}
+use Rattle.gx_storm.proofs.asks.Asking.{is_asked, ends_by}
 use Rattle.gx_storm.proofs.asks.is_opened.Goals as goal
 
 pub returns : goal.returns

@@ -1,5 +1,5 @@
 use Rattle.gx_machine.specs.Keys.{keys}
-use Rattle.gx_storm.proofs.Asking.{ends_behind, ends_here}
+use Rattle.gx_storm.proofs.asks.Asking.{ends_behind, ends_here}
 use Rattle.gx_storm.proofs.asks.may_end.Goals as goal
 
 pub returns-in-Some : goal.returns-in-Some

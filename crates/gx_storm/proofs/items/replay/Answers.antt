@@ -1,6 +1,6 @@
 use Rattle.std.proofs.Common.{arith}
 use Rattle.gx_machine.specs.Keys.{keys}
-use Rattle.gx_storm.proofs.Replaying.{holds_on, stops_here, replayed, cut_short}
+use Rattle.gx_storm.proofs.items.Replaying.{holds_on, stops_here, replayed, cut_short}
 use Rattle.gx_storm.proofs.items.replay.Goals as goal
 
 pub loop-place-preserved : goal.loop-place-preserved

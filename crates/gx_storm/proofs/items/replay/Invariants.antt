@@ -1,7 +1,7 @@
 use Rattle.std.proofs.Common.{length}
 use Rattle.gx_storm.specs.Mismatches.{AreFaultless, HasNumbersFor}
 use Rattle.gx_machine.specs.Keys.{keys}
-use Rattle.gx_storm.proofs.Replaying.{IsUpTo}
+use Rattle.gx_storm.proofs.items.Replaying.{IsUpTo}
 use Rattle.gx_storm.proofs.items.replay.Given as goal
 
 -- the replay goes up to here, and the index has gone along

@@ -1,7 +1,7 @@
 use Rattle.std.proofs.Common.{arith, ◌≤◌, length, refl}
 use Rattle.std.proofs.lemmas.Bool.Decides.{nat_tests}
 use Rattle.std.proofs.lemmas.Option.{slice_get_read}
-use Rattle.gx_storm.proofs.Judging.{has_every, has_more}
+use Rattle.gx_storm.proofs.verdict.Judging.{has_every, has_more}
 use Rattle.gx_storm.proofs.verdict.has_all.Goals as goal
 
 pub returns-then-not-has_replies : goal.returns-then-not-has_replies

@@ -1,4 +1,4 @@
-use Rattle.gx_storm.proofs.Judging.{HasBelow}
+use Rattle.gx_storm.proofs.verdict.Judging.{HasBelow}
 use Rattle.gx_storm.proofs.verdict.has_all.Given as goal
 
 abbrev pub invariant-loop-place : goal.invariant-loop-place

@@ -3,7 +3,7 @@ use Rattle.std.proofs.lemmas.Bool.Decides.{nat_tests}
 use Rattle.gx_machine.specs.declared.item.Item.{Item}
 use Rattle.gx_machine.specs.Keys.{keys}
 use Rattle.gx_shared.specs.declared.record.TheConstants.{RECORD}
-use Rattle.gx_storm.proofs.Judging.{replayed, stopped}
+use Rattle.gx_storm.proofs.verdict.Judging.{replayed, stopped}
 use Rattle.gx_storm.proofs.verdict.judge.Goals as goal
 
 pub returns-in-Ok-replay : goal.returns-in-Ok-replay

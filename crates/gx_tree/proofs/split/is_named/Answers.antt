@@ -1,4 +1,4 @@
-use Rattle.gx_tree.proofs.Named.{named_at}
+use Rattle.gx_tree.proofs.split.Named.{named_at}
 use Rattle.gx_tree.proofs.split.is_named.Goals as goal
 
 pub returns : goal.returns

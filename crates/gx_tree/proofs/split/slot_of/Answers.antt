@@ -1,5 +1,5 @@
 use Rattle.std.proofs.Common.{arith}
-use Rattle.gx_tree.proofs.Named.{none_named, two_named, once_before, once_to_the_end}
+use Rattle.gx_tree.proofs.split.Named.{none_named, two_named, once_before, once_to_the_end}
 use Rattle.gx_tree.proofs.split.slot_of.Goals as goal
 
 pub returns-in_default-clause-none : goal.returns-in_default-clause-none

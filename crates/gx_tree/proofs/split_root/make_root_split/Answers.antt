@@ -5,7 +5,7 @@ use Rattle.gx_node.specs.Trees.{Node, Rules, size}
 use Rattle.gx_tree.specs.Splitting.{DidSplitRoot}
 use Rattle.gx_node.specs.Store.{Store, node_at, with_page}
 use Rattle.gx_tree.specs.declared.split_root.RootSplit.{RootSplit}
-use Rattle.gx_tree.proofs.RootSplits.{made_root, root_store, did_split_root}
+use Rattle.gx_tree.proofs.split_root.RootSplits.{made_root, root_store, did_split_root}
 use Rattle.gx_tree.proofs.Splits.{at_untaken}
 use Rattle.gx_tree.proofs.split_root.make_root_split.Goals as goal
 

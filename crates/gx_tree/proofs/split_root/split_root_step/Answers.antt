@@ -7,7 +7,7 @@ use Rattle.gx_node.specs.declared.fault.StepFault.TheVariants.{Damaged}
 use Rattle.gx_tree.specs.Splitting.{DidSplitRoot}
 use Rattle.gx_node.specs.Store.{Store}
 use Rattle.gx_node.proofs.Listed.{same_store}
-use Rattle.gx_tree.proofs.RootSplits.{root_is_whole}
+use Rattle.gx_tree.proofs.split_root.RootSplits.{root_is_whole}
 use Rattle.gx_tree.proofs.Searched.{same_err}
 use Rattle.gx_tree.proofs.split_root.split_root_step.Goals as goal
 

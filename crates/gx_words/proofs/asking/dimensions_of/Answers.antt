@@ -2,7 +2,7 @@ use Rattle.std.proofs.Common.{◌∙◌, ap, codes, Some, sym}
 use Rattle.clap.specs.Words.{found_of}
 use Rattle.clap.proofs.CallerLemmas.{some_of_text}
 use Rattle.gx_words.specs.Asking.{class_word}
-use Rattle.gx_words.proofs.Found.{a_word, word_found}
+use Rattle.gx_words.proofs.asking.Found.{a_word, word_found}
 use Rattle.gx_words.proofs.asking.dimensions_of.Goals as goal
 
 pub unwrap-requires : goal.unwrap-requires

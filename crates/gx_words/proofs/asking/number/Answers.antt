@@ -1,7 +1,7 @@
 use Rattle.std.proofs.Common.{ap, is_some}
 use Rattle.std.specs.Str.Parse.{ExplainsUnsignedError, HasUnsignedDigitsIfOk, ParsesUnsigned}
 use Rattle.clap.specs.Words.{found_of}
-use Rattle.gx_words.proofs.Found.{number_in, number_read}
+use Rattle.gx_words.proofs.asking.Found.{number_in, number_read}
 use Rattle.gx_words.proofs.asking.number.Goals as goal
 
 pub unwrap-requires : goal.unwrap-requires

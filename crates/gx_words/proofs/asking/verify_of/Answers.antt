@@ -1,7 +1,7 @@
 use Rattle.std.proofs.Common.{refl, codes}
 use Rattle.clap.specs.Words.{found_of}
 use Rattle.clap.proofs.CallerLemmas.{some_of_text}
-use Rattle.gx_words.proofs.Found.{a_word, word_found}
+use Rattle.gx_words.proofs.asking.Found.{a_word, word_found}
 use Rattle.gx_words.proofs.asking.verify_of.Goals as goal
 
 pub unwrap-requires : goal.unwrap-requires

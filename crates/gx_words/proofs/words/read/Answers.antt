@@ -4,7 +4,7 @@ use Rattle.clap.specs.Words.{App, HasKind, Row, Text, fault_of, is_simple, is_si
 use Rattle.clap.proofs.OnLiterals.{clap_on_literals}
 use Rattle.gx_words.specs.Asking.{IsAsked, IsWhole}
 use Rattle.gx_words.specs.Program.{ClassWords, gist_app}
-use Rattle.gx_words.proofs.Whole.{whole}
+use Rattle.gx_words.proofs.words.Whole.{whole}
 use Rattle.gx_words.proofs.words.read.Goals as goal
 
 -- what is wrong with arguments is known of this command

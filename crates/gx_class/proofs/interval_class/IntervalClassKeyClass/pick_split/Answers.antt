@@ -1,7 +1,7 @@
 use Rattle.std.proofs.Common.{◌∙◌}
 use Rattle.gx_geom.specs.Spans.{span_cmp}
 use Rattle.gx_class.specs.IntervalKeyLaws.{spans_in_order}
-use Rattle.gx_class.proofs.Placed.{side_more, all_sides}
+use Rattle.gx_class.proofs.interval_class.Placed.{side_more, all_sides}
 use Rattle.gx_class.proofs.interval_class.IntervalClassKeyClass.pick_split.Goals as goal
 
 pub loop-slot-preserved : goal.loop-slot-preserved

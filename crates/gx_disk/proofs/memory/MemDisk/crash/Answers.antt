@@ -1,5 +1,5 @@
 use Rattle.std.proofs.Common.{ap, length, arith, rules}
-use Rattle.gx_disk.proofs.Crashes.{since_sync, since_room, crash_of_device, crash_image}
+use Rattle.gx_disk.proofs.memory.Crashes.{since_sync, since_room, crash_of_device, crash_image}
 use Rattle.gx_disk.proofs.memory.MemDisk.crash.Goals as goal
 
 pub behind-calls-requires : goal.behind-calls-requires

@@ -1,4 +1,4 @@
-use Rattle.gx_disk.proofs.Unrecorded.{synced_past, sync_settles}
+use Rattle.gx_disk.proofs.ram.Unrecorded.{synced_past, sync_settles}
 use Rattle.gx_disk.proofs.ram.RamDiskSectorDisk.sync.Goals as goal
 
 pub invariant_of-self-2 : goal.invariant_of-self-2

@@ -1,5 +1,5 @@
 use Rattle.std.proofs.Common.{◌/◌, length, arith}
-use Rattle.gx_disk.proofs.Unrecorded.{written_size, written_past, write_pends}
+use Rattle.gx_disk.proofs.ram.Unrecorded.{written_size, written_past, write_pends}
 use Rattle.gx_disk.proofs.ram.RamDiskSectorDisk.write.Goals as goal
 
 pub invariant_of-self-2 : goal.invariant_of-self-2

@@ -1,5 +1,5 @@
 use Rattle.gx_engine_events.proofs.Crashes.{step_leaves}
-use Rattle.gx_engine_events.proofs.Quiet.{work_is_quiet}
+use Rattle.gx_engine_events.proofs.engine.Quiet.{work_is_quiet}
 use Rattle.gx_engine_events.proofs.Stepping.{step_leads}
 use Rattle.gx_engine_events.proofs.engine.EngineEventsEventsKey.step.Goals as goal
 

@@ -5,7 +5,7 @@ use Rattle.gx_node.specs.Reading.{format_of}
 use Rattle.gx_node.specs.Small.{mark_fits, mark_made, pair_fits, pair_made, bound_fits, bound_made, slots_fit, slots_made}
 use Rattle.gx_record.specs.Slots.{slots_in}
 use Rattle.gx_durable.specs.Classes.{change_of}
-use Rattle.gx_found_log.proofs.Changing.{fits_so, made_on, same_slots}
+use Rattle.gx_found_log.proofs.classes.Changing.{fits_so, made_on, same_slots}
 use Rattle.gx_found_log.proofs.classes.OfClassReadable.change.Goals as goal
 
 pub returns-in-SetMark-clause-fits : goal.returns-in-SetMark-clause-fits

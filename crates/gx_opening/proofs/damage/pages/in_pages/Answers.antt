@@ -3,7 +3,7 @@ use Rattle.std.specs.Prelude.{MatchOption}
 use Rattle.gx_node.specs.Reading.{format_of, is_node}
 use Rattle.gx_machine.specs.Keys.{Members}
 use Rattle.gx_class.specs.Traits.{traits_of}
-use Rattle.gx_opening.specs.Setting.{PagesFindAs}
+use Rattle.gx_opening.specs.Setting.{PagesFind}
 use Rattle.gx_opening.specs.Shown.{IsUnreadable}
 use Rattle.gx_opening.specs.Sound.{CanAllBeRead}
 use Rattle.gx_opening.proofs.damage.pages.in_pages.Goals as goal
@@ -23,5 +23,5 @@ returns-in-Ok-None-clause-finds g c = λ l same most honest others.
     let here : CanAllBeRead (is_node f c.args.pages) told.used start.seen =
     subst (λ n. CanAllBeRead (is_node f c.args.pages) n start.seen) c.used-used.ensures (subst (λ n. CanAllBeRead (is_node f n) c.used-used.result start.seen) pages shows) in
     let there = subst (λ (s : List ℕ). CanAllBeRead (is_node f c.args.pages) told.used s) (sym seen) here in
-    subst (λ (s : List ℕ). PagesFindAs shape (traits_of g.K.ReadKeys.is_proper g.K.ReadKeys.said g.K.KeyClass) g.row.D.Denot l c.args.pages c.args.most told s c.over_frames.result.1) seen
+    subst (λ (s : List ℕ). PagesFind shape (traits_of g.K.ReadKeys.is_proper g.K.ReadKeys.said g.K.KeyClass) g.row.D.Denot l c.args.pages c.args.most told s c.over_frames.result.1) seen
     (c.over_frames.ensures.finds l same most (read.honest ∙ honest) others there))

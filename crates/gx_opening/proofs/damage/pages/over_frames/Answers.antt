@@ -2,7 +2,7 @@ use Rattle.std.proofs.Common.{◌<◌, ap, sym, ◌∙◌, refl, subst}
 use Rattle.gx_machine.specs.Keys.{Members, keys_of, entry_cmp}
 use Rattle.gx_node.specs.Reading.{format_of, is_node}
 use Rattle.gx_opening.specs.Noting.{AreOfOthers}
-use Rattle.gx_opening.specs.Setting.{TreeFindsAs}
+use Rattle.gx_opening.specs.Setting.{TreeFinds}
 use Rattle.gx_opening.specs.Sound.{CanAllBeRead, IsShownSound, IsSteadyStore, shown_tree}
 use Rattle.gx_opening.proofs.Bridging.{first_sound}
 use Rattle.gx_opening.proofs.Sounding.{since_all}
@@ -42,7 +42,7 @@ returns-clause-finds g c = λ l same most_is honest others can.
     let first = is ∙ rw (c.used.ensures, c.counter.ensures) refl in
     let steady = subst (λ (x : Shelf g.row.D.Denot). IsSteadyStore f passes state x) (sym is) (c.a_store_starts.ensures.steady c.args.disk c.in-Ok.pool.frames 16 c.in-Ok.ensures.0 honest) in
     let there = subst (λ (x : Shelf g.row.D.Denot). CanAllBeRead (passes x.pages) x.used (state x.disk).seen) (sym first) can in
-    let finds = subst (λ touched. AreOfOthers (entry_cmp (keys_of shape)) touched → TreeFindsAs shape g.K.KeyClass state c.args.most touched s c.in_tree-found.result) c.touched.ensures c.in_tree-found.ensures.finds in
+    let finds = subst (λ touched. AreOfOthers (entry_cmp (keys_of shape)) touched → TreeFinds shape g.K.KeyClass state c.args.most touched s c.in_tree-found.result) c.touched.ensures c.in_tree-found.ensures.finds in
     pages_told f (rules_of shape c.args.most) (passes c.args.pages) told (state s.disk).seen (state c.args.disk).seen c.args.pages s
     (record { pages_are = ap (λ (x : Shelf g.row.D.Denot). x.pages) first; used = ap (λ (x : Shelf g.row.D.Denot). x.used) first; counter = ap (λ (x : Shelf g.row.D.Denot). x.counter) first; none = λ page. ap (λ (x : Shelf g.row.D.Denot). kept x.frames page) first ∙ none page })
     (ap (λ (x : Shelf g.row.D.Denot). (state x.disk).seen) first) c.requires.fits can

@@ -5,7 +5,7 @@ use Rattle.gx_pool.specs.Area.{IsPassing, bytes_of}
 use Rattle.gx_pool.specs.Bringing.{Answers, Refuted}
 use Rattle.gx_pool.specs.declared.fault.PoolFault.{PoolFault}
 use Rattle.gx_pool.proofs.Bringing.{only_read_joined, only_read_nothing}
-use Rattle.gx_opening.proofs.Coming.{came_passes}
+use Rattle.gx_opening.proofs.damage.pages.Coming.{came_passes}
 use Rattle.gx_opening.proofs.damage.pages.unreadable.Goals as goal
 
 pub loop-before-init : goal.loop-before-init

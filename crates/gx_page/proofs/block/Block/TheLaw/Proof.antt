@@ -13,7 +13,7 @@ use Rattle.std.specs.contracts.alloc.Global as heap
 use Rattle.std.proofs.alloc.Global.TheLaws as heap_laws
 use Rattle.std.specs.contracts.impls.GlobalAllocator.TheImpl.{ghosts}
 use Rattle.gx_page.specs.Ownership.{the_bytes, block_lends}
-use Rattle.gx_page.proofs.Memory.{bytes_laws}
+use Rattle.gx_page.proofs.block.Memory.{bytes_laws}
 use Rattle.gx_page.specs.contracts.block.Block as block
 use Rattle.gx_page.proofs.block.Block.TheLaw.Statement.{statement}
 

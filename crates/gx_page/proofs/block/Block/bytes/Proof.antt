@@ -23,9 +23,9 @@ use denote.Triple.Walked.{says, Stays, stay_dropped, walk_of, ends_at, Goes-drop
 use Rattle.std.proofs.VecSteps.Shapes.{after}
 use Rattle.std.proofs.raw_atomic.Walks.{proved}
 use Rattle.gx_page.specs.Ownership.{the_bytes}
-use Rattle.gx_page.proofs.Walks.{begins_with, lends}
-use Rattle.gx_page.proofs.Memory.{word, fields_tell}
-use Rattle.gx_page.proofs.Reached.{Fields, fields_copied, reaches}
+use Rattle.gx_page.proofs.block.Walks.{begins_with, lends}
+use Rattle.gx_page.proofs.block.Memory.{word, fields_tell}
+use Rattle.gx_page.proofs.block.Reached.{Fields, fields_copied, reaches}
 use Rattle.gx_page.specs.contracts.block.Block as block
 use Rattle.gx_page.specs.contracts.block.Block.bytes.{ended, clauses}
 use Rattle.gx_page.specs.contracts.block.Block.bytes.Key.{name as #self}

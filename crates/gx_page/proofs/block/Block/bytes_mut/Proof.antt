@@ -26,8 +26,8 @@ use Rattle.std.proofs.VecSteps.Shapes.{after}
 use Rattle.std.proofs.raw_atomic.Walks.{proved}
 use Rattle.gx_page.specs.Lending.{with_bytes}
 use Rattle.gx_page.specs.Ownership.{the_bytes}
-use Rattle.gx_page.proofs.Walks.{begins_with, lends}
-use Rattle.gx_page.proofs.Opened.{Rest, Lie, comes_apart, closes_over}
+use Rattle.gx_page.proofs.block.Walks.{begins_with, lends}
+use Rattle.gx_page.proofs.block.Opened.{Rest, Lie, comes_apart, closes_over}
 use Rattle.gx_page.specs.contracts.block.Block as block
 use Rattle.gx_page.specs.contracts.block.Block.bytes_mut.{ended, clauses}
 use Rattle.gx_page.specs.contracts.block.Block.bytes_mut.Key.{name as #self}

@@ -36,8 +36,8 @@ use Rattle.std.proofs.VecSteps.Shapes.{after}
 use Rattle.std.proofs.raw_atomic.Walks.{proved}
 use Rattle.gx_page.specs.Lending.{with_bytes}
 use Rattle.gx_page.specs.Ownership.{the_bytes}
-use Rattle.gx_page.proofs.Copies.{byte_put, Waits, written, copied_back, up_more}
-use Rattle.gx_page.proofs.Opened.{Rest, Lie, comes_apart, each_out}
+use Rattle.gx_page.proofs.block.Copies.{byte_put, Waits, written, copied_back, up_more}
+use Rattle.gx_page.proofs.block.Opened.{Rest, Lie, comes_apart, each_out}
 use Rattle.gx_page.specs.contracts.block.Block as block
 use Rattle.gx_page.specs.contracts.block.Block.move_up.{ended, clauses}
 use Rattle.gx_page.specs.contracts.block.Block.move_up.Key.{name as #self}

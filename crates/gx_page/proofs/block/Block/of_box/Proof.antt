@@ -37,8 +37,8 @@ use Rattle.std.specs.declared.alloc.Global.{Global}
 use Rattle.std.proofs.boxed.Box.into_raw_with_allocator.Met.{met}
 use Rattle.std.proofs.impls.GlobalAllocator.TheImpl.Met.{passed}
 use Rattle.gx_page.specs.Ownership.{block_owns}
-use Rattle.gx_page.proofs.Memory.{bytes_arg, bytes_arg_laws, heap_arg, heap_arg_laws, box_row, box_tells, block_tells, word, word_fits, pointer_fits, handle_fits}
-use Rattle.gx_page.proofs.Walks.{no_drop, drops_nothing, asked, answered, ends_with}
+use Rattle.gx_page.proofs.block.Memory.{bytes_arg, bytes_arg_laws, heap_arg, heap_arg_laws, box_row, box_tells, block_tells, word, word_fits, pointer_fits, handle_fits}
+use Rattle.gx_page.proofs.block.Walks.{no_drop, drops_nothing, asked, answered, ends_with}
 use Rattle.gx_page.specs.contracts.block.Block as block
 use Rattle.gx_page.specs.contracts.block.Block.of_box.{ended, clauses}
 use Rattle.gx_page.specs.contracts.block.Block.of_box.Key.{name as #self}

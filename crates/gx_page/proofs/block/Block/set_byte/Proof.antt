@@ -29,8 +29,8 @@ use Rattle.std.proofs.VecSteps.Shapes.{after}
 use Rattle.std.proofs.raw_atomic.Walks.{proved}
 use Rattle.gx_page.specs.Lending.{with_bytes}
 use Rattle.gx_page.specs.Ownership.{the_bytes}
-use Rattle.gx_page.proofs.Copies.{byte_put}
-use Rattle.gx_page.proofs.Opened.{Rest, Lie, comes_apart, closes_over, each_out, each_in}
+use Rattle.gx_page.proofs.block.Copies.{byte_put}
+use Rattle.gx_page.proofs.block.Opened.{Rest, Lie, comes_apart, closes_over, each_out, each_in}
 use Rattle.gx_page.specs.contracts.block.Block as block
 use Rattle.gx_page.specs.contracts.block.Block.set_byte.{ended, clauses}
 use Rattle.gx_page.specs.contracts.block.Block.set_byte.Key.{name as #self}

@@ -28,9 +28,9 @@ use denote.Triple.Walked.{says, Stays, stay_dropped, walk_of, ends_at, Goes-drop
 use Rattle.std.proofs.VecSteps.Shapes.{after}
 use Rattle.std.proofs.raw_atomic.Walks.{proved}
 use Rattle.gx_page.specs.Ownership.{the_bytes}
-use Rattle.gx_page.proofs.Walks.{gives_two}
-use Rattle.gx_page.proofs.Memory.{word, fields_tell}
-use Rattle.gx_page.proofs.Reached.{Fields, fields_copied, reaches, each_byte, drop_each, take_each}
+use Rattle.gx_page.proofs.block.Walks.{gives_two}
+use Rattle.gx_page.proofs.block.Memory.{word, fields_tell}
+use Rattle.gx_page.proofs.block.Reached.{Fields, fields_copied, reaches, each_byte, drop_each, take_each}
 use Rattle.gx_page.specs.contracts.block.Block as block
 use Rattle.gx_page.specs.contracts.block.Block.slice.{ended, clauses}
 use Rattle.gx_page.specs.contracts.block.Block.slice.Key.{name as #self}

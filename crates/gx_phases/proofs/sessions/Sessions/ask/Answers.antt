@@ -5,7 +5,7 @@ use Rattle.gx_events.specs.Happenings.{IsHappening}
 use Rattle.gx_phases.specs.States.{State, phase_at, engine_of, IsKept}
 use Rattle.gx_phases.specs.Asked.{begins, AskedAt, IsAsked, asked_event}
 use Rattle.gx_phases.proofs.Keeping.{at_kept}
-use Rattle.gx_phases.proofs.Parts.{of_parts, begun_at, asked_there}
+use Rattle.gx_phases.proofs.sessions.Parts.{of_parts, begun_at, asked_there}
 use Rattle.gx_phases.proofs.Asking.{ask_is_event}
 use Rattle.gx_phases.proofs.sessions.Sessions.ask.Goals as goal
 

@@ -5,7 +5,7 @@ use Rattle.gx_machine.specs.Keys.{keys}
 use Rattle.gx_machine.specs.Sessions.{Idle}
 use Rattle.gx_plain.specs.Index.{Index, AnswersIndex}
 use Rattle.gx_plain.proofs.IndexLaws.{kept_answer, index_with}
-use Rattle.gx_plain.proofs.AnswerLaws.{answers}
+use Rattle.gx_plain.proofs.index.AnswerLaws.{answers}
 use Rattle.gx_plain.proofs.index.PlainIndex.answer.Goals as goal
 
 pub answer_at-requires-clause-can_answer : goal.answer_at-requires-clause-can_answer

@@ -1,7 +1,7 @@
 use Rattle.std.proofs.lemmas.Grind.{common_steps}
 use Rattle.std.proofs.Common.{arith}
 use Rattle.gx_machine.specs.Keys.{keys}
-use Rattle.gx_plain.proofs.Parts.{commit_answered}
+use Rattle.gx_plain.proofs.slot.Parts.{commit_answered}
 use Rattle.gx_plain.proofs.slot.Slot.answer.Goals as goal
 
 pub returns-in-Committing-clause-answers : goal.returns-in-Committing-clause-answers

@@ -1,4 +1,4 @@
-use Rattle.gx_plain.proofs.Parts.{abort_asked}
+use Rattle.gx_plain.proofs.slot.Parts.{abort_asked}
 use Rattle.gx_plain.proofs.slot.Slot.ask_abort.Goals as goal
 
 pub returns-clause-session : goal.returns-clause-session

@@ -1,4 +1,4 @@
-use Rattle.gx_plain.proofs.Parts.{begun}
+use Rattle.gx_plain.proofs.slot.Parts.{begun}
 use Rattle.gx_plain.proofs.slot.Slot.ask_idle.Goals as goal
 
 pub returns-in-Begin-clause-session : goal.returns-in-Begin-clause-session

@@ -7,8 +7,8 @@ use Rattle.gx_machine.specs.Sets.{has, InOrder}
 use Rattle.gx_machine.proofs.SetLaws.{in_order_filter}
 use Rattle.gx_plain.specs.Slots.{TakesClaimed}
 use Rattle.gx_plain.specs.declared.slot.SlotPhase.TheVariants as phase
-use Rattle.gx_plain.proofs.Parts.{delete_seen}
-use Rattle.gx_plain.proofs.TakenAway.{takes_more, delete_fits, delete_claimed}
+use Rattle.gx_plain.proofs.slot.Parts.{delete_seen}
+use Rattle.gx_plain.proofs.slot.TakenAway.{takes_more, delete_fits, delete_claimed}
 use Rattle.gx_plain.proofs.slot.Slot.delete.Goals as goal
 
 pub include_within_capacity-requires : goal.include_within_capacity-requires

@@ -1,5 +1,5 @@
 use Rattle.std.proofs.Common.{rules}
-use Rattle.gx_plain.proofs.Parts.{adds_the_same}
+use Rattle.gx_plain.proofs.slot.Parts.{adds_the_same}
 use Rattle.gx_plain.proofs.slot.Slot.drop_call.Goals as goal
 
 pub returns-in-Open-Some-clause-drops : goal.returns-in-Open-Some-clause-drops

@@ -6,8 +6,8 @@ use Rattle.gx_machine.specs.Sets.{including, InOrder}
 use Rattle.gx_machine.proofs.SetLaws.{in_order_including}
 use Rattle.gx_plain.specs.Slots.{TakesClaimed}
 use Rattle.gx_plain.specs.declared.slot.SlotPhase.TheVariants as phase
-use Rattle.gx_plain.proofs.Parts.{insert_seen, insert_unseen}
-use Rattle.gx_plain.proofs.TakenAway.{takes_less}
+use Rattle.gx_plain.proofs.slot.Parts.{insert_seen, insert_unseen}
+use Rattle.gx_plain.proofs.slot.TakenAway.{takes_less}
 use Rattle.gx_plain.proofs.slot.Slot.insert.Goals as goal
 
 pub invariant_of-self-2 : goal.invariant_of-self-2

@@ -1,6 +1,6 @@
 use Rattle.std.proofs.Common.{ℕ, sym, subst, arith}
 use Rattle.gx_pool.specs.State.{State, IsWritable}
-use Rattle.gx_pool.proofs.Queues.{NoneBelow, least_ready, may_not, may_written, none_passed, none_ready, none_written}
+use Rattle.gx_pool.proofs.frames.Queues.{NoneBelow, least_ready, may_not, may_written, none_passed, none_ready, none_written}
 use Rattle.gx_pool.proofs.frames.Frames.dirty.Goals as goal
 
 pub returns-then-is_some-clause-found : goal.returns-then-is_some-clause-found

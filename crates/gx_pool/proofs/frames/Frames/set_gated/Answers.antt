@@ -1,5 +1,5 @@
 use Rattle.gx_pool.specs.State.{State}
-use Rattle.gx_pool.proofs.Queues.{sound_placed}
+use Rattle.gx_pool.proofs.frames.Queues.{sound_placed}
 use Rattle.gx_pool.proofs.frames.Frames.set_gated.Goals as goal
 
 pub tell-requires-clause-placed : goal.tell-requires-clause-placed

@@ -1,7 +1,7 @@
 use Rattle.std.proofs.Common.{◌∙◌, ◌<◌, ap, length, arith, length-set}
 use Rattle.gx_pool.specs.State.{State, mark_at, place_of}
 use Rattle.gx_pool.proofs.Places.{settled_sound}
-use Rattle.gx_pool.proofs.Queues.{settled_listed}
+use Rattle.gx_pool.proofs.frames.Queues.{settled_listed}
 use Rattle.gx_pool.proofs.frames.Frames.settle.Goals as goal
 
 pub invariant_of-self : goal.invariant_of-self

@@ -2,7 +2,7 @@ use Rattle.std.proofs.Common.{◌≡◌, ◌∙◌, ◌<◌, ap, length, arith, 
 use Rattle.std.specs.Prelude.{is_some}
 use Rattle.gx_pool.specs.State.{State, mark_at}
 use Rattle.gx_pool.proofs.Places.{named_inside, stamped_sound}
-use Rattle.gx_pool.proofs.Queues.{stamped_listed}
+use Rattle.gx_pool.proofs.frames.Queues.{stamped_listed}
 use Rattle.gx_pool.proofs.frames.Frames.stamp.Goals as goal
 
 pub list-requires : goal.list-requires

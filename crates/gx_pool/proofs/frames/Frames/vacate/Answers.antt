@@ -2,7 +2,7 @@ use Rattle.std.proofs.Common.{◌∙◌, get_or, ◌<◌, sym, ap, length, arith
 use Rattle.gx_pool.specs.Marks.{empty}
 use Rattle.gx_pool.specs.State.{State}
 use Rattle.gx_pool.proofs.Places.{vacated_sound, named_inside}
-use Rattle.gx_pool.proofs.Queues.{vacated_listed}
+use Rattle.gx_pool.proofs.frames.Queues.{vacated_listed}
 use Rattle.gx_pool.proofs.frames.Frames.vacate.Goals as goal
 
 pub forget-requires : goal.forget-requires

@@ -2,7 +2,7 @@ use Rattle.std.proofs.Common.{◌∙◌, sym, arith}
 use Rattle.gx_pool.specs.State.{State}
 use Rattle.gx_pool.proofs.Places.{empty_sound}
 use Rattle.gx_pool.proofs.Numbers.{empty_counted}
-use Rattle.gx_pool.proofs.Queues.{empty_listed}
+use Rattle.gx_pool.proofs.frames.Queues.{empty_listed}
 use Rattle.gx_pool.proofs.frames.Frames.with_capacity.Goals as goal
 
 pub invariant_of-result : goal.invariant_of-result

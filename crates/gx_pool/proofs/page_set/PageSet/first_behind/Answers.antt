@@ -1,5 +1,5 @@
 use Rattle.std.proofs.Common.{◌*◌, length}
-use Rattle.gx_pool.proofs.PageSets.{least_later}
+use Rattle.gx_pool.proofs.page_set.PageSets.{least_later}
 use Rattle.gx_pool.proofs.page_set.PageSet.first_behind.Goals as goal
 
 pub returns-in-Some-clause-found : goal.returns-in-Some-clause-found

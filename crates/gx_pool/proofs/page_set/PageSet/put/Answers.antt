@@ -1,5 +1,5 @@
 use Rattle.std.proofs.Common.{◌∙◌}
-use Rattle.gx_pool.proofs.PageSets.{put_grouped, put_pages}
+use Rattle.gx_pool.proofs.page_set.PageSets.{put_grouped, put_pages}
 use Rattle.gx_pool.proofs.page_set.PageSet.put.Goals as goal
 
 pub invariant_of-self : goal.invariant_of-self

@@ -1,6 +1,6 @@
 use Rattle.std.proofs.Common.{◌≡◌, ◌∙◌, ◌/◌, ◌<◌, length, get_or, arith}
 use Rattle.std.proofs.lemmas.List.{get_or_default}
-use Rattle.gx_pool.proofs.PageSets.{kept_grouped, read_zero, taken_grouped, taken_pages}
+use Rattle.gx_pool.proofs.page_set.PageSets.{kept_grouped, read_zero, taken_grouped, taken_pages}
 use Rattle.gx_pool.proofs.page_set.PageSet.take.Goals as goal
 
 pub invariant_of-self : goal.invariant_of-self

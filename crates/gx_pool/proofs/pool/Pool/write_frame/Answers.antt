@@ -2,7 +2,7 @@ use Rattle.std.proofs.Common.{◌∙◌, ap, refl}
 use Rattle.std.proofs.lemmas.Result.{err_from_is_err_and}
 use Rattle.gx_page.specs.Format.{image_of}
 use Rattle.gx_geom.specs.declared.refusal.Refusal.{Refusal}
-use Rattle.gx_pool.proofs.Writing.{wrote_err, wrote_ok}
+use Rattle.gx_pool.proofs.pool.Writing.{wrote_err, wrote_ok}
 use Rattle.gx_pool.proofs.pool.Pool.write_frame.Goals as goal
 
 pub stamp-requires-clause-page : goal.stamp-requires-clause-page

@@ -4,8 +4,8 @@ use Rattle.gx_pool.specs.Marks.{is_gated}
 use Rattle.gx_pool.specs.State.{frame_at, stamp_of}
 use Rattle.gx_pool.proofs.Gated.{rest_keeps_area, write_keeps_area}
 use Rattle.gx_pool.proofs.Readable.{write_keeps_readable}
-use Rattle.gx_pool.proofs.Writing.{rest_at_most, write_at_most}
-use Rattle.gx_pool.proofs.Keeping.{rest_keeps_shown, write_keeps_passing, write_keeps_shown}
+use Rattle.gx_pool.proofs.pool.Writing.{rest_at_most, write_at_most}
+use Rattle.gx_pool.proofs.pool.Keeping.{rest_keeps_shown, write_keeps_passing, write_keeps_shown}
 use Rattle.gx_pool.proofs.Places.{gated_stamp, kept_none, kept_some, placed_gated}
 use Rattle.gx_pool.proofs.pool.Pool.write_page.Goals as goal
 

@@ -1,6 +1,6 @@
 use Rattle.std.proofs.Common.{insert}
 use Rattle.gx_recovery.specs.Kept.{ClosesOne}
-use Rattle.gx_recovery.proofs.Searching.{one_more}
+use Rattle.gx_recovery.proofs.closed.Searching.{one_more}
 use Rattle.gx_recovery.proofs.closed.Closed.add.Goals as goal
 
 pub returns-in-Err : goal.returns-in-Err

@@ -1,5 +1,5 @@
 use Rattle.std.proofs.Common.{◌∙◌}
-use Rattle.gx_restart.proofs.Exhausting.{settles_then}
+use Rattle.gx_restart.proofs.settle.Exhausting.{settles_then}
 use Rattle.gx_restart.proofs.Going.{told_then}
 use Rattle.gx_restart.proofs.index.Index.exhaust_both.Goals as goal
 

@@ -1,7 +1,7 @@
 use Rattle.std.proofs.Common.{refl, ◌∙◌, ap, sym, false}
 use Rattle.gx_restart.specs.States.{State}
 use Rattle.gx_restart.proofs.Alone.{runs_same, settled_by}
-use Rattle.gx_restart.proofs.Settling.{settles_keeps, settles_rests_on}
+use Rattle.gx_restart.proofs.settle.Settling.{settles_keeps, settles_rests_on}
 use Rattle.gx_restart.proofs.index.Index.settle.Goals as goal
 
 pub returns-then-self-clause-settles : goal.returns-then-self-clause-settles

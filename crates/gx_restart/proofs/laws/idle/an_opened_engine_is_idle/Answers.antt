@@ -1,4 +1,4 @@
-use Rattle.gx_restart.proofs.Idle.{opened_idle}
+use Rattle.gx_restart.proofs.laws.idle.Idle.{opened_idle}
 use Rattle.gx_restart.proofs.laws.idle.an_opened_engine_is_idle.Goals as goal
 
 pub returns : goal.returns

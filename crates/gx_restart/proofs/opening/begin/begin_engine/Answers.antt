@@ -6,7 +6,7 @@ use Rattle.gx_recovery.specs.Damage.{records_of}
 use Rattle.gx_recovery.proofs.DamageItems.{bodies_log}
 use Rattle.gx_store.specs.Faults.{refusal_fails}
 use Rattle.gx_opening.specs.Standing.{known_for, limits_of}
-use Rattle.gx_restart.proofs.Closing.{begun_so, not_begun, starts_quietly}
+use Rattle.gx_restart.proofs.opening.begin.Closing.{begun_so, not_begun, starts_quietly}
 use Rattle.gx_restart.proofs.opening.begin.begin_engine.Goals as goal
 
 pub returns-in-Err-clause-begun : goal.returns-in-Err-clause-begun

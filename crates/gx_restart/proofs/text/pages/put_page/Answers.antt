@@ -5,7 +5,7 @@ use Rattle.gx_node.specs.Store.{node_of}
 use Rattle.gx_script.specs.Corners.{grammar}
 use Rattle.gx_script.proofs.WriteLemmas.{cut_more, put_cut, put_then}
 use Rattle.gx_restart.specs.Text.{node_text}
-use Rattle.gx_restart.proofs.Nodes.{told_inner}
+use Rattle.gx_restart.proofs.text.pages.Nodes.{told_inner}
 use Rattle.gx_restart.proofs.Texts.{line_put, stop_as, told_as_inner, told_as_leaf}
 use Rattle.gx_restart.proofs.text.pages.put_page.Goals as goal
 

@@ -7,7 +7,7 @@ use Rattle.gx_script.specs.Corners.{grammar}
 use Rattle.gx_script.specs.Writes.{IsCut, IsPut}
 use Rattle.gx_restart.specs.declared.text.stop.Stop.TheVariants as stop
 use Rattle.gx_restart.specs.Text.{node_text}
-use Rattle.gx_restart.proofs.Ending.{only_write, read_ends}
+use Rattle.gx_restart.proofs.text.tree.Ending.{only_write, read_ends}
 use Rattle.gx_restart.proofs.Bringing.{all_read, all_used, brings, helps, read_keeps, read_run}
 use Rattle.gx_restart.proofs.Reading.{nothing_read}
 use Rattle.gx_restart.proofs.Telling.{all_told, head_cut, head_told, last_cut, later, one_more, page_cut, page_told, stopped}

@@ -4,7 +4,7 @@ use Rattle.gx_durable.specs.Classes.{class_of}
 use Rattle.gx_node.specs.Trees.{Tree}
 use Rattle.gx_restart.specs.Sizes.{live_on, live_up_to}
 use Rattle.gx_restart.proofs.Bringing.{all_used, brings, helps}
-use Rattle.gx_restart.proofs.Counting.{one_page_more}
+use Rattle.gx_restart.proofs.verification.entries.Counting.{one_page_more}
 use Rattle.gx_restart.proofs.Telling.{later, one_more}
 use Rattle.gx_restart.proofs.verification.entries.count_entries.Goals as goal
 

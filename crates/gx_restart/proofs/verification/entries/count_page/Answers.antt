@@ -5,7 +5,7 @@ use Rattle.std.proofs.lemmas.List.{length-map}
 use Rattle.gx_node.specs.Reading.{format_of, inner_of, leaf_of, pair_of}
 use Rattle.gx_node.specs.Trees.{Node}
 use Rattle.gx_restart.specs.Sizes.{live_on}
-use Rattle.gx_restart.proofs.Counting.{few_pass}
+use Rattle.gx_restart.proofs.verification.entries.Counting.{few_pass}
 use Rattle.gx_restart.proofs.verification.entries.count_page.Goals as goal
 
 pub returns-then-level-eq0-clause-live : goal.returns-then-level-eq0-clause-live

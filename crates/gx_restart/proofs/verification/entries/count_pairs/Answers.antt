@@ -1,7 +1,7 @@
 use Rattle.std.proofs.Common.{◌≤◌, ◌+◌, ◌<◌, not, length, ap, ◌∙◌, arith}
 use Rattle.std.proofs.lemmas.List.{take_all}
 use Rattle.gx_node.specs.Lists.{how_many}
-use Rattle.gx_restart.proofs.Counting.{one_slot_more}
+use Rattle.gx_restart.proofs.verification.entries.Counting.{one_slot_more}
 use Rattle.gx_restart.proofs.verification.entries.count_pairs.Goals as goal
 
 pub loop-slot-preserved : goal.loop-slot-preserved

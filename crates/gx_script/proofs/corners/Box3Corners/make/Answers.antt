@@ -1,5 +1,5 @@
 use Rattle.std.proofs.Common.{arith}
-use Rattle.gx_script.proofs.CornerLemmas.{short_stored, solid_is_made}
+use Rattle.gx_script.proofs.corners.CornerLemmas.{short_stored, solid_is_made}
 use Rattle.gx_script.proofs.corners.Box3Corners.make.Goals as goal
 
 pub returns : goal.returns

@@ -1,6 +1,6 @@
 use Rattle.std.proofs.Common.{refl, vec_capacity}
 use Rattle.gx_machine.specs.Keys.{keys}
-use Rattle.gx_shared.proofs.Keeping.{kept_work, hold_work}
+use Rattle.gx_shared.proofs.book.Keeping.{kept_work, hold_work}
 use Rattle.gx_shared.proofs.book.Book.apply.Goals as goal
 
 pub invariant_of-self : goal.invariant_of-self

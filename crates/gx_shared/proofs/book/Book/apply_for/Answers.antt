@@ -1,7 +1,7 @@
 use Rattle.gx_machine.specs.Keys.{keys}
 use Rattle.gx_events.specs.declared.event.Event.{Event}
 use Rattle.gx_shared.specs.Books.{IsHold, IsMade}
-use Rattle.gx_shared.proofs.Made.{as_asked, as_moved}
+use Rattle.gx_shared.proofs.book.Made.{as_asked, as_moved}
 use Rattle.gx_shared.proofs.book.Book.apply_for.Goals as goal
 
 pub returns-in-Ask : goal.returns-in-Ask

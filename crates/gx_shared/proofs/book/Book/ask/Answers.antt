@@ -13,8 +13,8 @@ use Rattle.gx_events.specs.Work.{replied}
 use Rattle.gx_shared.specs.Calls.{HasRoom}
 use Rattle.gx_shared.specs.Books.{IsHold, IsMade, is_made}
 use Rattle.gx_shared.proofs.Opening.{asked_more, ask_finds_none, asked_stays_open, handed_same}
-use Rattle.gx_shared.proofs.Keeping.{kept_ask, hold_ask, hold_lacks_room, total_fits, two_items, counted_on, fits_on}
-use Rattle.gx_shared.proofs.Made.{asked_alone, told_alone}
+use Rattle.gx_shared.proofs.book.Keeping.{kept_ask, hold_ask, hold_lacks_room, total_fits, two_items, counted_on, fits_on}
+use Rattle.gx_shared.proofs.book.Made.{asked_alone, told_alone}
 use Rattle.gx_shared.proofs.book.Book.ask.Goals as goal
 
 pub returns-then-not-has_room-clause-hold : goal.returns-then-not-has_room-clause-hold

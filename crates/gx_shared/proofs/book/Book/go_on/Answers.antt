@@ -13,8 +13,8 @@ use Rattle.gx_events.specs.Items.{items_of, items_sealed}
 use Rattle.gx_events.specs.Work.{replied}
 use Rattle.gx_shared.specs.Books.{IsHold, IsMade, is_fault, is_made, is_unrecorded}
 use Rattle.gx_shared.proofs.Opening.{ended, moved_items, handed_ends}
-use Rattle.gx_shared.proofs.Keeping.{kept_move, hold_move, hold_full, total_fits, one_more, opened_some, closes_right, sealed_same, sealed_fits, counted_on, sealed_counts}
-use Rattle.gx_shared.proofs.Made.{moved_alone, told_alone}
+use Rattle.gx_shared.proofs.book.Keeping.{kept_move, hold_move, hold_full, total_fits, one_more, opened_some, closes_right, sealed_same, sealed_fits, counted_on, sealed_counts}
+use Rattle.gx_shared.proofs.book.Made.{moved_alone, told_alone}
 use Rattle.gx_shared.proofs.book.Book.go_on.Goals as goal
 
 pub invariant_of-self : goal.invariant_of-self

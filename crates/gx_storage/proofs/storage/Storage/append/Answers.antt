@@ -1,7 +1,7 @@
 use Rattle.std.proofs.Common.{refl}
 use Rattle.gx_record.specs.Seen.{rec_of}
 use Rattle.gx_storage.specs.State.{Volume}
-use Rattle.gx_storage.proofs.Unpaged.{record_keeps}
+use Rattle.gx_storage.proofs.flusher.Unpaged.{record_keeps}
 use Rattle.gx_storage.proofs.storage.Storage.append.Goals.{in-At, in-NoRoom}
 use Rattle.gx_storage.proofs.storage.Storage.append.Goals as goal
 

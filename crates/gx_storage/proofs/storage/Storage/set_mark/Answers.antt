@@ -13,7 +13,7 @@ use Rattle.gx_storage.specs.Setting.{tree_at}
 use Rattle.gx_storage.specs.Small.{mark_room}
 use Rattle.gx_storage.specs.State.{Volume}
 use Rattle.gx_storage.proofs.Recording.{nodes_of}
-use Rattle.gx_storage.proofs.Marking.{found_here, marked_since, unmarked_right, unmarked_stays}
+use Rattle.gx_storage.proofs.changes.set_mark.Marking.{found_here, marked_since, unmarked_right, unmarked_stays}
 use Rattle.gx_storage.proofs.SmallMarks.{logged_marked}
 use Rattle.gx_storage.proofs.Writing.{begun_is, has_room_then, on_err, stepped, steady_begun, unlogged, unstepped}
 use Rattle.gx_storage.proofs.storage.Storage.set_mark.Goals as goal

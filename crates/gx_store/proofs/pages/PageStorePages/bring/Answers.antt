@@ -6,7 +6,7 @@ use Rattle.gx_store.specs.State.{Shelf}
 use Rattle.gx_store.specs.Faults.{told_of}
 use Rattle.gx_node.specs.Owner.{Brings}
 use Rattle.gx_store.proofs.Asking.{bringing_moves, moves_joined}
-use Rattle.gx_store.proofs.Bringing.{brought_in_order, brought_nodes, fetched, fits_device, on_ok}
+use Rattle.gx_store.proofs.pages.Bringing.{brought_in_order, brought_nodes, fetched, fits_device, on_ok}
 use Rattle.gx_store.proofs.Going.{since_joined, why_later}
 use Rattle.gx_store.proofs.Listed.{taken_pages}
 use Rattle.gx_store.proofs.pages.PageStorePages.bring.Goals as goal

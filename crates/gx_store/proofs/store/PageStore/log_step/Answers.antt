@@ -3,7 +3,7 @@ use Rattle.gx_node.specs.Reading.{format_of, is_node}
 use Rattle.gx_pool.specs.State.{State}
 use Rattle.gx_durable.specs.Steps.{told_frames}
 use Rattle.gx_store.specs.State.{IsInOrder}
-use Rattle.gx_store.proofs.Calling.{step_in_order}
+use Rattle.gx_store.proofs.calls.Calling.{step_in_order}
 use Rattle.gx_store.proofs.store.PageStore.log_step.Goals as goal
 
 pub invariant_of-self : goal.invariant_of-self

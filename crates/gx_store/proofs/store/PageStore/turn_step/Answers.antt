@@ -3,7 +3,7 @@ use Rattle.gx_node.specs.Reading.{format_of, is_node}
 use Rattle.gx_pool.specs.State.{State}
 use Rattle.gx_durable.specs.Turns.{told_result}
 use Rattle.gx_store.specs.State.{IsInOrder}
-use Rattle.gx_store.proofs.Calling.{turn_in_order}
+use Rattle.gx_store.proofs.calls.Calling.{turn_in_order}
 use Rattle.gx_store.proofs.store.PageStore.turn_step.Goals as goal
 
 pub invariant_of-self : goal.invariant_of-self

@@ -5,7 +5,7 @@ use Rattle.gx_node.specs.Reading.{format_of, is_node}
 use Rattle.gx_pool.specs.Laws.{IsPassed}
 use Rattle.gx_pool.specs.Readable.{IsReadable}
 use Rattle.gx_store.specs.Faults.{is_taken}
-use Rattle.gx_store.proofs.Calling.{none_gated, none_there, write_in_order}
+use Rattle.gx_store.proofs.calls.Calling.{none_gated, none_there, write_in_order}
 use Rattle.gx_store.proofs.store.PageStore.write_page.Goals as goal
 use Rattle.gx_store.proofs.store.PageStore.write_page.Goals.{then-page-eq0-via-then-page-eq0, then-page-eq0-via-else-page-eq0+then-page-self}
 

@@ -1,6 +1,6 @@
 use Rattle.gx_machine.specs.declared.query.Query.TheVariants.{Overlap, Within, Equal, Covers}
 use Rattle.gx_machine.specs.Keys.{IsLawful, keys}
-use Rattle.gx_txn.proofs.Tabled.{any_of_keys}
+use Rattle.gx_txn.proofs.claims.Tabled.{any_of_keys}
 use Rattle.gx_txn.proofs.claims.Claims.any_matching.Goals as goal
 
 pub returns-in-Overlap : goal.returns-in-Overlap

@@ -1,7 +1,7 @@
 use Rattle.std.proofs.Common.{ap, sym, ◌∙◌}
 use Rattle.gx_machine.specs.Keys.{IsLawful, keys}
 use Rattle.gx_machine.specs.Sets.{has}
-use Rattle.gx_txn.proofs.Tabled.{unmarked_lacks}
+use Rattle.gx_txn.proofs.claims.Tabled.{unmarked_lacks}
 use Rattle.gx_txn.proofs.claims.Claims.has.Goals as goal
 
 pub returns-else-has : goal.returns-else-has

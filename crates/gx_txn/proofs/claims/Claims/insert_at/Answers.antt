@@ -2,7 +2,7 @@ use Rattle.std.proofs.lemmas.Grind.{common_steps}
 use Rattle.std.proofs.Common.{List, ap, sym, subst, length, arith}
 use Rattle.gx_machine.specs.declared.entry.Entry.{Entry}
 use Rattle.gx_txn.specs.Claimed.{IsTabled}
-use Rattle.gx_txn.proofs.Tabled.{tabled_with}
+use Rattle.gx_txn.proofs.claims.Tabled.{tabled_with}
 use Rattle.gx_txn.proofs.claims.Claims.insert_at.Goals as goal
 
 pub invariant_of-self : goal.invariant_of-self

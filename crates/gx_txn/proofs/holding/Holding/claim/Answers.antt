@@ -1,6 +1,6 @@
 use Rattle.std.proofs.Common.{arith, rules}
 use Rattle.gx_machine.specs.Keys.{IsLawful, keys}
-use Rattle.gx_txn.proofs.Keeping.{claim_put}
+use Rattle.gx_txn.proofs.holding.Keeping.{claim_put}
 use Rattle.gx_txn.proofs.holding.Holding.claim.Goals as goal
 
 pub invariant_of-self : goal.invariant_of-self

@@ -1,7 +1,7 @@
 use Rattle.std.proofs.lemmas.Grind.{common_steps}
 use Rattle.std.proofs.Common.{arith}
 use Rattle.gx_machine.specs.Keys.{IsLawful, keys}
-use Rattle.gx_txn.proofs.Keeping.{note_put, room_for_note, found_in, changed_in}
+use Rattle.gx_txn.proofs.holding.Keeping.{note_put, room_for_note, found_in, changed_in}
 use Rattle.gx_txn.proofs.holding.Holding.note.Goals as goal
 
 pub insert_at-requires-clause-room : goal.insert_at-requires-clause-room

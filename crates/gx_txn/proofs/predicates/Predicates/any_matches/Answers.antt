@@ -1,5 +1,5 @@
 use Rattle.gx_machine.specs.Keys.{keys}
-use Rattle.gx_txn.proofs.ByKind.{any_of_kinds}
+use Rattle.gx_txn.proofs.predicates.ByKind.{any_of_kinds}
 use Rattle.gx_txn.proofs.predicates.Predicates.any_matches.Goals as goal
 
 pub returns : goal.returns

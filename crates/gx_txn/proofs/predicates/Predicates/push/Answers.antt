@@ -2,7 +2,7 @@ use Rattle.std.proofs.Common.{sym, arith}
 use Rattle.std.proofs.lemmas.List.{append-nil}
 use Rattle.gx_machine.specs.declared.limits.TheConstants.{MAX_PREDICATES}
 use Rattle.gx_machine.specs.declared.query.Query.TheVariants.{Overlap, Within, Equal, Covers}
-use Rattle.gx_txn.proofs.ByKind.{with_one, room_of_each}
+use Rattle.gx_txn.proofs.predicates.ByKind.{with_one, room_of_each}
 use Rattle.gx_txn.proofs.predicates.Predicates.push.Goals as goal
 
 pub put_last-requires-in-Overlap : goal.put_last-requires-in-Overlap

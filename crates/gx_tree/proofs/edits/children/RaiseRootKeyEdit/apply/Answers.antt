@@ -1,5 +1,5 @@
 use Rattle.gx_node.specs.Reading.{format_of}
-use Rattle.gx_tree.proofs.Raised.{raised_page}
+use Rattle.gx_tree.proofs.edits.children.Raised.{raised_page}
 use Rattle.gx_tree.proofs.edits.children.RaiseRootKeyEdit.apply.Goals as goal
 
 pub append-requires-clause-inner : goal.append-requires-clause-inner

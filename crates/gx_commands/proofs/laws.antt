@@ -1,0 +1,3 @@
+pub mod Dumped
+pub mod Durably
+pub mod Saying

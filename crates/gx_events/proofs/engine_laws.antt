@@ -1,0 +1,2 @@
+pub mod Meanwhile
+pub mod WorkedEvents

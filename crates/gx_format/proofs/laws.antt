@@ -1,0 +1,3 @@
+pub mod LaidDown
+pub mod LayingPhases
+pub mod Wrote

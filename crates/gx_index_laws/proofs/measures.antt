@@ -1,0 +1,4 @@
+pub mod Chores
+pub mod Freed
+pub mod Others
+pub mod Unfreed

@@ -1,0 +1,9 @@
+pub mod Fitting
+pub mod Kept
+pub mod Later
+pub mod Lived
+pub mod OneRun
+pub mod Readings
+pub mod Serially
+pub mod Told
+pub mod Unchanged

@@ -1,0 +1,3 @@
+pub mod AloneRuns
+pub mod SerialRuns
+pub mod WorkedRun

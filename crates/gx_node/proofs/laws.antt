@@ -1,0 +1,4 @@
+pub mod Gathered
+pub mod SmallKeeps
+pub mod SmallNodes
+pub mod SmallPages

@@ -1,0 +1,2 @@
+pub mod InReach
+pub mod Rightlinks

@@ -1,0 +1,4 @@
+pub mod Tested
+pub mod WorkedLook
+pub mod WorkedSteps
+pub mod WorkedTrees

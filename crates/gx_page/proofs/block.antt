@@ -1,0 +1,5 @@
+pub mod Copies
+pub mod Memory
+pub mod Opened
+pub mod Reached
+pub mod Walks

@@ -1,0 +1,2 @@
+pub mod Exhausting
+pub mod Settling

@@ -1,0 +1,3 @@
+pub mod PrintedLemmas
+pub mod RequestLemmas
+pub mod TextLemmas
