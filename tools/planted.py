@@ -33,15 +33,16 @@ from kit import KIT, TOP, libraries, words
 
 FUNCTION = re.compile(r"^( *)(?:pub(?:\(\w+\))? )?(?:const )?(?:unsafe )?(?:extern \"C\" )?fn (\w+)")
 CONSTANT = re.compile(r"^ *(?:pub(?:\(\w+\))? )?const (\w+):")
-IMPL = re.compile(r"^impl(?:<.*?>)? (?:(?P<of>[\w:]+)(?:<.*>)? for )?(?P<type>[\w:]+)")
+IMPL = re.compile(r"^impl(?:<.*?>)? (?:(?P<of>[\w:]+)(?:<(?P<at>[^<>]*)[<>].*)? for )?(?P<type>[\w:]+)")
 PROOF = re.compile(r"^(?:note: )?(?:\./)?(proofs|src)/(\S+?):(\d+):\d+: error(?:\[\w)?")
 STALE = re.compile(r"has no field|is not in scope|has no `|was not admitted")
 UNREAD = re.compile(r"\berror\[[\w-]+\]")
 VERDICT = re.compile(r"^fn \w+::(\S+): (.*)$", re.M)
 # A function that isn't proved since one that it calls isn't.
 CALLS = re.compile(r"it calls|which has no proof")
-# How many bytes of memory a check has to find free.
+# How many bytes of memory a check has to find free, and how many edits it tries at most, since it takes more with each.
 OF_CHECK = 3 << 30
+AT_ONCE = 6
 
 
 @dataclasses.dataclass
@@ -112,6 +113,8 @@ def function_at(lines, at, file):
         impl = next(filter(None, (IMPL.match(it) for it in reversed(lines[:first]))), None)
         if impl:
             within = impl["type"].split("::")[-1] + (impl["of"] or "").split("::")[-1]
+            # (a parameter of the impl isn't named)
+            within += "".join(it[:1].upper() + it[1:] for it in (impl["at"] or "").split("::") if len(it) > 1)
     return (head[2] if within in ("lib", "main") else f"{within}::{head[2]}"), first + 1, last + 1
 
 
@@ -160,7 +163,7 @@ class Crate:
             alone = edit.is_alone or None in edit.functions
             if alone and not chosen:
                 return [edit]
-            if not alone and taken.isdisjoint(edit.functions) and taken.isdisjoint(edit.apart):
+            if not alone and len(chosen) < AT_ONCE and taken.isdisjoint(edit.functions) and taken.isdisjoint(edit.apart):
                 chosen.append(edit)
                 taken.update(edit.functions)
         return chosen

@@ -225,8 +225,9 @@ class Pipes(Case):
         run = subprocess.Popen([PROGRAM, "run", self.path],
                                stdin=subprocess.PIPE, stdout=subprocess.PIPE)
         assert run.stdin and run.stdout
+        # (more answers than a pipe holds)
         run.stdin.write(b"1 BEGIN\n1 DELETE 0 0 0 5 0\n"
-                        b"1 OVERLAP %d %d %d %d\n" % PLANE)
+                        + b"1 OVERLAP %d %d %d %d\n" % PLANE * 10)
         run.stdin.flush()
         self.assertEqual(run.stdout.readline(), b"1 ok\n")
         run.stdout.close()

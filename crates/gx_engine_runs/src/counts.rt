@@ -1,5 +1,6 @@
 //! How often each thing came.
 use crate::fault::RunFault;
+use crate::parts::{Part, print_parts};
 use gx_events::{Event, Need, Outcome};
 
 /// How often each thing came in a run.
@@ -68,7 +69,10 @@ impl Counts {
             ("commits", self.commits),
         ];
         for (name, number) in named.iter() {
-            print!(rt; ", {name} {number}")?;
+            print_parts(
+                rt,
+                &[Part::Text(", "), Part::Text(name), Part::Number(*number)],
+            )?;
         }
         Ok(())
     }

@@ -78,7 +78,7 @@ fn draw_page<K: Drawn>(beside: &Beside<K>, draw: &mut Pcg32) -> u32 {
 }
 
 /// The event that helps.
-pub(crate) fn helping<B>(need: Need) -> Event<B> {
+fn helping<B>(need: Need) -> Event<B> {
     match need {
         Need::Log => Event::LogStep,
         Need::Write(page) => Event::WritePage(page),

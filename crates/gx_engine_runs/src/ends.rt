@@ -7,7 +7,6 @@ use crate::drawn::{draw_run, session_of};
 use crate::fault::RunFault;
 use crate::keys::Drawn;
 use gx_disk::{Fuse, FuseDisk, MemDisk, SectorDisk, Torn};
-use gx_engine::NotOpened;
 use gx_engine_events::new_index;
 use gx_events::{Event, Outcome};
 use gx_format::sectors_for;
@@ -41,13 +40,14 @@ pub(crate) enum Left {
     Torn,
 }
 
-/// The call of the device that fails, how often, and whether it is made none the less.
+/// How often a call of the device fails, whether it is made none the less, and what a crash then leaves.
+pub(crate) type Way = (Fuse, bool, Left);
+
+/// The call of the device that fails, and how.
 #[derive(Clone, Copy)]
 pub(crate) struct Failing {
     pub(crate) call: u64,
-    pub(crate) fuse: Fuse,
-    pub(crate) is_done: bool,
-    pub(crate) left: Left,
+    pub(crate) way: Way,
 }
 
 impl Failing {
@@ -55,9 +55,7 @@ impl Failing {
     pub(crate) fn never() -> Failing {
         Failing {
             call: u64::MAX,
-            fuse: Fuse::Once,
-            is_done: false,
-            left: Left::New,
+            way: (Fuse::Once, false, Left::New),
         }
     }
 }
@@ -171,66 +169,61 @@ fn refuses_all<K: Drawn>(beside: &mut Beside<K>) -> Result<(), RunFault> {
     Ok(())
 }
 
-/// The device has the set of a commit, from the last that was acknowledged to the last that was sealed.
-fn judge<K: Drawn>(
+/// Makes a random run up to its end, or to a call of the device that fails. Returns whether all were made.
+fn run_to_end<K: Drawn>(beside: &mut Beside<K>, setting: Setting) -> Result<bool, RunFault> {
+    let mut draw = Pcg32::new(setting.seed, 11);
+    if draw_run(beside, &mut draw, setting.steps)? && settle(beside)? {
+        return Ok(true);
+    }
+    refuses_all(beside)?;
+    Ok(false)
+}
+
+/// After a crash the device has the set of a commit, from the last that was acknowledged to the last that was sealed.
+fn judge(
     alloc: Global,
-    beside: Beside<K>,
+    mut ended: Ended,
+    class: u16,
     is_whole: bool,
     left: Left,
 ) -> Result<End, RunFault> {
-    let Ended {
-        mut disk,
-        sets,
-        sealed,
-        acknowledged,
-        counts,
-    } = beside.into_ended();
-    left.crash(&mut disk);
-    let found = read_back(alloc, &mut disk, K::CLASS)?;
-    if found.number < acknowledged || sealed < found.number {
+    left.crash(&mut ended.disk);
+    let found = read_back(alloc, &mut ended.disk, class)?;
+    if found.number < ended.acknowledged || ended.sealed < found.number {
         return Err(RunFault::Number(found.number));
     }
-    sets.stands(found.number, &found.set)?;
+    ended.sets.stands(found.number, &found.set)?;
     Ok(End {
         is_whole,
-        is_last: found.number == acknowledged,
-        counts,
+        is_last: found.number == ended.acknowledged,
+        counts: ended.counts,
     })
 }
 
-/// A new index on a new device, of which a call fails. `None` where it fails while the index is laid down.
+/// A new index on a new device, of which a call fails.
 pub(crate) fn begin_run<K: Drawn>(
     alloc: Global,
     setting: Setting,
     failing: Failing,
-) -> Result<Option<Beside<K>>, RunFault> {
+) -> Result<Beside<K>, RunFault> {
     let sectors = usize::try_from(sectors_for(PAGES)).unwrap_or(0);
     let disk = MemDisk::new(alloc, sectors)?;
-    let fused = FuseDisk::new(disk, failing.call, failing.fuse, failing.is_done);
+    let (fuse, is_done, _) = failing.way;
+    let fused = FuseDisk::new(disk, failing.call, fuse, is_done);
     let Setting { most, frames, .. } = setting;
     match new_index::<FuseDisk<MemDisk>, K>(alloc, fused, PAGES, most, frames) {
-        Ok(events) => Ok(Some(Beside::new(alloc, events.into_inner())?)),
-        Err(
-            NotOpened {
-                why: Refusal::Device,
-                disk: _,
-            },
-        ) => Ok(None),
+        Ok(events) => Beside::new(alloc, events.into_inner()),
         Err(refused) => Err(RunFault::NotBegun(refused.why)),
     }
 }
 
-/// Makes a random run, on a new index, up to its end or to a call that fails, and reads what the device then has.
+/// Makes a random run up to its end or to a call that fails, and reads what the device then has.
 pub(crate) fn make_run<K: Drawn>(
     alloc: Global,
     mut beside: Beside<K>,
     setting: Setting,
     left: Left,
 ) -> Result<End, RunFault> {
-    let mut draw = Pcg32::new(setting.seed, 11);
-    let is_whole = draw_run(&mut beside, &mut draw, setting.steps)? && settle(&mut beside)?;
-    if !is_whole {
-        refuses_all(&mut beside)?;
-    }
-    judge(alloc, beside, is_whole, left)
+    let is_whole = run_to_end(&mut beside, setting)?;
+    judge(alloc, beside.into_ended(), K::CLASS, is_whole, left)
 }

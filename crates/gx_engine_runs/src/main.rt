@@ -23,59 +23,74 @@ mod counts;
 mod drawn;
 mod ends;
 mod fault;
+mod forms;
 mod keys;
 mod lists;
+mod parts;
 mod replies;
 mod sets;
 
-use ends::{End, Failing, Left, Setting, begin_run, make_run};
+use ends::{End, Failing, Left, Setting, Way, begin_run, make_run};
 use fault::RunFault;
+use forms::{Kind, Line, to_u16, to_usize};
 use gx_class::{Box2Class, IntervalClass};
 use gx_disk::Fuse;
-use lists::{Listed, begin_engine, number, take};
+use gx_geom::Refusal;
+use lists::{Listed, begin_engine, take};
+use parts::{Part, print_parts};
 use std::alloc::Global;
 use std::process::ExitCode;
-use std::str::SplitWhitespace;
+
+/// A device of which one call fails once.
+static FAILS: [Way; 2] = [
+    (Fuse::Once, false, Left::New),
+    (Fuse::Once, true, Left::New),
+];
+
+/// A machine that stops at a call, and crashes.
+static STOPS: [Way; 8] = [
+    (Fuse::ForEver, false, Left::Old),
+    (Fuse::ForEver, false, Left::New),
+    (Fuse::ForEver, false, Left::Mixed),
+    (Fuse::ForEver, false, Left::Torn),
+    (Fuse::ForEver, true, Left::Old),
+    (Fuse::ForEver, true, Left::New),
+    (Fuse::ForEver, true, Left::Mixed),
+    (Fuse::ForEver, true, Left::Torn),
+];
 
 /// How a line's runs are made.
-fn setting(words: &mut SplitWhitespace<'_>) -> Result<Setting, RunFault> {
-    Ok(Setting {
-        seed: number(words)?,
-        steps: number(words)?,
-        most: u16::try_from(number(words)?).ok().ok_or(RunFault::BadLine)?,
-        frames: usize::try_from(number(words)?).unwrap_or(0),
-    })
-}
-
-/// A run of boxes. `None` where a call fails while the index is laid down.
-fn run_boxes(alloc: Global, setting: Setting, failing: Failing) -> Result<Option<End>, RunFault> {
-    match begin_run::<Box2Class>(alloc, setting, failing)? {
-        Some(beside) => Ok(Some(make_run(alloc, beside, setting, failing.left)?)),
-        None => Ok(None),
+fn setting(line: &Line<'_>) -> Setting {
+    let [seed, steps, most, frames, ..] = line.numbers;
+    Setting {
+        seed,
+        steps,
+        most: to_u16(most),
+        frames: to_usize(frames),
     }
 }
 
-/// A run of intervals.
-fn run_intervals(
-    alloc: Global,
-    setting: Setting,
-    failing: Failing,
-) -> Result<Option<End>, RunFault> {
-    match begin_run::<IntervalClass>(alloc, setting, failing)? {
-        Some(beside) => Ok(Some(make_run(alloc, beside, setting, failing.left)?)),
-        None => Ok(None),
-    }
+/// Makes a run of boxes.
+fn run_boxes(alloc: Global, setting: Setting, failing: Failing) -> Result<End, RunFault> {
+    let (_, _, left) = failing.way;
+    let beside = begin_run::<Box2Class>(alloc, setting, failing)?;
+    make_run(alloc, beside, setting, left)
+}
+
+/// Makes a run of intervals.
+fn run_intervals(alloc: Global, setting: Setting, failing: Failing) -> Result<End, RunFault> {
+    let (_, _, left) = failing.way;
+    let beside = begin_run::<IntervalClass>(alloc, setting, failing)?;
+    make_run(alloc, beside, setting, left)
 }
 
 /// Prints how a run over a device that never fails has ended.
-fn print_whole<R: Print>(rt: &R, end: Option<End>) -> Result<(), RunFault> {
-    match end {
-        Some(end) if end.is_whole && end.is_last => {
-            print!(rt; "agrees")?;
-            end.counts.print(rt)
-        }
-        _ => Err(RunFault::Event),
+fn print_whole<R: Print>(rt: &R, end: &End) -> Result<(), RunFault> {
+    if !end.is_whole || !end.is_last {
+        return Err(RunFault::Event);
     }
+    print_parts(rt, &[Part::Text(" agrees")])?;
+    end.counts.print(rt)
 }
 
 /// How the runs of a line ended.
@@ -87,81 +102,70 @@ struct Endings {
     later: u64,
 }
 
-/// Makes a run of which a call of the device fails.
-fn run_failing(
+impl Endings {
+    /// Counts a run whose index was laid down.
+    fn count(&mut self, end: &End) {
+        if end.is_whole {
+            self.whole = self.whole.saturating_add(1);
+        }
+        if end.is_last {
+            self.last = self.last.saturating_add(1);
+        } else {
+            self.later = self.later.saturating_add(1);
+        }
+    }
+}
+
+/// Makes a run of boxes of which a call of the device fails, perhaps while the index is laid down.
+fn run_at(
     alloc: Global,
     setting: Setting,
     failing: Failing,
     ends: &mut Endings,
 ) -> Result<(), RunFault> {
     ends.runs = ends.runs.saturating_add(1);
-    let Some(end) = run_boxes(alloc, setting, failing)? else {
-        return Ok(());
-    };
-    if end.is_whole {
-        ends.whole = ends.whole.saturating_add(1);
-    }
-    if end.is_last {
-        ends.last = ends.last.saturating_add(1);
-    } else {
-        ends.later = ends.later.saturating_add(1);
+    match run_boxes(alloc, setting, failing) {
+        Ok(end) => ends.count(&end),
+        Err(RunFault::NotBegun(Refusal::Device)) => {}
+        Err(fault) => return Err(fault),
     }
     Ok(())
 }
 
-/// Makes the runs in which one call of the device fails.
-fn runs_at(
-    alloc: Global,
-    setting: Setting,
-    call: u64,
-    stops: bool,
-    ends: &mut Endings,
-) -> Result<(), RunFault> {
-    let (fuse, crashes) = if stops {
-        (
-            Fuse::ForEver,
-            [Left::Old, Left::New, Left::Mixed, Left::Torn].as_slice(),
-        )
-    } else {
-        (Fuse::Once, [Left::New].as_slice())
-    };
-    for is_done in [false, true] {
-        for left in crashes.iter() {
-            let failing = Failing {
-                call,
-                fuse,
-                is_done,
-                left: *left,
-            };
-            run_failing(alloc, setting, failing, ends)?;
+/// Makes the runs in which calls of the device fail: so many, from a first one on by a stride, in each way.
+fn make_failing(alloc: Global, line: &Line<'_>, ways: &[Way]) -> Result<Endings, RunFault> {
+    let [_, _, _, _, mut call, stride, calls] = line.numbers;
+    let mut ends = Endings::default();
+    for _call in 0..calls {
+        for way in ways {
+            run_at(alloc, setting(line), Failing { call, way: *way }, &mut ends)?;
         }
+        call = call.saturating_add(stride);
     }
-    Ok(())
+    Ok(ends)
 }
 
 /// Makes the runs in which calls of the device fail, and prints how they ended.
-fn run_calls<R: Print>(
+fn run_failing<R: Print>(
     rt: &R,
     alloc: Global,
-    words: &mut SplitWhitespace<'_>,
-    stops: bool,
+    line: &Line<'_>,
+    ways: &[Way],
 ) -> Result<(), RunFault> {
-    let setting = setting(words)?;
-    let mut call = number(words)?;
-    let stride = number(words)?;
-    let mut ends = Endings::default();
-    for _call in 0..number(words)? {
-        runs_at(alloc, setting, call, stops, &mut ends)?;
-        call = call.saturating_add(stride);
-    }
-    let Endings {
-        runs,
-        whole,
-        last,
-        later,
-    } = ends;
-    print!(rt; "{runs} runs, {whole} not stopped; {last} with the last, {later} with a later one")?;
-    Ok(())
+    let ends = make_failing(alloc, line, ways)?;
+    print_parts(
+        rt,
+        &[
+            Part::Number(ends.runs),
+            Part::Text(" runs,"),
+            Part::Number(ends.whole),
+            Part::Text(" not stopped;"),
+            Part::Number(ends.last),
+            Part::Text(" with the last,"),
+            Part::Number(ends.later),
+            Part::Text(" with a later one"),
+        ],
+    )
 }
 
 /// Makes what a line says.
@@ -169,25 +173,17 @@ fn make_line<R: Print>(
     rt: &R,
     alloc: Global,
     listed: &mut Option<Listed>,
-    line: &str,
+    line: &Line<'_>,
 ) -> Result<(), RunFault> {
-    let mut words = line.split_whitespace();
-    match words.next() {
-        Some("index") => {
-            *listed = Some(begin_engine(alloc, &mut words)?);
-            print!(rt; "begun")?;
-            Ok(())
+    match line.kind {
+        Kind::Index => {
+            *listed = Some(begin_engine(alloc, line)?);
+            print_parts(rt, &[Part::Text(" begun")])
         }
-        Some("boxes") => {
-            let setting = setting(&mut words)?;
-            print_whole(rt, run_boxes(alloc, setting, Failing::never())?)
-        }
-        Some("intervals") => {
-            let setting = setting(&mut words)?;
-            print_whole(rt, run_intervals(alloc, setting, Failing::never())?)
-        }
-        Some("fails") => run_calls(rt, alloc, &mut words, false),
-        Some("stops") => run_calls(rt, alloc, &mut words, true),
+        Kind::Boxes => print_whole(rt, &run_boxes(alloc, setting(line), Failing::never())?),
+        Kind::Intervals => print_whole(rt, &run_intervals(alloc, setting(line), Failing::never())?),
+        Kind::Fails => run_failing(rt, alloc, line, &FAILS),
+        Kind::Stops => run_failing(rt, alloc, line, &STOPS),
         _ => match listed {
             Some(engine) => take(rt, engine, line),
             None => Err(RunFault::BadLine),
@@ -195,29 +191,31 @@ fn make_line<R: Print>(
     }
 }
 
+/// Prints a line, and behind it what it comes to.
+fn take_line(rt: &HostRuntime, listed: &mut Option<Listed>, line: &str) -> Result<(), RunFault> {
+    print_parts(rt, &[Part::Text(line)])?;
+    if !matches!(line.as_bytes(), [] | [b'#', ..]) {
+        print_parts(rt, &[Part::Text(":")])?;
+        make_line(rt, rt.alloc(), listed, &Line::read(line)?)?;
+    }
+    print_parts(rt, &[Part::Text("\n")])
+}
+
 /// Takes each line of the input.
-fn take_lines(rt: &HostRuntime) -> Result<(), RunFault> {
-    let mut listed = None;
+fn take_lines(rt: &HostRuntime, listed: &mut Option<Listed>) -> Result<(), RunFault> {
     for line in rt.lines(rt.alloc()) {
-        let line = line?;
-        match line.as_bytes() {
-            [] | [b'#', ..] => println!(rt; "{}", line.as_str())?,
-            _ => {
-                print!(rt; "{}: ", line.as_str())?;
-                make_line(rt, rt.alloc(), &mut listed, line.as_str())?;
-                println!(rt)?;
-            }
-        }
+        take_line(rt, listed, line?.as_str())?;
     }
     Ok(())
 }
 
 fn main(rt: HostRuntime) -> ExitCode {
-    match take_lines(&rt) {
+    let mut listed = None;
+    match take_lines(&rt, &mut listed) {
         Ok(()) => ExitCode::from(0),
         Err(fault) => {
             let (what, number) = fault.text_and_number();
-            let _ = println!(rt; "{what} {number}");
+            let _ = println!(rt; " {what} {number}");
             ExitCode::from(1)
         }
     }
