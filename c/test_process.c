@@ -46,7 +46,7 @@ void full_disk(void) {
     int status = GIST_OK;
     HOLDS(gist_format(NULL, "full", 2048, 100, 0, NULL) == GIST_OK);
     HOLDS(getrlimit(RLIMIT_FSIZE, &before) == 0);
-    below = (struct rlimit){2134016 + 40960, before.rlim_max};
+    below = (struct rlimit){512 * 16648 + 40960, before.rlim_max};
     void (*usual)(int) = signal(SIGXFSZ, SIG_IGN);
     HOLDS(setrlimit(RLIMIT_FSIZE, &below) == 0);
     index = opened("full");

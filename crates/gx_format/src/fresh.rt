@@ -28,7 +28,10 @@ use gx_page::Page;
 use std::alloc::Global;
 
 /// The first eight bytes of a device that has an index.
-pub const MAGIC: [u8; 8] = *b"GISTRT01";
+pub const MAGIC: [u8; 8] = *b"GISTRT02";
+
+/// The first eight bytes of a device that has an index of version 1 of the format.
+pub const OLD_MAGIC: [u8; 8] = *b"GISTRT01";
 
 /// The sector at which page 2 begins.
 pub const PAGE_2: u64 = PAGES_AT + PAGE_SECTORS;
@@ -36,7 +39,7 @@ pub const PAGE_2: u64 = PAGES_AT + PAGE_SECTORS;
 /// The least limit of entries in a node.
 pub const MIN_FANOUT: u16 = 4;
 
-/// How many sectors an index of so many pages takes: 4,168 for parameters and log, and eight for each page.
+/// How many sectors an index of so many pages takes: 16,648 for parameters and log, and eight for each page.
 pub fn sectors_for(pages: u32) -> u64
     ensures { result ≡ sectors_of pages }
 {
@@ -53,7 +56,7 @@ pub fn is_in_range(pages: u32, most: u16) -> bool
 
 // The sector of the magic.
 fn named() -> [u8; SECTOR_SIZE]
-    ensures { result ≡ 0x47 ∷ 0x49 ∷ 0x53 ∷ 0x54 ∷ 0x52 ∷ 0x54 ∷ 0x30 ∷ 0x31 ∷ replicate 504 0 }
+    ensures { result ≡ 0x47 ∷ 0x49 ∷ 0x53 ∷ 0x54 ∷ 0x52 ∷ 0x54 ∷ 0x30 ∷ 0x32 ∷ replicate 504 0 }
 {
     let mut sector = [0; SECTOR_SIZE];
     sector[..8].copy_from_slice(&MAGIC);

@@ -6,4 +6,4 @@ mod fresh;
 pub mod laws;
 mod root;
 
-pub use fresh::{MAGIC, MIN_FANOUT, format, is_in_range, sectors_for};
+pub use fresh::{MAGIC, MIN_FANOUT, OLD_MAGIC, format, is_in_range, sectors_for};

@@ -1,5 +1,5 @@
 use Rattle.std.proofs.Common.{◌≤◌, Ok, refl, arith}
-use Rattle.gx_disk.specs.declared.layout.TheConstants.{MIN_SECTORS}
+use Rattle.gx_disk.specs.declared.layout.TheConstants.{LEAST_SECTORS}
 use Rattle.gx_format.specs.Formatting.{sectors_of}
 use Rattle.gx_format.specs.Fresh.{fresh_root}
 use Rattle.gx_machine.specs.Keys.{Members, keys_of}
@@ -20,7 +20,7 @@ returns g c = λ p of_class disk new turns now lives.
     let state = g.D.SectorDisk.state in
     let allowed : IsAllowed g.K.KeyClass.CLASS p = record { range = new.formats.0; class_is = of_class } in
     let enough : sectors_of p.pages ≤ (state new.before).sectors = new.formats.1.0 in
-    let room : MIN_SECTORS ≤ (state new.before).sectors = (let least = allowed.range.least_pages in omega (arith, least, enough)) in
+    let room : LEAST_SECTORS ≤ (state new.before).sectors = (let least = allowed.range.least_pages in omega (arith, least, enough)) in
     let fresh = (c.phases.ensures.all p (fresh_root g.K.KeyClass.spelling g.K.KeyClass.start_key) new.before disk (Ok tt) new.honest room new.formats.1.1).1 refl in
     let bears = begins shape proper said class g.K.KeyClass.start_key state c.leaves.ensures.read c.inners.ensures.read g.met.K.KeyClass.start_is_key c.a_class_is_lawful.ensures
     p new.before disk new.honest (Ok tt) new.formats new.root fresh in
