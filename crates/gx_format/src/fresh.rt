@@ -63,8 +63,8 @@ fn named() -> [u8; SECTOR_SIZE]
     sector
 }
 
-// Clears the magic.
-fn clear<D: SectorDisk>(disk: &mut D) -> Result<(), Refusal>
+/// Clears the magic: the first of the three phases.
+pub fn clear<D: SectorDisk>(disk: &mut D) -> Result<(), Refusal>
     requires { MIN_SECTORS ≤ (D.state disk.old).sectors }
     ensures sectors { (D.state disk.new).sectors ≡ (D.state disk.old).sectors }
     ensures runs { Runs D.state clearing disk.old disk.new result }
@@ -73,8 +73,8 @@ fn clear<D: SectorDisk>(disk: &mut D) -> Result<(), Refusal>
     settle(disk)
 }
 
-// Writes the parameters, and the selector of extent A.
-fn lay_parameters<D: SectorDisk>(disk: &mut D, parameters: &Parameters) -> Result<(), Refusal>
+/// Writes the parameters, and the selector of extent A.
+pub fn lay_parameters<D: SectorDisk>(disk: &mut D, parameters: &Parameters) -> Result<(), Refusal>
     requires { MIN_SECTORS ≤ (D.state disk.old).sectors }
     ensures sectors { (D.state disk.new).sectors ≡ (D.state disk.old).sectors }
     ensures runs { Runs D.state (Write PARAMETERS 1 (parameters_bytes parameters.now ++ replicate 504 0)
@@ -84,8 +84,8 @@ fn lay_parameters<D: SectorDisk>(disk: &mut D, parameters: &Parameters) -> Resul
     write(disk, SELECTOR, &selecting(Extent::A))
 }
 
-// Closes all gates.
-fn close_gates<D: SectorDisk>(disk: &mut D) -> Result<(), Refusal>
+/// Closes all gates.
+pub fn close_gates<D: SectorDisk>(disk: &mut D) -> Result<(), Refusal>
     requires { MIN_SECTORS ≤ (D.state disk.old).sectors }
     ensures sectors { (D.state disk.new).sectors ≡ (D.state disk.old).sectors }
     ensures runs { Runs D.state (Write GATES_A PLACES closed_gates_bytes
@@ -118,8 +118,8 @@ fn lay_body<D: SectorDisk>(disk: &mut D) -> Result<(), Refusal>
     settle(disk)
 }
 
-// Opens the first gate.
-fn open<D: SectorDisk>(disk: &mut D) -> Result<(), Refusal>
+/// Opens the first gate of extent A.
+pub fn open_first_gate<D: SectorDisk>(disk: &mut D) -> Result<(), Refusal>
     requires { MIN_SECTORS ≤ (D.state disk.old).sectors }
     ensures sectors { (D.state disk.new).sectors ≡ (D.state disk.old).sectors }
     ensures runs { Runs D.state (Write GATES_A 1 open_gate_bytes ∷ Sync ∷ []) disk.old disk.new result }
@@ -128,8 +128,8 @@ fn open<D: SectorDisk>(disk: &mut D) -> Result<(), Refusal>
     settle(disk)
 }
 
-// Writes the magic.
-fn name<D: SectorDisk>(disk: &mut D) -> Result<(), Refusal>
+/// Writes the magic: the last of the three phases.
+pub fn name<D: SectorDisk>(disk: &mut D) -> Result<(), Refusal>
     requires { MIN_SECTORS ≤ (D.state disk.old).sectors }
     ensures sectors { (D.state disk.new).sectors ≡ (D.state disk.old).sectors }
     ensures runs { Runs D.state naming disk.old disk.new result }
@@ -148,7 +148,7 @@ fn lay<D: SectorDisk>(disk: &mut D, parameters: &Parameters, page: &mut Page) ->
     close_gates(disk)?;
     lay_pages(disk, page)?;
     lay_body(disk)?;
-    open(disk)
+    open_first_gate(disk)
 }
 
 // Makes all the calls of a format.

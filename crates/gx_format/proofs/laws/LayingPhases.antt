@@ -30,7 +30,7 @@ use Rattle.gx_format.proofs.laws.LaidDown.{AreRead, are_read, are_settled, later
 use Rattle.gx_format.proofs.laws.Wrote.{zero_sector, run_split, run_honest, wrote_all, synced}
 
 -- sector s is none that a call touches which writes sector 0 at most
-beyond_first : (call : Call) (s : ℕ) → is_first call ≡ true → 1 ≤ s → IsOutside (first_written call) (how_many_written call) s
+pub beyond_first : (call : Call) (s : ℕ) → is_first call ≡ true → 1 ≤ s → IsOutside (first_written call) (how_many_written call) s
 beyond_first (Write first n bytes) s is from = inr (grind (arith, nat_tests))
 beyond_first Sync s is from = inr (omega arith)
 
@@ -81,10 +81,10 @@ module _ {D : Type 0} (state : D → Device) (whole : (d : D) → (state d).hone
 
 -- ---- all but the magic is laid down
 
-err_ok : (why : Refusal) (r : Result (Unit {0}) Refusal) → r ≡ Err why → r ≡ Ok tt → ⊥
+pub err_ok : (why : Refusal) (r : Result (Unit {0}) Refusal) → r ≡ Err why → r ≡ Ok tt → ⊥
 err_ok why r err ok = true≢false (sym (ap is_ok ok) ∙ ap is_ok err)
 
-cleared_kept : (call : Call) (d e : Device) (result : Result (Unit {0}) Refusal) → spares_one 0 1 call ≡ true → d.honest ≡ true → IsCleared d → Makes call d e result → IsCleared e
+pub cleared_kept : (call : Call) (d e : Device) (result : Result (Unit {0}) Refusal) → spares_one 0 1 call ≡ true → d.honest ≡ true → IsCleared d → Makes call d e result → IsCleared e
 cleared_kept call d e result spares honest was makes =
     let touches = call_touches call d e result honest makes in
     let out = spared_first call spares in
@@ -97,7 +97,7 @@ no_letters letters image is zeros same =
 no_magic : (image : List ℕ) → sector_of image 0 ≡ replicate 512 0 → IsUnnamed image
 no_magic image zeros = (no_letters magic_bytes image refl zeros, no_letters old_magic_bytes image refl zeros)
 
-cleared_shows : (d : Device) → IsCleared d → (image : List ℕ) → MayLeave d image → IsUnnamed image
+pub cleared_shows : (d : Device) → IsCleared d → (image : List ℕ) → MayLeave d image → IsUnnamed image
 cleared_shows d was image may = no_magic image (may.settled 0 was.settled ∙ was.zeros)
 
 -- the bytes that are read are those of a fresh index

@@ -1,0 +1,4 @@
+pub mod LaidOut
+pub mod Moments
+pub mod Moving
+pub mod Renewing
