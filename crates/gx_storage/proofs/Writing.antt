@@ -152,6 +152,13 @@ module _ {D : Type 0} (passes : ℕ → Contents → Bool) (state : D → Device
   pub has_room_then : has_room v.log size ≡ t.has_room → t.has_room ≡ true → (v.log.used < PLACES) × (length v.log.filling + size ≤ BODY_ROOM)
   has_room_then same is = has_room_for v.log size (same ∙ is)
 
+-- what a step says of pages as its event begins, it says of them as they were before
+pub over_begun : {B D : Type 0} (f : Format B) (state : D → Device) (Tells : Type 0 → Store B → Store B → Type 0) (s u t : Shelf D) (batch : ℕ) (room : Bool) → u ≡ record s { batch = batch; has_room = room }
+    → Tells (IsSteady (state u.disk) u.frames) (store_of f (state u.disk).seen u) (store_of f (state t.disk).seen t)
+    → Tells (IsSteady (state s.disk) s.frames) (store_of f (state s.disk).seen s) (store_of f (state t.disk).seen t)
+over_begun f state Tells s u t batch room is did =
+    subst {A = Shelf _} (λ x. Tells (IsSteady (state x.disk) x.frames) (store_of f (state x.disk).seen x) (store_of f (state t.disk).seen t)) is did
+
 -- a store has as many pages as its tree
 pub tree_used : {B D : Type 0} (f : Format B) (one other : List ℕ) (s t : Shelf D) → (tree_of (store_of f one t)).used ≡ (tree_of (store_of f other s)).used → t.used ≡ s.used
 tree_used f one other s t same = sym (nodes_long (standing_node f t.frames one) t.used) ∙ same ∙ nodes_long (standing_node f s.frames other) s.used

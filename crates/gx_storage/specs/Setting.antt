@@ -34,7 +34,7 @@ use Rattle.gx_storage.specs.Changes.{DescentIsLogged, IsLast, IsLogged, IsLogged
 use Rattle.gx_storage.specs.Flushing.{KeepsOn, KeepsRecord, MayTurn, StepsLog, TurnsOn, WritesGated}
 use Rattle.gx_storage.specs.Giving.{pages_given}
 use Rattle.gx_storage.specs.Keeps.{ShowsKeys, ShowsTheLogs}
-use Rattle.gx_storage.specs.Marks.{HasEntry, MarksEntry}
+use Rattle.gx_storage.specs.Marks.{HasEntry}
 use Rattle.gx_storage.specs.Numbers.{HasOwnNumber}
 use Rattle.gx_storage.specs.State.{Volume}
 use Rattle.gx_storage.specs.Sweeping.{SweepIsLogged, SweepIsRefused}
@@ -74,6 +74,10 @@ module _ {C B D : Type 0} (class : Ghosts C B) (state : D → Device) where
   abbrev pub StaysAs : Shelf D → Shelf D → Type 0
   StaysAs old new = Stays (IsSteadyAs state old) (store_at old) (store_at new)
 
+  -- what a step of the tree says, of these pages before and after
+  abbrev pub OverPages : (Type 0 → Store B → Store B → Type 0) → Shelf D → Shelf D → Type 0
+  OverPages Tells old new = Tells (IsSteadyAs state old) (store_at old) (store_at new)
+
   -- why pages were refused since an event began, and why a step was, or a look, or a split
   abbrev pub FaultsAs : Shelf D → Shelf D → StoreFault → Type 0
   FaultsAs old new fault = faults.IsWhy (is_node (format_of class)) (state old.disk) (state new.disk) old new fault
@@ -92,14 +96,9 @@ module _ {C B D : Type 0} (class : Ghosts C B) (state : D → Device) where
   IsSinceAs old new page = IsSince (is_node (format_of class)) (state old.disk) (state new.disk) old new page
 
 module _ {C B D : Type 0} (shape : Members B) (class : Ghosts C B) (state : D → Device) where
-  -- a page is a leaf that has an entry's pair; and the mark of that was set, or it isn't in the leaf
+  -- a page is a leaf that has an entry's pair
   abbrev pub HasEntryAs : Volume D → Entry B → ℕ → Type 0
   HasEntryAs v entry page = HasEntry class.is_key shape entry ((tree_at class state v.shelf).node page)
-
-  abbrev pub MarksEntryAs : Volume D → Volume D → Entry B → ℕ → Bool → Sought → Type 0
-  MarksEntryAs v w entry page marked sought =
-      MarksEntry class.is_key shape (IsSteadyAs state v.shelf) (store_at class state v.shelf)
-      (store_at class state w.shelf) entry page marked sought
 
 -- a record is the log's last
 abbrev pub IsLastAs : {B : Type 0} → Members B → Traits B → Rec → Log → Log → Type 0

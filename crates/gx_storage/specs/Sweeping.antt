@@ -35,10 +35,6 @@ abbrev pub slots_planned : {E : Type 0} → Result Planned E → List ℕ
 slots_planned (Ok plan) = slots_of plan
 slots_planned (Err why) = []
 
--- each answer to a claim is what the test says
-abbrev pub Answers : {F B : Type 0} → (F → Entry B → Bool → Type 0) → F → (Entry B → Bool) → Type 0
-Answers {F} {B} post claimed test = (entry : Entry B) (answer : Bool) → post claimed entry answer → answer ≡ test entry
-
 module _ {B : Type 0} (known : Limits → Known (Entry B) (Page B)) (r : Reading (Entry B) (Page B)) (f : Format B) (passes : ℕ → Contents → Bool)
     (IsTest : (Entry B → Bool) → Type 0) {D : Type 0} (d e : Device) (v w : Volume D) (page : ℕ) where
   -- whichever test the claims answer by, these are the slots that a sweep takes of the leaf

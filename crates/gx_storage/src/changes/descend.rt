@@ -2,14 +2,15 @@
 ghost use Rattle.std.specs.Prelude.{◌≡◌, ◌≢◌, ◌<◌, ℕ, true, length, Err, IfOk, OnErr, IfErr};
 ghost use Rattle.gx_glog.specs.declared.stage.Turn.TheVariants.{Closed};
 ghost use Rattle.gx_node.specs.Trees.{Used};
-ghost use Rattle.gx_tree.specs.Descending.{StepsDown, WayAt, is_widened};
+ghost use Rattle.gx_tree.specs.Calls.{TellsDescend};
+ghost use Rattle.gx_tree.specs.Descending.{WayAt, is_widened};
 ghost use Rattle.gx_node.specs.Owner.{step_fails};
 ghost use Rattle.gx_store.specs.Faults.{store_fails};
 ghost use Rattle.gx_storage.specs.Changes.{begun, begun_at, has_room};
 ghost use Rattle.gx_storage.specs.Changing.{HasToWiden, unwidened};
 ghost use Rattle.gx_storage.specs.Imaged.{is_imaged};
-ghost use Rattle.gx_storage.specs.Setting.{IsSinceAs, IsSteadyAs, IsWhyAs, LogsDescent, OwnNumberAs, ShowsTheSame};
-ghost use Rattle.gx_storage.specs.Setting.{ToldAs, Unlogged, store_at, tree_at};
+ghost use Rattle.gx_storage.specs.Setting.{IsSinceAs, IsSteadyAs, IsWhyAs, LogsDescent, OverPages, OwnNumberAs};
+ghost use Rattle.gx_storage.specs.Setting.{ShowsTheSame, ToldAs, Unlogged, store_at, tree_at};
 ghost use Rattle.gx_storage.specs.Small.{widen_room};
 
 use crate::Storage;
@@ -82,19 +83,12 @@ impl<D: SectorDisk, K: ReadKeys> Storage<D, K> {
         ensures logged { IfOk result (LogsDescent K.Key.Shape K.ReadKeys D.state item.now.page self.old self.new) }
         ensures unlogged { OnErr result (Unlogged K.Key.Shape K.ReadKeys D.state
             (begun self.old (widen_room (is_imaged self.old.imaged item.now.page) K.KEY)) self.old self.new) }
-        ensures descended { IsSteadyAs D.state self.old.shelf
-            → IfOk result (StepsDown K.cost K.joined self.old.most (store_at K.KeyClass D.state self.old.shelf)
-            (store_at K.KeyClass D.state self.new.shelf) item.now coming.now) }
+        ensures tells { OverPages K.KeyClass D.state (TellsDescend K.cost K.joined self.old.most item.now coming.now
+            result) self.old.shelf self.new.shelf }
         ensures own { IfOk result (λ did. is_widened did ≡ true → OwnNumberAs D.state self.new.shelf item.now.page) }
-        ensures refused { IsSteadyAs D.state self.old.shelf
-            → OnErr result (ShowsTheSame K.KeyClass D.state self.old.shelf self.new.shelf) }
         ensures told { ToldAs D.state (step_fails store_fails) self.old.shelf self.new.shelf result }
         ensures why { IfErr result (IsWhyAs K.KeyClass D.state
             (begun self.old (widen_room (is_imaged self.old.imaged item.now.page) K.KEY)) self.new.shelf) }
-        ensures damaged { IsSteadyAs D.state self.old.shelf → result ≡ Err StepFault.Damaged
-            → Used (tree_at K.KeyClass D.state self.old.shelf) item.now.page
-            → (0 < ((tree_at K.KeyClass D.state self.old.shelf).node item.now.page).level)
-            × (length ((tree_at K.KeyClass D.state self.old.shelf).node item.now.page).children ≡ 0) }
         ensures room { result ≡ Err (StepFault.Pages StoreFault.NoRoom)
             → HasToWiden K.cost K.joined self.old.most (store_at K.KeyClass D.state self.new.shelf) item.now
             coming.now }

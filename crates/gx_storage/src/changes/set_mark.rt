@@ -8,8 +8,9 @@ ghost use Rattle.gx_node.specs.Owner.{step_fails};
 ghost use Rattle.gx_store.specs.Faults.{store_fails};
 ghost use Rattle.gx_storage.specs.Changes.{begun, begun_at, has_room};
 ghost use Rattle.gx_storage.specs.Imaged.{is_imaged};
+ghost use Rattle.gx_storage.specs.Marks.{MarksEntry};
 ghost use Rattle.gx_storage.specs.Numbers.{OwnWhereSet};
-ghost use Rattle.gx_storage.specs.Setting.{HasEntryAs, IsSinceAs, IsSteadyAs, IsWhyAs, LogsMark, MarksEntryAs};
+ghost use Rattle.gx_storage.specs.Setting.{HasEntryAs, IsSinceAs, IsSteadyAs, IsWhyAs, LogsMark, OverPages};
 ghost use Rattle.gx_storage.specs.Setting.{ShowsTheSame, ToldAs, Unlogged, tree_at};
 ghost use Rattle.gx_storage.specs.Small.{mark_room};
 
@@ -70,17 +71,12 @@ impl<D: SectorDisk, K: ReadKeys + Probing> Storage<D, K> {
             page marked self.old self.new) }
         ensures unlogged { OnErr result (Unlogged K.Key.Shape K.ReadKeys D.state
             (begun self.old (mark_room (is_imaged self.old.imaged page) K.KEY)) self.old self.new) }
-        ensures marked { IfOk result (MarksEntryAs K.Key.Shape K.KeyClass D.state self.old self.new entry.now page
-            marked) }
+        ensures tells { OverPages K.KeyClass D.state (MarksEntry K.is_key K.Key.Shape entry.now page marked result)
+            self.old.shelf self.new.shelf }
         ensures own { IfOk result (λ did. OwnWhereSet (D.state self.new.shelf.disk).seen self.new.shelf page did) }
-        ensures refused { IsSteadyAs D.state self.old.shelf
-            → OnErr result (ShowsTheSame K.KeyClass D.state self.old.shelf self.new.shelf) }
         ensures told { ToldAs D.state (step_fails store_fails) self.old.shelf self.new.shelf result }
         ensures why { IfErr result (IsWhyAs K.KeyClass D.state
             (begun self.old (mark_room (is_imaged self.old.imaged page) K.KEY)) self.new.shelf) }
-        ensures damaged { IsSteadyAs D.state self.old.shelf → result ≡ Err StepFault.Damaged
-            → Used (tree_at K.KeyClass D.state self.old.shelf) page
-            → ((tree_at K.KeyClass D.state self.old.shelf).node page).level ≢ 0 }
         ensures room { result ≡ Err (StepFault.Pages StoreFault.NoRoom)
             → HasEntryAs K.Key.Shape K.KeyClass D.state self.new entry.now page }
     {

@@ -1,22 +1,22 @@
 //! The sweep of a leaf.
-ghost use Rattle.std.specs.Prelude.{◌≡◌, ◌≢◌, ◌<◌, ◌≤◌, ℕ, Bool, true, length, Err, IfOk, OnErr, OnOk, IfErr};
+ghost use Rattle.std.specs.Prelude.{◌≡◌, ◌≢◌, ◌<◌, ◌≤◌, ℕ, Bool, true, length, Err, IfOk, OnOk, IfErr};
 ghost use Rattle.gx_glog.specs.declared.stage.Turn.TheVariants.{Closed};
 ghost use Rattle.gx_machine.specs.declared.entry.Entry.{Entry};
 ghost use Rattle.gx_node.specs.declared.items.TheConstants.{MAX_ENTRIES};
 ghost use Rattle.gx_store.specs.Since.{IsStamped};
 ghost use Rattle.gx_store.specs.State.{IsHeld};
 ghost use Rattle.gx_node.specs.Trees.{Used};
-ghost use Rattle.gx_tree.specs.Sweeping.{FitsLeaf, PlansSweep};
-ghost use Rattle.gx_tree.specs.Writing.{Swept};
+ghost use Rattle.gx_tree.specs.Calls.{TellsSweep};
+ghost use Rattle.gx_tree.specs.Sweeping.{Answers, FitsLeaf, PlansSweep};
 ghost use Rattle.gx_record.specs.declared.sizes.TheConstants.{MOST_SLOTS};
 ghost use Rattle.gx_node.specs.Owner.{step_fails};
 ghost use Rattle.gx_store.specs.Faults.{store_fails};
 ghost use Rattle.gx_storage.specs.Bringing.{has_removable};
 ghost use Rattle.gx_storage.specs.Changes.{begun_at};
-ghost use Rattle.gx_storage.specs.Setting.{IsSinceAs, IsSteadyAs, IsWhyAs, LogsSweep, OwnNumberAs, RefusesSweep};
-ghost use Rattle.gx_storage.specs.Setting.{ShowsTheSame, ToldAs, store_at, tree_at};
+ghost use Rattle.gx_storage.specs.Setting.{IsSinceAs, IsSteadyAs, IsWhyAs, LogsSweep, OverPages, OwnNumberAs};
+ghost use Rattle.gx_storage.specs.Setting.{RefusesSweep, ShowsTheSame, ToldAs, tree_at};
 ghost use Rattle.gx_storage.specs.Small.{sweep_room};
-ghost use Rattle.gx_storage.specs.Sweeping.{Answers, slots_planned};
+ghost use Rattle.gx_storage.specs.Sweeping.{slots_planned};
 
 use crate::Storage;
 use crate::changes::room::{begin_event, begin_reading};
@@ -93,20 +93,13 @@ impl<D: SectorDisk, K: ReadKeys> Storage<D, K> {
             (Answers F.post claimed) self.old self.new page) }
         ensures unlogged { IfErr result (RefusesSweep K.Key.Shape K.ReadKeys D.state
             (Answers F.post claimed) self.old self.new page) }
-        ensures swept { IsSteadyAs D.state self.old.shelf → (test : Entry K.Key → Bool) → Answers F.post claimed test
-            → IfOk result (Swept test (store_at K.KeyClass D.state self.old.shelf)
-            (store_at K.KeyClass D.state self.new.shelf) page) }
+        ensures tells { OverPages K.KeyClass D.state (TellsSweep (Answers F.post claimed) page result) self.old.shelf
+            self.new.shelf }
         ensures stamped { IsSteadyAs D.state self.old.shelf
             → IfOk result (λ any. any ≡ true
             → IsStamped self.old.log.used self.old.shelf.frames self.new.shelf.frames page) }
         ensures own { IfOk result (λ any. any ≡ true → OwnNumberAs D.state self.new.shelf page) }
-        ensures refused { IsSteadyAs D.state self.old.shelf
-            → OnErr result (ShowsTheSame K.KeyClass D.state self.old.shelf self.new.shelf) }
         ensures told { ToldAs D.state (step_fails store_fails) self.old.shelf self.new.shelf result }
-        ensures damaged { IsSteadyAs D.state self.old.shelf → result ≡ Err StepFault.Damaged
-            → Used (tree_at K.KeyClass D.state self.old.shelf) page
-            → ((tree_at K.KeyClass D.state self.old.shelf).node page).level ≡ 0
-            → MAX_ENTRIES < length ((tree_at K.KeyClass D.state self.old.shelf).node page).pairs }
         ensures room { result ≡ Err (StepFault.Pages StoreFault.NoRoom) → (test : Entry K.Key → Bool)
             → Answers F.post claimed test
             → has_removable test ((tree_at K.KeyClass D.state self.new.shelf).node page) ≡ true }

@@ -87,7 +87,7 @@ returns-in-Err-Step-Pages-clause-stops g c call phase =
     let at = ap (λ (x : Parts g.row.K-Key.Denot g.row.D.Denot). phase_at (c.args.session - 1) x.sessions.phases) c.self.view_is ∙ phase in
     let did = c.look_step.ensures.unlogged in
     let failed : c.look_step.result ≡ Err (Step (Pages c.in-Err-Step-Pages.fault)) = search rules in
-    let same : c.look_step.new.look ≡ c.args.look = on_err _ c.look_step.result (Step (Pages c.in-Err-Step-Pages.fault)) failed c.look_step.ensures.refused
+    let same : c.look_step.new.look ≡ c.args.look = on_err _ c.look_step.result (Step (Pages c.in-Err-Step-Pages.fault)) failed c.look_step.ensures.tells.refused
     (λ m. let both : ◌≡◌ {A = Result (Unit {0}) (LookFault StoreFault)} (Err (Step (Pages c.in-Err-Step-Pages.fault))) (Err Memory) = sym failed ∙ m in cc) in
     let why = of_err _ c.look_step.result (Step (Pages c.in-Err-Step-Pages.fault)) failed c.look_step.ensures.why in
     let put = replaced c.args.session call Rests c.held_work.result e.sessions c.replace_work.new.self at c.replace_work.ensures.state
@@ -106,7 +106,7 @@ returns-in-Err-Step-Pages-clause-moves g c call phase may l =
     let works = ap (λ (x : Parts g.row.K-Key.Denot g.row.D.Denot). x.sessions.failed) c.self.view_is ∙ c.requires.works in
     let did = c.look_step.ensures.unlogged in
     let failed : c.look_step.result ≡ Err (Step (Pages c.in-Err-Step-Pages.fault)) = search rules in
-    let same : c.look_step.new.look ≡ c.args.look = on_err _ c.look_step.result (Step (Pages c.in-Err-Step-Pages.fault)) failed c.look_step.ensures.refused
+    let same : c.look_step.new.look ≡ c.args.look = on_err _ c.look_step.result (Step (Pages c.in-Err-Step-Pages.fault)) failed c.look_step.ensures.tells.refused
     (λ m. let both : ◌≡◌ {A = Result (Unit {0}) (LookFault StoreFault)} (Err (Step (Pages c.in-Err-Step-Pages.fault))) (Err Memory) = sym failed ∙ m in cc) in
     let why = of_err _ c.look_step.result (Step (Pages c.in-Err-Step-Pages.fault)) failed c.look_step.ensures.why in
     let put = replaced c.args.session call Rests c.held_work.result e.sessions c.replace_work.new.self at c.replace_work.ensures.state
@@ -130,7 +130,7 @@ returns-in-Err-Step-Damaged-clause-moves g c call phase may l =
     (none_at_hand _ (c.a_class_is_lawful.ensures l) _ _ _ (g.D.SectorDisk.state e.volume.shelf.disk) e c.stands.ensures c.args.session c.requires.session call Rests at c.args.look
     may c.in_order.ensures.few c.most.ensures.few c.args.begun first
     (damaged_at_hand _ (c.a_class_is_lawful.ensures l) _ _ _ g.D.SectorDisk.state e c.stands.ensures c.args.session c.requires.session call Rests at c.args.look works
-    w did.most did.log (did.since 0).goes_on.device (did.keeps l) (c.a_volume_shows_the_logs_tree.ensures l w) c.requires.more (c.look_step.ensures.damaged failed))
+    w did.most did.log (did.since 0).goes_on.device (did.keeps l) (c.a_volume_shows_the_logs_tree.ensures l w) c.requires.more (c.look_step.ensures.tells.damaged failed))
     _ _ _ _)
 
 pub returns-in-Ok-clause-device : goal.returns-in-Ok-clause-device

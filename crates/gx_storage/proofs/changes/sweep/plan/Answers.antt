@@ -10,7 +10,7 @@ returns-clause-since g c = λ q.
     let read : Shelf g.row.D.Denot = c.plan_sweep-plan.new.pages in
     since_anew (is_node (format_of g.K.KeyClass)) g.D.SectorDisk.state c.args.log.now _ s c.begin_reading.new.store read c.begin_event.new.store c.begin_reading.ensures
     (begun_size c.args.log.now read c.begin_event.new.store c.args.small _ _ _ c.begin_event.ensures c.sweep_size.ensures c.slot_count.ensures.count)
-    q (λ was. c.plan_sweep-plan.ensures.since was q)
+    q (λ was. c.plan_sweep-plan.ensures.reads.since was q)
 
 pub returns-clause-why : goal.returns-clause-why
 returns-clause-why g c =
@@ -18,4 +18,4 @@ returns-clause-why g c =
     let read : Shelf g.row.D.Denot = c.plan_sweep-plan.new.pages in
     whys_anew (is_node (format_of g.K.KeyClass)) g.D.SectorDisk.state c.args.log.now _ s c.begin_reading.new.store read c.begin_event.new.store c.begin_reading.ensures
     (begun_size c.args.log.now read c.begin_event.new.store c.args.small _ _ _ c.begin_event.ensures c.sweep_size.ensures c.slot_count.ensures.count)
-    c.plan_sweep-plan.result c.plan_sweep-plan.ensures.why
+    c.plan_sweep-plan.result c.plan_sweep-plan.ensures.reads.why

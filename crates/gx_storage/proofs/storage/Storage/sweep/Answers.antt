@@ -1,7 +1,7 @@
-use Rattle.std.proofs.Common.{◌≡◌, true, false, sym, ap, subst, ◌∙◌, ℕ, Err, length, rules}
+use Rattle.std.proofs.Common.{◌≡◌, true, false, sym, ap, subst, ◌∙◌, ℕ, Bool, Result, Ok, Err, length, rules}
 use Rattle.gx_node.specs.Reading.{format_of, is_node}
 use Rattle.gx_node.specs.declared.fault.StepFault.{StepFault}
-use Rattle.gx_node.specs.declared.fault.StepFault.TheVariants.{Pages}
+use Rattle.gx_node.specs.declared.fault.StepFault.TheVariants.{Damaged, Pages}
 use Rattle.gx_store.specs.declared.fault.StoreFault.{StoreFault}
 use Rattle.gx_store.specs.Standing.{store_of}
 use Rattle.gx_store.specs.Since.{IsSince}
@@ -49,16 +49,20 @@ returns-then-is_empty-clause-logged g c =
     rw (← c.self.view_is) (sweep_logged _ _ f (is_node f) state v _ _ c.args.page c.in_ok-plan.plan _ c.in_ok-plan.ensures.same c.in_ok-plan.ensures.plans false
     (unlogged _ _ f (is_node f) state v size read since (λ steady. c.in_ok-plan.ensures.same steady)))
 
-pub returns-then-is_empty-clause-swept : goal.returns-then-is_empty-clause-swept
-returns-then-is_empty-clause-swept g c =
+pub returns-then-is_empty-clause-tells : goal.returns-then-is_empty-clause-tells
+returns-then-is_empty-clause-tells g c =
     let i = c.self.inside in
     let f = format_of g.K.KeyClass in
     let state = g.D.SectorDisk.state in
     let v : Volume g.row.D.Denot = record { log = i.log; shelf = i.store; most = i.most; imaged = i.imaged } in
     let read : Shelf g.row.D.Denot = c.plan.new.store in
     let none : takes_none c.in_ok-plan.plan ≡ true = sym c.is_empty.ensures ∙ c.if-is_empty.true in
-    rw (← c.self.view_is) (λ steady test agrees. unswept_since f state v _ (c.in_ok-plan.ensures.same steady)
-    c.in_ok-plan.plan c.args.page c.in_ok-plan.ensures.page test (c.in_ok-plan.ensures.plans test agrees) none)
+    rw (← c.self.view_is) (record {
+      swept = λ steady test agrees. unswept_since f state v _ (c.in_ok-plan.ensures.same steady)
+          c.in_ok-plan.plan c.args.page c.in_ok-plan.ensures.page test (c.in_ok-plan.ensures.plans test agrees) none;
+      refused = λ steady. tt;
+      damaged = λ steady is. absurd (let never : ◌≡◌ {A = Result Bool (StepFault StoreFault)} (Ok false) (Err Damaged) = is in cc);
+    })
 
 pub make_sweep-requires-clause-held : goal.make_sweep-requires-clause-held
 make_sweep-requires-clause-held g c =
@@ -157,8 +161,8 @@ returns-clause-logged g c =
     c.args.page c.write_sweep.new.log c.write_sweep.new.imaged step held plan.sides made plan.page here c.has-small.result c.has-small.ensures c.write_sweep.ensures.formed
     c.write_sweep.ensures.imaged c.write_sweep.ensures.last))
 
-pub returns-clause-swept : goal.returns-clause-swept
-returns-clause-swept g c =
+pub returns-clause-tells : goal.returns-clause-tells
+returns-clause-tells g c =
     let i = c.self.inside in
     let f = format_of g.K.KeyClass in
     let state = g.D.SectorDisk.state in
@@ -167,8 +171,12 @@ returns-clause-swept g c =
     let plan = c.in_ok-plan.plan in
     let here = c.in_ok-plan.ensures.page in
     let some : takes_none c.in_ok-plan.plan ≡ false = sym c.is_empty.ensures ∙ c.if-is_empty.false in
-    rw (← c.self.view_is) (λ steady test agrees. swept_since f state v _ (c.in_ok-plan.ensures.same steady)
-    plan c.args.page here test (c.in_ok-plan.ensures.plans test agrees) _ c.in_ok-make_sweep.ensures.takes some)
+    rw (← c.self.view_is) (record {
+      swept = λ steady test agrees. swept_since f state v _ (c.in_ok-plan.ensures.same steady)
+          plan c.args.page here test (c.in_ok-plan.ensures.plans test agrees) _ c.in_ok-make_sweep.ensures.takes some;
+      refused = λ steady. tt;
+      damaged = λ steady is. absurd (let never : ◌≡◌ {A = Result Bool (StepFault StoreFault)} (Ok true) (Err Damaged) = is in cc);
+    })
 
 pub returns-clause-stamped : goal.returns-clause-stamped
 returns-clause-stamped g c =
