@@ -4,6 +4,7 @@
 
 mod changes;
 mod checkpoint;
+mod drain;
 mod flusher;
 mod imaged;
 pub mod laws;
