@@ -73,6 +73,7 @@ enum gist_status {
                                  wrong */
     GIST_NO_CALL = 19,        /* never so here */
     GIST_HISTORY_FULL = 20,   /* the numbers of commits or transactions are used up */
+    GIST_OLD_VERSION = 21,    /* the file holds an index of an older version of the format */
     /* The client's own. After GIST_ENDED and GIST_PROTOCOL all calls of the index but gist_close answer GIST_ENDED. */
     GIST_ENDED = 32,    /* the program has ended, and with it all that was open; what was answered as committed stays */
     GIST_PROTOCOL = 33, /* the program answered what no gist of this kind answers; it was ended */
@@ -151,8 +152,9 @@ int gist_format(const char *program, const char *path, unsigned pages, unsigned 
 
 /* Opens the index in the file `path`, with `frames` pages of 4,096 bytes in memory (16 to 4096; 0: as many as it has
    pages, at most 4096); what a crash cut off is undone first. With GIST_OK *index is the open index, which gist_close
-   has to close; with any other status it is NULL, and nothing is left open. GIST_DEVICE: the file isn't there, is in use or can't be read or written;
-   GIST_NOT_FORMATTED, GIST_TOO_SMALL, GIST_BAD_PARAMETER, GIST_DAMAGED: what it holds; GIST_MEMORY. */
+   has to close; with any other status it is NULL, and nothing is left open. GIST_DEVICE: the file isn't there, is in
+   use or can't be read or written; GIST_OLD_VERSION, GIST_NOT_FORMATTED, GIST_TOO_SMALL, GIST_BAD_PARAMETER,
+   GIST_DAMAGED: what it holds; GIST_MEMORY. */
 int gist_open(gist_index **index, const char *program, const char *path, unsigned frames, gist_end *end);
 
 /* Prints the tree of the index in the file `path` to a stream, as docs/SCRIPT.md has it. The index must not be open.

@@ -30,7 +30,7 @@ void openings(void) {
     }
     int zeros = open("zeros", O_RDWR | O_CREAT | O_CLOEXEC, 0600);
     HOLDS(ftruncate(zeros, 2048000) == 0 && gist_open(&other, NULL, "zeros", 64, &end) == GIST_TOO_SMALL);
-    HOLDS(ftruncate(zeros, 2199552) == 0 && gist_open(&other, NULL, "zeros", 64, NULL) == GIST_NOT_FORMATTED);
+    HOLDS(ftruncate(zeros, 512 * 16776) == 0 && gist_open(&other, NULL, "zeros", 64, NULL) == GIST_NOT_FORMATTED);
     HOLDS(close(zeros) == 0);
     index = fresh("-used", 16, 4);
     HOLDS(gist_open(&other, NULL, "-used", 64, &end) == GIST_DEVICE && strstr(end.sentence, "in use"));
@@ -50,8 +50,9 @@ void openings(void) {
     free(text);
     int odd = open("-used", O_RDWR | O_CLOEXEC);
     HOLDS(pwrite(odd, "\0\2", 2, 512 + 6) == 2 && gist_open(&other, NULL, "-used", 64, &end) == GIST_BAD_PARAMETER);
-    HOLDS(pwrite(odd, "\0\1", 2, 512 + 6) == 2 && pwrite(odd, "\0\0\0\2", 4, 4176 * 512 + 16) == 4);
+    HOLDS(pwrite(odd, "\0\1", 2, 512 + 6) == 2 && pwrite(odd, "\0\0\0\2", 4, 16656 * 512 + 16) == 4);
     HOLDS(gist_open(&other, NULL, "-used", 64, &end) == GIST_DAMAGED && strstr(end.sentence, "page 2"));
+    HOLDS(pwrite(odd, "1", 1, 7) == 1 && gist_open(&other, NULL, "-used", 64, &end) == GIST_OLD_VERSION);
     HOLDS(close(odd) == 0);
 }
 

@@ -40,8 +40,9 @@ from gist._refusals import (Absent, BadBox, BadParameter, BadSession, Busy,
                             CallOpen, ClaimsFull, Damaged, Device, Ended,
                             Failed, GistError, HistoryFull, InTransaction,
                             InUse, Memory, NoCall, NoSession, NotFormatted,
-                            NoTransaction, PagesFull, PredicatesFull, Present,
-                            ProtocolError, Refused, TooSmall)
+                            NoTransaction, OldVersion, PagesFull,
+                            PredicatesFull, Present, ProtocolError, Refused,
+                            TooSmall)
 from gist._sessions import SESSIONS
 from gist._transactions import Reader, Transaction
 
@@ -50,9 +51,10 @@ __all__ = [
     "CallOpen", "ClaimsFull", "Damaged", "Device", "Ended", "Failed",
     "GistError", "HistoryFull", "Hits", "InTransaction", "InUse", "Index",
     "MAX_CORNER", "MAX_ROW", "MIN_CORNER", "Memory", "NoCall", "NoSession",
-    "NoTransaction", "NotFormatted", "PagesFull", "PredicatesFull", "Present",
-    "ProtocolError", "Reader", "Refused", "Report", "SESSIONS", "Stat",
-    "TooSmall", "Transaction", "dump", "format", "open", "stat", "verify"]
+    "NoTransaction", "NotFormatted", "OldVersion", "PagesFull",
+    "PredicatesFull", "Present", "ProtocolError", "Reader", "Refused",
+    "Report", "SESSIONS", "Stat", "TooSmall", "Transaction", "dump", "format",
+    "open", "stat", "verify"]
 
 __version__ = "0.1.0"
 

@@ -62,7 +62,8 @@ def open(path: AnyPath, frames: Optional[int] = None,
     file open; then it raises InUse.
 
     Raises OSError, as FileNotFoundError, for a file that can't be opened, and
-    NotFormatted, Damaged, TooSmall or BadParameter for what it holds.
+    OldVersion, NotFormatted, Damaged, TooSmall or BadParameter for what it
+    holds.
     """
     words_of(program)
     pages, _, _ = numbers_of(path, os.O_RDWR)

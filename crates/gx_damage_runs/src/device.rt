@@ -1,6 +1,7 @@
 //! Devices in memory, and their bytes.
 ghost use Rattle.std.specs.Prelude.{◌≡◌, ◌%◌, length, IfOk};
 
+use crate::bytes::FIRST_OF_PAGES;
 use crate::fault::RunFault;
 use gx_class::Box2Class;
 use gx_disk::{MemDisk, SectorDisk};
@@ -40,7 +41,9 @@ pub(crate) fn bytes_of(alloc: Global, disk: &mut MemDisk) -> Result<Vec<u8>, Run
 
 /// The bytes of a new index of boxes, of so many pages and entries a node.
 pub(crate) fn formatted(alloc: Global, pages: u32, most: u16) -> Result<Vec<u8>, RunFault> {
-    let sectors = (pages as usize).saturating_mul(8).saturating_add(4168);
+    let sectors = (pages as usize)
+        .saturating_mul(8)
+        .saturating_add(FIRST_OF_PAGES);
     let mut disk = MemDisk::new(alloc, sectors)?;
     format::<MemDisk, Box2Class>(alloc, &mut disk, pages, most)?;
     bytes_of(alloc, &mut disk)

@@ -1,5 +1,5 @@
 //! Images of an index at moments of its life, and such with sectors of other moments.
-use crate::bytes::{exchange, lay, sector, set};
+use crate::bytes::{FIRST_OF_PAGES, exchange, lay, sector, set};
 use crate::device::{bytes_of, device, formatted};
 use crate::draw::{below, byte_of, one_in};
 use crate::fault::RunFault;
@@ -9,9 +9,6 @@ use gx_disk::MemDisk;
 use gx_restart::{Index, Noted, open, run_script};
 use rand_pcg::Pcg32;
 use std::alloc::Global;
-
-/// The first sector of pages.
-const FIRST_OF_PAGES: usize = 4168;
 
 /// An index's images, in the order of its life.
 #[derive(Drop)]

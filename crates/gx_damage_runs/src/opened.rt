@@ -24,6 +24,7 @@ pub(crate) enum Found {
 fn refusal_of(finding: &Finding) -> u8 {
     match finding.damage() {
         Damage::Magic => 14,
+        Damage::OldMagic => 21,
         Damage::Short => 17,
         Damage::Parameters => 18,
         _ => 13,

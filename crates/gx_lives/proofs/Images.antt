@@ -22,6 +22,7 @@ use Rattle.gx_events.specs.declared.outcome.Outcome.{Outcome}
 use Rattle.gx_events.specs.Happens.{Happens}
 use Rattle.gx_format.specs.Formatting.{sectors_of}
 use Rattle.gx_format.specs.Fresh.{HasMagic}
+use Rattle.gx_glog.specs.declared.extent.TheConstants.{PLACES}
 use Rattle.gx_found_log.specs.Found.{HasUndamaged}
 use Rattle.gx_glog.specs.Cuts.{bodies_in, open_bodies}
 use Rattle.gx_glog.specs.Layout.{open_run, selected_of}
@@ -137,7 +138,7 @@ module _ {C B D : Type 0} (shape : Members B) (proper : B → Bool) (said : List
     -- the log of what is seen has the bodies of the image that it is
     same_bodies : (log : HasUndamaged k r d.seen) → own.stands.bodies ≡ log.bodies
     unfolding open_bodies
-    same_bodies log = bodies_one_way r (bodies_in d.seen (selected_of d.seen) (open_run d.seen (selected_of d.seen) 0 32)) own.stands.bodies log.bodies own.stands.told log.told
+    same_bodies log = bodies_one_way r (bodies_in d.seen (selected_of d.seen) (open_run d.seen (selected_of d.seen) 0 PLACES)) own.stands.bodies log.bodies own.stands.told log.told
 
     -- so the pages are good for it, and it stands for a set of the machine
     pub good_log : (log : HasUndamaged k r d.seen) → AreGood k r (area_of r p.pages d.seen) (records_of log.bodies)

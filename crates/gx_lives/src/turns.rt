@@ -1,6 +1,6 @@
 //! The calls that are turns of a life: each makes the call of its name, and its contract says which turn that is.
 ghost use Rattle.std.specs.Prelude.{◌≡◌, ◌≤◌, ◌<◌, true, Err, OnOk, IfErr, IfOk, MatchResult};
-ghost use Rattle.gx_disk.specs.declared.layout.TheConstants.{MIN_SECTORS};
+ghost use Rattle.gx_disk.specs.declared.layout.TheConstants.{LEAST_SECTORS};
 ghost use Rattle.gx_engine.specs.Made.{Makes};
 ghost use Rattle.gx_format.specs.Formatting.{Formats};
 ghost use Rattle.gx_format.specs.Fresh.{fresh_root};
@@ -84,11 +84,11 @@ pub fn open<D: SectorDisk, K: ReadKeys + Probing>(
 ) -> Result<Engine<D, K>, NotOpened<D>>
     ensures frames { ((16 ≤ frames) × (frames ≤ FRAMES) → ⊥)
         → result ≡ Err (record { why = Refusal.BadParameter; disk = disk }) }
-    ensures small { 16 ≤ frames → frames ≤ FRAMES → (D.state disk).sectors < MIN_SECTORS
+    ensures small { 16 ≤ frames → frames ≤ FRAMES → (D.state disk).sectors < LEAST_SECTORS
         → result ≡ Err (record { why = Refusal.TooSmall; disk = disk }) }
     ensures faults { CountsOpening D.state (D.state disk).faults result }
     ensures refused { (D.state disk).honest ≡ true → 16 ≤ frames → frames ≤ FRAMES
-        → MIN_SECTORS ≤ (D.state disk).sectors
+        → LEAST_SECTORS ≤ (D.state disk).sectors
         → IfErr result (λ n. IsRefusedAs K.Key.Shape K.ReadKeys D.state disk n.disk n.why) }
     ensures began { IfOk result (BeganWith (Makes K.Key.Shape K.ReadKeys D.state) frames) }
     ensures undamaged { (p : Parameters) → IsAllowed K.CLASS p → (m : Machine K.Key)
@@ -135,7 +135,7 @@ pub fn examine<D: SectorDisk, K: ReadKeys>(
     alloc: Global,
     disk: D,
 ) -> (D, Result<Option<Damage>, Refusal>)
-    ensures examined { (D.state disk).honest ≡ true → MIN_SECTORS ≤ (D.state disk).sectors
+    ensures examined { (D.state disk).honest ≡ true → LEAST_SECTORS ≤ (D.state disk).sectors
         → ExaminesAs K.Key.Shape K.ReadKeys D.state disk result.0 result.1 }
     ensures turn { (D.state disk).honest ≡ true
         → GoesOn K.Key.Shape K.ReadKeys D.state (Lies disk) life.Reads (Lies result.0) }

@@ -1,3 +1,4 @@
+use Rattle.std.proofs.Common.{refl}
 use Rattle.gx_engine.specs.States.{Parts}
 use Rattle.gx_engine.proofs.Brought.{brought_leads}
 use Rattle.gx_engine.proofs.Ordered.{order_read}

@@ -4,7 +4,7 @@ use Rattle.gx_glog.specs.declared.extent.TheConstants.{GATES_A}
 use Rattle.gx_glog.specs.First.{open_gate_bytes}
 use Rattle.gx_format.specs.Calls.{Write, Sync}
 use Rattle.gx_format.proofs.Running.{goes_on, ends_there, of_bytes}
-use Rattle.gx_format.proofs.fresh.open.Goals as goal
+use Rattle.gx_format.proofs.fresh.open_first_gate.Goals as goal
 
 pub returns-in_err-write-clause-runs : goal.returns-in_err-write-clause-runs
 returns-in_err-write-clause-runs g c =
