@@ -7,6 +7,7 @@ mod checkpoint;
 mod drain;
 mod flusher;
 mod imaged;
+mod journal;
 pub mod laws;
 mod pages;
 mod reads;

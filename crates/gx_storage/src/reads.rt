@@ -9,7 +9,6 @@ ghost use Rattle.gx_storage.specs.Bringing.{bringing};
 ghost use Rattle.gx_storage.specs.Setting.{IsWhyAs, IsWhyOfLookAs, OverPages, ToldAs, Unlogged};
 
 use crate::Storage;
-use crate::changes::room::begin_reading;
 use gx_class::{Probing, ReadKeys};
 use gx_disk::SectorDisk;
 use gx_store::StoreFault;
@@ -34,7 +33,7 @@ impl<D: SectorDisk, K: ReadKeys + Probing> Storage<D, K> {
         ensures why { IfErr result (IsWhyOfLookAs K.KeyClass D.state (bringing self.old) self.new.shelf) }
         ensures room { result ≢ Err (LookFault.Step (StepFault.Pages StoreFault.NoRoom)) }
     {
-        begin_reading(&self.log, &mut self.store);
+        self.journal.begin_reading(&mut self.store);
         gx_tree::look_step(&mut self.store, wanted, look)
     }
 
@@ -55,7 +54,7 @@ impl<D: SectorDisk, K: ReadKeys + Probing> Storage<D, K> {
         ensures why { IfErr result (IsWhyAs K.KeyClass D.state (bringing self.old) self.new.shelf) }
         ensures room { result ≢ Err (StepFault.Pages StoreFault.NoRoom) }
     {
-        begin_reading(&self.log, &mut self.store);
+        self.journal.begin_reading(&mut self.store);
         gx_tree::seek_step(&mut self.store, wanted, page)
     }
 }

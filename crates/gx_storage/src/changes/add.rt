@@ -11,8 +11,6 @@ ghost use Rattle.gx_storage.specs.Setting.{IsSteadyAs, IsWhyAs, LogsAs, OverPage
 ghost use Rattle.gx_storage.specs.Small.{IsSpelled, add_room, add_said};
 
 use crate::Storage;
-use crate::changes::added::{add_size, write_add};
-use crate::changes::room::begin_event;
 use gx_class::ReadKeys;
 use gx_disk::SectorDisk;
 use gx_machine::Entry;
@@ -51,22 +49,12 @@ impl<D: SectorDisk, K: ReadKeys> Storage<D, K> {
             (begun self.old (add_room (is_imaged self.old.imaged page) K.KEY)) self.new.shelf) }
     {
         leaves::<K>();
-        let small = self.imaged.has(page);
+        let size = self.journal.add_size(page);
         self.store.in_order();
-        begin_event(&self.log, &mut self.store, add_size::<K>(small));
+        self.journal.begin_event(&mut self.store, size);
         add_step(&mut self.store, page, entry, self.most)?;
         self.store.in_order();
-        write_add(
-            &mut self.log,
-            &self.store,
-            &mut self.key,
-            &mut self.imaged,
-            small,
-            transaction,
-            entry.row,
-            entry.key,
-            page,
-        );
+        self.journal.add(&self.store, transaction, *entry, page);
         Ok(())
     }
 }

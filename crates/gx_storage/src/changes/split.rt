@@ -16,13 +16,12 @@ ghost use Rattle.gx_storage.specs.Setting.{IsSteadyAs, IsWhyOfSplitAs, LogsIf, O
 ghost use Rattle.gx_storage.specs.Setting.{Unlogged, pages_given_at};
 
 use crate::Storage;
-use crate::changes::given_pages::{give_three, in_rising_order};
-use crate::changes::room::begin_event;
+use crate::journal::in_rising_order;
 use gx_class::ReadKeys;
 use gx_disk::SectorDisk;
 use gx_record::SPLIT_RECORD;
 use gx_store::StoreFault;
-use gx_tree::{Split, SplitFault, StepFault, split_step};
+use gx_tree::{Split, SplitFault, split_step};
 
 impl<D: SectorDisk, K: ReadKeys> Storage<D, K> {
     /// Splits the node on a page, which is full, below its parent, as the tree's `split_step` says, and appends the
@@ -62,20 +61,13 @@ impl<D: SectorDisk, K: ReadKeys> Storage<D, K> {
         ensures full { IsSteadyAs D.state self.old.shelf → result ≡ Err SplitFault.PagesFull
             → self.old.shelf.pages ≤ self.old.shelf.used }
     {
-        begin_event(&self.log, &mut self.store, SPLIT_RECORD);
+        self.journal.begin_event(&mut self.store, SPLIT_RECORD);
         let Some(split) = split_step(&mut self.store, page, parent, self.most, keys)? else {
             return Ok(None);
         };
         self.store.in_order();
         let (first, second, third) = in_rising_order(page, parent, split.sibling);
-        give_three(
-            &mut self.log,
-            &self.store,
-            &mut self.imaged,
-            first,
-            second,
-            third,
-        );
+        self.journal.split(&self.store, first, second, third);
         Ok(Some(split))
     }
 }

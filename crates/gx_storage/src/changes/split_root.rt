@@ -14,8 +14,6 @@ ghost use Rattle.gx_storage.specs.Setting.{IsSteadyAs, IsWhyOfSplitAs, LogsAs, O
 ghost use Rattle.gx_storage.specs.Setting.{Unlogged, pages_given_at};
 
 use crate::Storage;
-use crate::changes::given_pages::give_three;
-use crate::changes::room::begin_event;
 use gx_class::ReadKeys;
 use gx_disk::SectorDisk;
 use gx_record::SPLIT_RECORD;
@@ -55,20 +53,14 @@ impl<D: SectorDisk, K: ReadKeys> Storage<D, K> {
         ensures full { IsSteadyAs D.state self.old.shelf → result ≡ Err SplitFault.PagesFull
             → self.old.shelf.pages < self.old.shelf.used + 2 }
     {
-        begin_event(&self.log, &mut self.store, SPLIT_RECORD);
+        self.journal.begin_event(&mut self.store, SPLIT_RECORD);
         if self.store.used() == 0 {
             return Err(SplitFault::Step(StepFault::Damaged));
         }
         let split = split_root_step(&mut self.store, self.most, keys)?;
         self.store.in_order();
-        give_three(
-            &mut self.log,
-            &self.store,
-            &mut self.imaged,
-            1,
-            split.first,
-            split.second,
-        );
+        self.journal
+            .split(&self.store, 1, split.first, split.second);
         Ok(split)
     }
 }

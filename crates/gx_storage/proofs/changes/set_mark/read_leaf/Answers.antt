@@ -13,7 +13,7 @@ use Rattle.gx_storage.proofs.changes.set_mark.read_leaf.Goals as goal
 pub returns-clause-since : goal.returns-clause-since
 returns-clause-since g c = λ q.
     let s : Shelf g.row.D.Denot = c.args.store.now in
-    let log = c.args.log.now in
+    let log = c.args.journal.now.log in
     let state = g.D.SectorDisk.state in
     let v : Volume g.row.D.Denot = record { log = log; shelf = s; most = 0; imaged = [] } in
     let passes = is_node (format_of g.K.KeyClass) in
@@ -26,7 +26,7 @@ returns-clause-since g c = λ q.
 pub returns-clause-why : goal.returns-clause-why
 returns-clause-why g c =
     let s : Shelf g.row.D.Denot = c.args.store.now in
-    let log = c.args.log.now in
+    let log = c.args.journal.now.log in
     let state = g.D.SectorDisk.state in
     let passes = is_node (format_of g.K.KeyClass) in
     let read : Shelf g.row.D.Denot = c.seek_step-sought.new.pages in
