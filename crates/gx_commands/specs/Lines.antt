@@ -26,6 +26,10 @@ abbrev pub verified_line : Report → List ℕ
 verified_line r =
     codes "ok commits " ++ (decimal r.commits ++ (codes " entries " ++ (decimal r.entries ++ (codes " used " ++ (decimal r.used ++ (10 ∷ []))))))
 
+-- an index that was migrated: the number of the last commit, and the greatest page in use
+abbrev pub migrated_line : ℕ → ℕ → List ℕ
+migrated_line commits used = codes "migrated commits " ++ (decimal commits ++ (codes " used " ++ (decimal used ++ (10 ∷ []))))
+
 -- what the user is told of a refusal outside of a script
 abbrev pub sentence_of : Refusal → List ℕ
 sentence_of Memory = codes "there isn't enough memory"
