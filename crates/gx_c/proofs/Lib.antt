@@ -1,0 +1,3 @@
+mod Stages
+mod Words
+mod Walks
