@@ -37,7 +37,7 @@ static const text TEXTS[] = {
     [GIST_NO_CALL] = {"no call", "no call: an answer was asked for where no call is open"},
     [GIST_HISTORY_FULL] = {"history full", "history full: all numbers of commits are used up; make a fresh index"},
     [GIST_OLD_VERSION] = {"old version",
-                          "old version: the index is of an older version; dump it with the program that made it"},
+                          "old version: the index is of an older version; gist_migrate brings it into a new file"},
     [GIST_ENDED] = {"the program has ended",
                     "the program has ended, and with it all open transactions (gist_end says why); "
                     "open the file again: what was answered as committed is there"},

@@ -1,8 +1,11 @@
-"""What kill.sh kills, and what it looks at then: usage: kill.py PROGRAM THREADS SHIM KILLS SEED KILLS-OF-THREADS
+"""What kill.sh kills, and what it looks at then: usage: kill.py PROGRAM THREADS SHIM KILLS SEED KILLS-OF-THREADS KILLS-OF-MIGRATIONS
 
 In a separate folder, in which it makes its files."""
+import base64
 import collections
+import lzma
 import os
+import pathlib
 import random
 import re
 import subprocess
@@ -11,6 +14,8 @@ import threading
 import time
 
 PROGRAM, THREADS, SHIM = sys.argv[1:4]
+# The index of the format's first version that is migrated.
+VERSION1 = pathlib.Path(__file__).resolve().parent / "version1"
 ALL = b"1 BEGIN\n1 OVERLAP -2147483648 -2147483648 2147483647 2147483647\n"
 # Of one script, and of one file.
 COMMITS, MOST_COMMITS = 120, 600
@@ -188,10 +193,64 @@ def kill_threads(kills, seed):
     raise Wrong(f"a disk that lies wasn't noticed in {LIES} kills")
 
 
+def content(file):
+    return pathlib.Path(file).read_bytes() if os.path.exists(file) else b""
+
+
+def migration_killed(delay):
+    """Migrates `old` to `new`, and kills that after so many seconds. What it printed, and whether the kill met it."""
+    if os.path.exists("kept"):
+        os.remove("kept")
+    setting = {**os.environ, "FILE": "new", "KEPT": "kept", "LD_PRELOAD": SHIM}
+    command = [PROGRAM, "migrate", "old", "new"]
+    return killed(subprocess.Popen(command, stdout=subprocess.PIPE, stderr=subprocess.DEVNULL, env=setting), delay)
+
+
+def is_migrated(file, tree):
+    """Whether a file holds the migrated index, whose dump this is; else it holds none."""
+    told = subprocess.run([PROGRAM, "verify", file], capture_output=True, text=True)
+    if told.returncode == 0:
+        if subprocess.run([PROGRAM, "dump", file], capture_output=True).stdout != tree:
+            raise Wrong(f"{file} holds another index than the one that was migrated: {told}")
+        return True
+    if told.stdout not in ("refused 14 not formatted\n", "refused 17 too small\n"):
+        raise Wrong(f"{file} is neither refused nor whole: {told}")
+    return False
+
+
+def kill_migrations(kills, seed):
+    at = random.Random(seed)
+    began = time.time()
+    old = lzma.decompress(base64.decodebytes((VERSION1 / "both.xz.base64").read_bytes()))
+    tree = (VERSION1 / "both.dump").read_bytes()
+    pathlib.Path("old").write_bytes(old)
+    migration_killed(None)
+    whole = time.time() - began
+    new_file()
+    other = content("places")
+    met, done = 0, 0
+    while met < kills:
+        # over no file, or over one that holds another index
+        before = other if at.random() < 0.5 else b""
+        pathlib.Path("new").write_bytes(before) if before else os.remove("new")
+        said, was_met = migration_killed(at.uniform(0, 1.05 * whole))
+        met += was_met
+        if content("old") != old:
+            raise Wrong("the old file was changed")
+        for file in filter(os.path.exists, ("new", "kept")):
+            if content(file) != before and is_migrated(file, tree):
+                done += file == "new"
+            elif said and file == "new":
+                raise Wrong(f"it was told as migrated and isn't: {said}")
+        pathlib.Path("new").touch()
+    print(f"{met} migrations were killed in {time.time() - began:.0f} s; {done} were whole", flush=True)
+    return met
+
+
 def main():
-    kills, seed, of_threads = map(int, sys.argv[4:])
+    kills, seed, of_threads, of_migrations = map(int, sys.argv[4:])
     try:
-        met = kill_scripts(kills, seed) + kill_threads(of_threads, seed)
+        met = kill_scripts(kills, seed) + kill_threads(of_threads, seed) + kill_migrations(of_migrations, seed)
     except Wrong as why:
         print(f"FAILED {why}")
         sys.exit(1)

@@ -276,7 +276,7 @@ holds "and when it was changed" [ "$(stat -c %y tree)" = "$changed" ]
 cp places before
 for words in "format places 7 4" "format places 65537 4" "format places 16 3" "format places 16 101" "format places -16 4" "format places 16" \
     "format places 16 4 4" "format places sixteen 4" "run places --frames 15" "run places --frames 4097" "run places --frames" \
-    "run places --frames 16 --frames 16" "run places places" "run" "run --frames 16" "format" "dump" "dump places places" "dump places --frames 64" "verify" "verify places places" "verify places --frames 64" "open places" \
+    "run places --frames 16 --frames 16" "run places places" "run" "run --frames 16" "format" "dump" "dump places places" "dump places --frames 64" "verify" "verify places places" "verify places --frames 64" "open places" "migrate" "migrate places" "migrate places new new" "migrate places new --frames 15" "migrate places new --frames 4097" "migrate places new --class 1" \
     "plain --class 2" "plain --class 03" "plain --class" "plain --class 1 --class 1" "format places 16 4 --class 2" "run places --class 3" "dump places --class 1"; do
     # shellcheck disable=SC2086
     on_file "wrong words: $words" 2 "$nothing" "For more information, try '--help'" $words
@@ -290,7 +290,7 @@ on_file "a storm" 0 'storm ok calls 800
 on_file "a storm of one session" 0 'storm ok calls 2000
 ' "" storm 4294967295 1 2000
 # Each help is the whole text in trials/help.
-for command in gist plain format run dump verify storm; do
+for command in gist plain format run dump verify migrate storm; do
     words="$command --help"
     [ "$command" != gist ] || words=--help
     # shellcheck disable=SC2086
@@ -343,7 +343,7 @@ for it in fresh log open both full long; do
     cp "old_$it" older
     for command in run dump verify; do
         on_file "a file of version 1, $it: $command" 1 'refused 21 old version
-' "^gist: the index is of an older version of the format$" "$command" older
+' "^gist: the index is of an older version; gist migrate makes one of this version from it$" "$command" older
     done
     holds "it stays as it was, $it" cmp -s older "old_$it"
 done
@@ -354,6 +354,7 @@ for command in run dump verify; do
     on_file "a file of version 1 that was cut: $command" 1 'refused 17 too small
 ' "$shorter" "$command" older
 done
+source "$top/trials/migrate.sh"
 on_file "a name that begins with a hyphen" 0 "$formatted" "" format -- -places 16 4
 on_file "a path" 0 "$formatted" "" format "$work/another place" 16 4
 cp places damaged

@@ -221,7 +221,7 @@ class HistoryFull(Refused):
 class OldVersion(Refused):
     """The file holds an index of an older version of the format."""
     number = 21
-    advice = "dump it with the program that made it, and insert what it prints"
+    advice = "gist.migrate brings it into a new file"
 
 
 _BY_NUMBER = {it.number: it for it in Refused.__subclasses__()}

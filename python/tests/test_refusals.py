@@ -199,7 +199,7 @@ class Openings(Case):
         self.new()
         with open(self.path, "r+b") as file:
             file.write(b"GISTRT01")
-        self.refuses(gist.OldVersion, "older version of the format")
+        self.refuses(gist.OldVersion, "older version; gist migrate")
 
     def test_another_index(self) -> None:
         self.new()

@@ -57,4 +57,27 @@ for r in range(1,60):
     print("1 COMMIT")
 E3
 pack full
+# rows: four entries, all deleted, and a fifth
+"$P" format rows 16 4
+"$P" run rows > /dev/null <<'E4'
+1 BEGIN
+1 INSERT 1 0 0 1 1
+1 INSERT 2 0 2 1 3
+1 INSERT 3 10 0 11 1
+1 INSERT 4 10 2 11 3
+1 COMMIT
+1 BEGIN
+1 DELETE 1 0 0 1 1
+1 DELETE 2 0 2 1 3
+1 DELETE 3 10 0 11 1
+1 DELETE 4 10 2 11 3
+1 COMMIT
+1 BEGIN
+1 INSERT 5 0 4 1 5
+1 COMMIT
+E4
+cp rows rows.left; pack rows; cp rows.left rows
+python3 -c '
+import base64,lzma
+open("'"$O"'/rows.xz.base64","wb").write(base64.encodebytes(lzma.compress(open("rows","rb").read(),preset=9|lzma.PRESET_EXTREME)))'
 ls -l "$O"; wc -l "$O"/*.dump
