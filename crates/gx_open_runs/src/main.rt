@@ -92,7 +92,7 @@ fn found(
     let (first, last) = (acknowledged_in(&ran.replies), ran.sealed);
     let mut disk = ran.disk;
     left.crash(&mut disk);
-    let copy = copy_of(alloc, &mut disk)?;
+    let copy = copy_of(alloc, &disk)?;
     let number = stands(alloc, copy, frames, &expected.sets, first, last)?;
     Ok(Start::Found(disk, number))
 }
