@@ -1,5 +1,6 @@
 //! The calls that are turns of a life: each makes the call of its name, and its contract says which turn that is.
 ghost use Rattle.std.specs.Prelude.{◌≡◌, ◌≤◌, ◌<◌, true, Err, OnOk, IfErr, IfOk, MatchResult};
+ghost use Rattle.gx_commands.specs.Migrating.{Migrates};
 ghost use Rattle.gx_disk.specs.declared.layout.TheConstants.{LEAST_SECTORS};
 ghost use Rattle.gx_engine.specs.Made.{Makes};
 ghost use Rattle.gx_format.specs.Formatting.{Formats};
@@ -17,9 +18,11 @@ ghost use Rattle.gx_opening.specs.Setting.{ExaminesAs, IsFormattedAs};
 ghost use Rattle.gx_lives.specs.Bearing.{Bears};
 ghost use Rattle.gx_lives.specs.Lives.{GoesOn, Lies, Works};
 ghost use Rattle.gx_lives.specs.Lives as life;
+ghost use Rattle.gx_lives.specs.Migrated.{BearsMigrated};
 ghost use Rattle.gx_lives.specs.OneRun.{IsNew};
 
 use crate::laws::an_opening_finds_no_damage;
+use crate::migrated::a_migration_begins_a_life;
 use gx_class::{Probing, ReadKeys};
 use gx_disk::SectorDisk;
 use gx_engine::laws::a_class_is_lawful;
@@ -62,6 +65,24 @@ pub fn format<D: SectorDisk, K: ReadKeys>(
     inners::<K>();
     fits(pages, most, K::CLASS);
     gx_format::format::<D, K>(alloc, disk, pages, most)
+}
+
+/// Migrates an index of the first version (`gx_migrate::migrate`, with its refusals). If both devices are honest, a
+/// life may begin then: the new one bears the machine that has the set of the old one alone, under the number that is
+/// returned.
+pub fn migrate<D: SectorDisk, E: SectorDisk, K: ReadKeys>(
+    alloc: Global,
+    old: &mut D,
+    new: &mut E,
+    frames: usize,
+) -> Result<(u64, u32), Refusal>
+    ensures migrates { Migrates K.Key.Shape K.ReadKeys D.state E.state frames
+        old.old old.new new.old new.new result }
+    ensures begins { (D.state old.old).honest ≡ true → (E.state new.old).honest ≡ true
+        → IfOk result (BearsMigrated K.Key.Shape K.ReadKeys E.state (D.state old.old) new.new) }
+{
+    a_migration_begins_a_life::<D, E, K>();
+    gx_migrate::migrate::<D, E, K>(alloc, old, new, frames)
 }
 
 /// An event of an engine (`Engine::step`): a turn of its life.

@@ -62,10 +62,11 @@ module _ {B : Type 0} (shape : Members B) (is_key : B → Bool) (said : List ℕ
     pub commits : told.0 ≡ number_of (known_for shape is_key said f p) (records_of moved.1.log.bodies)
     pub used : told.1 ≡ (analysis (known_for shape is_key said f p) (records_of moved.1.log.bodies)).used
 
-  -- An older device is formatted for an index of the class, and a new one stands for what it does.
+  -- An older device is formatted for an index of the class, and a new one, which has the sectors of such an index, stands for what it does.
   pub record IsMigrated (class : ℕ) (d e : Device) (told : ℕ × ℕ) : Type 0 where
     pub parameters : Parameters
     pub older : IsOlder class d.sectors d.seen (Ok parameters)
+    pub large : sectors_of parameters.pages ≤ e.sectors
     pub moved : HasMovedBy parameters (renumbered parameters.pages d.seen) e.seen told
     pub settled : IsSettled e
 

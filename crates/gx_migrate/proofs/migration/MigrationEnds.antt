@@ -138,11 +138,12 @@ module _ {B : Type 0} (shape : Members B) (is_key : B → Bool) (said : List ℕ
         (subst (λ (t : Parameters). LeavesInPhases other (StandsForFound shape is_key said f t (memory_state m).seen) new laid) same phases))
 
     -- and in the end
-    pub is_migrated : (e : disk.Device) (commits used : ℕ) → commits ≡ s.log.analysis.told.number → used ≡ s.log.analysis.told.used
+    pub is_migrated : (e : disk.Device) (commits used : ℕ) → sectors_of p.pages ≤ e.sectors → commits ≡ s.log.analysis.told.number → used ≡ s.log.analysis.told.used
         → HasMoved shape is_key said f s.parameters (memory_state m).seen e.seen × disk.IsSettled e → IsMigrated shape is_key said f class d e (commits, used)
-    is_migrated e commits used number greatest moved = record {
+    is_migrated e commits used room number greatest moved = record {
       parameters = p;
       older = older;
+      large = room;
       moved = moved_so s.parameters p (memory_state m).seen (renumbered p.pages d.seen) e.seen (commits, used) same bytes
           (moved_by class (memory_state m) (memory_state memory) s e.seen commits used found.1.1 moved.0 number greatest);
       settled = moved.1;

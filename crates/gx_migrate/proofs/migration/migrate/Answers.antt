@@ -1,4 +1,4 @@
-use Rattle.std.proofs.Common.{◌≡◌, ◌≤◌, ◌∙◌, sym, inl, inr, Ok, Err, rules}
+use Rattle.std.proofs.Common.{◌≡◌, ◌≤◌, ◌∙◌, sym, inl, inr, Ok, Err, arith, rules}
 use Rattle.gx_disk.proofs.Looking.{looks_joined}
 use Rattle.gx_format.specs.Formatting.{sectors_of}
 use Rattle.gx_machine.specs.Keys.{Members}
@@ -55,8 +55,11 @@ returns-in-Ok-lay-clause-migrated g c = λ honest other.
     let older = c.in-Ok.ensures.older honest (large_enough p c.in-Ok.ensures.allowed) in
     let found =
     found_of shape g.K.ReadKeys.is_proper g.K.ReadKeys.said (format_of g.K.KeyClass) g.K.KeyClass.CLASS p.pages _ d.seen (Ok (memory, s)) seen (c.in-Ok-find_older.ensures.found (c.in-Ok.ensures.only.honest ∙ honest)) in
+    let room : sectors_of p.pages ≤ (g.E.SectorDisk.state c.args.new.now).sectors = search rules in
+    let same = c.in-Ok-lay.ensures.device.0 in
+    let enough : sectors_of p.pages ≤ (g.E.SectorDisk.state c.lay.new.disk).sectors = omega (arith, room, same) in
     is_migrated shape g.K.ReadKeys.is_proper g.K.ReadKeys.said (format_of g.K.KeyClass) g.K.KeyClass.CLASS d p memory s (g.met.D.SectorDisk.whole c.args.old.now honest) older found
-    (g.E.SectorDisk.state c.lay.new.disk) c.number.result c.used.result c.number.ensures c.used.ensures (c.in-Ok-lay.ensures.moved found.0 memory other found.1.1 (sym c.bytes.ensures)))
+    (g.E.SectorDisk.state c.lay.new.disk) c.number.result c.used.result enough c.number.ensures c.used.ensures (c.in-Ok-lay.ensures.moved found.0 memory other found.1.1 (sym c.bytes.ensures)))
 
 pub returns-clause-looks : goal.returns-clause-looks
 returns-clause-looks g c = λ honest. looks_joined _ _ _ (c.in-Ok.ensures.looks honest) (c.in-Ok-find_older.ensures.looks (c.in-Ok.ensures.only.honest ∙ honest))
