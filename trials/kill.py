@@ -218,12 +218,47 @@ def is_migrated(file, tree):
     return False
 
 
+def unpacked(kind):
+    """Unpacks an index of version 1 as the file `old`. Its bytes, and what a program of that version prints of it."""
+    old = lzma.decompress(base64.decodebytes((VERSION1 / f"{kind}.xz.base64").read_bytes()))
+    pathlib.Path("old").write_bytes(old)
+    return old, (VERSION1 / f"{kind}.dump").read_bytes()
+
+
+def migration_stopped(call, number, how):
+    """Migrates `old` to `new` with this one of its calls of a kind killed or failed. Its status."""
+    command = ["strace", "-o", "/dev/null", "-e", f"trace={call}", "-e", f"inject={call}:{how}:when={number}", PROGRAM, "migrate", "old", "new"]
+    return subprocess.run(command, capture_output=True).returncode
+
+
+def stop_migrations():
+    """Kills or fails each call of a migration that changes the new file, over no file and over another index."""
+    new_file()
+    other = content("places")
+    stops, done = 0, 0
+    for kind, before in (("open", b""), ("open", other), ("fresh", b"")):
+        old, tree = unpacked(kind)
+        for call in ("ftruncate", "pwrite64", "fdatasync"):
+            for how, status in (("signal=KILL", -9), ("error=EIO", 1)):
+                number, ended = 0, status
+                while ended == status:
+                    number += 1
+                    pathlib.Path("new").write_bytes(before) if before else pathlib.Path("new").unlink(missing_ok=True)
+                    ended = migration_stopped(call, number, how)
+                    if content("old") != old:
+                        raise Wrong("the old file was changed")
+                    done += content("new") != before and is_migrated("new", tree)
+                stops += number - 1
+                if ended != 0:
+                    raise Wrong(f"status {ended} of a migration whose {call} {number} was to stop by {how}")
+    print(f"{stops} calls of migrations were stopped, each in turn; {done} were whole", flush=True)
+    return stops
+
+
 def kill_migrations(kills, seed):
     at = random.Random(seed)
     began = time.time()
-    old = lzma.decompress(base64.decodebytes((VERSION1 / "both.xz.base64").read_bytes()))
-    tree = (VERSION1 / "both.dump").read_bytes()
-    pathlib.Path("old").write_bytes(old)
+    old, tree = unpacked("both")
     migration_killed(None)
     whole = time.time() - began
     new_file()
@@ -250,7 +285,7 @@ def kill_migrations(kills, seed):
 def main():
     kills, seed, of_threads, of_migrations = map(int, sys.argv[4:])
     try:
-        met = kill_scripts(kills, seed) + kill_threads(of_threads, seed) + kill_migrations(of_migrations, seed)
+        met = kill_scripts(kills, seed) + kill_threads(of_threads, seed) + stop_migrations() + kill_migrations(of_migrations, seed)
     except Wrong as why:
         print(f"FAILED {why}")
         sys.exit(1)

@@ -10,6 +10,7 @@
 #
 # `gist migrate` brings an index of the format's first version into another file, over nothing or over another index. After each kill the
 # first file is byte for byte as it was, and the other is as it was, is refused, or holds the whole index; so does what was synced of it.
+# Before that each of its calls that changes the new file is killed in turn, and has an error in turn. Needs strace.
 #
 #   trials/kill.sh [KILLS [SEED [KILLS-OF-THREADS [KILLS-OF-MIGRATIONS]]]]
 #
