@@ -24,8 +24,6 @@ LONG_FUNCTIONS = {
     "gx_front/src/tests.rt what_is_committed_is_in_the_file": 52,
     "gx_plain_reader/src/log.rt take": 45,
     "gx_record/src/encode.rt write": 48,
-    "gx_storage/src/changes/marked.rt write_mark": 41,
-    "gx_storage/src/changes/set_mark.rt set_mark": 44,
     "gx_tests/src/classes.rt larger_splits": 46,
     "gx_tests/src/classes.rt ties": 48,
 }

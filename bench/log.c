@@ -1,5 +1,5 @@
 // The device calls of a log's batches alone, beside the proved log of gx_bench_runs: a body of 32,768 bytes, a sync, a gate of
-// 512 bytes, a sync, over the same places of a file. The argument is how many times 32 batches are written.
+// 512 bytes, a sync, over the same places of a file. The argument is how many times 128 batches are written.
 #define _GNU_SOURCE
 #include <fcntl.h>
 #include <stdint.h>
@@ -8,7 +8,7 @@
 #include <string.h>
 #include <unistd.h>
 
-enum { SECTOR = 512, SECTORS = 4168, BODY = 32768, PLACES = 32, GATES = 8, BODIES = 40 };
+enum { SECTOR = 512, SECTORS = 16648, BODY = 32768, PLACES = 128, GATES = 8, BODIES = 136 };
 
 static uint8_t body[BODY], gate[SECTOR];
 

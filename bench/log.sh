@@ -1,11 +1,11 @@
 #!/bin/sh
 # Builds the program that writes batches of a log to a file, and the same device calls in plain C, and times both on one file
 # system, the one and the other in turn. Times are of the clock, without what a run that writes nothing takes.
-# The first argument, if there is one, is how many times 32 batches a run writes; the second a folder on the file system to be
+# The first argument, if there is one, is how many times 128 batches a run writes; the second a folder on the file system to be
 # measured. CC names another compiler.
 set -eu
 top=$(cd "$(dirname "$0")/.." && pwd)
-rounds=${1:-10}
+rounds=${1:-3}
 made=$(mktemp -d ${2:+-p "$2"})
 trap 'rm -rf "$made"' EXIT
 cd "$top/crates/gx_bench_runs"
@@ -25,7 +25,7 @@ def run(words):
     return time.perf_counter() - began
 
 proved, plain, rounds = sys.argv[1], sys.argv[2], int(sys.argv[3])
-batches = 32 * rounds
+batches = 128 * rounds
 for kind in ["commit", "notes", "leaves"]:
     rates, ratios = [], []
     for _ in range(9):

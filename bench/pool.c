@@ -9,7 +9,7 @@
 #include <string.h>
 #include <unistd.h>
 
-enum { PAGE = 4096, AREA = 4168, SECTOR = 512, KEPT = 1024, PAGES = 4096, FRAMES = 64, ITEMS = 100, ITEM = 25, NONE = 0xffff };
+enum { PAGE = 4096, AREA = 16648, SECTOR = 512, KEPT = 1024, PAGES = 4096, FRAMES = 64, ITEMS = 100, ITEM = 25, NONE = 0xffff };
 
 typedef struct {
     uint32_t page; // 0 for an empty frame

@@ -73,6 +73,7 @@ enum gist_status {
                                  wrong */
     GIST_NO_CALL = 19,        /* never so here */
     GIST_HISTORY_FULL = 20,   /* the numbers of commits or transactions are used up */
+    GIST_OLD_VERSION = 21,    /* the file holds an index of an older version of the format */
     /* The client's own. After GIST_ENDED and GIST_PROTOCOL all calls of the index but gist_close answer GIST_ENDED. */
     GIST_ENDED = 32,    /* the program has ended, and with it all that was open; what was answered as committed stays */
     GIST_PROTOCOL = 33, /* the program answered what no gist of this kind answers; it was ended */
@@ -135,6 +136,12 @@ typedef struct gist_stats {
     uint32_t pages, fanout, key_class;
 } gist_stats;
 
+/* What a migration brought into the new file: the last commit, and how many pages are in use. */
+typedef struct gist_migrated {
+    uint64_t commits;
+    uint32_t used;
+} gist_migrated;
+
 /* In the calls of files `program` is the path of gist; where it is NULL, the environment variable GIST has it. PATH
    isn't searched, since other programs have that name. They answer GIST_SYSTEM where it can't be started, the refusal
    with which it ends, or GIST_ENDED where it ends badly without one: `end`, where it isn't NULL, says how (status 2:
@@ -149,10 +156,18 @@ enum { GIST_OVERWRITE = 1, GIST_SPACE = 2 };
    with errno EEXIST. GIST_DEVICE: the file can't be made or written, or is in use. */
 int gist_format(const char *program, const char *path, unsigned pages, unsigned fanout, unsigned flags, gist_end *end);
 
+/* Brings the index of the format's first version that the file `old` holds into the file `path`, which is made where it
+   isn't there. `old` is only read: keep it until the new index is verified. `flags` is 0 or GIST_OVERWRITE, as for
+   gist_format; with GIST_OK `migrated`, where it isn't NULL, says what came. Neither file may be open. Where it fails, a
+   file that was made for it is removed. GIST_NOT_FORMATTED: `old` holds no such index; and the refusals of gist_open. */
+int gist_migrate(const char *program, const char *old, const char *path, unsigned flags, gist_migrated *migrated,
+                 gist_end *end);
+
 /* Opens the index in the file `path`, with `frames` pages of 4,096 bytes in memory (16 to 4096; 0: as many as it has
    pages, at most 4096); what a crash cut off is undone first. With GIST_OK *index is the open index, which gist_close
-   has to close; with any other status it is NULL, and nothing is left open. GIST_DEVICE: the file isn't there, is in use or can't be read or written;
-   GIST_NOT_FORMATTED, GIST_TOO_SMALL, GIST_BAD_PARAMETER, GIST_DAMAGED: what it holds; GIST_MEMORY. */
+   has to close; with any other status it is NULL, and nothing is left open. GIST_DEVICE: the file isn't there, is in
+   use or can't be read or written; GIST_OLD_VERSION, GIST_NOT_FORMATTED, GIST_TOO_SMALL, GIST_BAD_PARAMETER,
+   GIST_DAMAGED: what it holds; GIST_MEMORY. */
 int gist_open(gist_index **index, const char *program, const char *path, unsigned frames, gist_end *end);
 
 /* Prints the tree of the index in the file `path` to a stream, as docs/SCRIPT.md has it. The index must not be open.

@@ -61,15 +61,22 @@ static int run_through(const char *program, const char **words, FILE *to, char l
     return GIST_SYSTEM;
 }
 
-/* Makes the file, where there is none. Returns whether it may be formatted: it is new, it is empty, or it is left to
-   the program to say why it can't be made. */
-static bool may_format(const char *path, bool *is_made) {
+/* Makes the file, where there is none. Returns whether an index may be laid down in it: it is new, it is empty, or it is
+   left to the program to say why it can't be made. */
+static bool may_lay_down(const char *path, bool *is_made) {
     struct stat found;
     int made = open(path, O_RDWR | O_CREAT | O_EXCL | O_NOCTTY | O_CLOEXEC, 0666);
     *is_made = made >= 0;
     if (*is_made) close(made);
     if (*is_made || errno != EEXIST || stat(path, &found) != 0) return true;
     return S_ISREG(found.st_mode) && found.st_size == 0;
+}
+
+/* Refuses a file that isn't empty and wasn't to be overwritten, and says so. */
+static int refuse_content(const char *path, gist_end *end) {
+    if (end) snprintf(end->sentence, sizeof end->sentence, "%s: it isn't empty, and wasn't to be overwritten", path);
+    errno = EEXIST;
+    return GIST_SYSTEM;
 }
 
 /* Removes the file that a format made and left empty. */
@@ -80,17 +87,19 @@ static void remove_empty(const char *path) {
     errno = failed;
 }
 
+/* Removes the file that a migration made; half an index would be refused as a file that isn't empty. */
+static void remove_made(const char *path) {
+    int failed = errno;
+    unlink(path);
+    errno = failed;
+}
+
 int gist_format(const char *program, const char *path, unsigned pages, unsigned fanout, unsigned flags, gist_end *end) {
     char count[16], most[16], last[GIST_LINE];
     bool is_made = false;
     if (end) *end = (gist_end){0};
     if (!path || (flags & ~(unsigned)(GIST_OVERWRITE | GIST_SPACE))) return gist_run_invalid();
-    if (!(flags & GIST_OVERWRITE) && !may_format(path, &is_made)) {
-        if (end)
-            snprintf(end->sentence, sizeof end->sentence, "%s: it isn't empty, and wasn't to be overwritten", path);
-        errno = EEXIST;
-        return GIST_SYSTEM;
-    }
+    if (!(flags & GIST_OVERWRITE) && !may_lay_down(path, &is_made)) return refuse_content(path, end);
     snprintf(count, sizeof count, "%u", pages);
     snprintf(most, sizeof most, "%u", fanout);
     /* (a program that has no boxes of space doesn't know the word) */
@@ -98,6 +107,25 @@ int gist_format(const char *program, const char *path, unsigned pages, unsigned 
     const char *of_space[] = {NULL, "format", "--class", "3", "--", path, count, most, NULL};
     int told = run_through(program, flags & GIST_SPACE ? of_space : of_plane, NULL, last, end);
     if (told != GIST_OK && is_made) remove_empty(path);
+    return told;
+}
+
+int gist_migrate(const char *program, const char *old, const char *path, unsigned flags, gist_migrated *migrated,
+                 gist_end *end) {
+    char last[GIST_LINE];
+    bool is_made = false;
+    gist_migrated found = {0};
+    if (end) *end = (gist_end){0};
+    if (migrated) *migrated = found;
+    if (!old || !path || (flags & ~(unsigned)GIST_OVERWRITE)) return gist_run_invalid();
+    if (!(flags & GIST_OVERWRITE) && !may_lay_down(path, &is_made)) return refuse_content(path, end);
+    const char *words[] = {NULL, "migrate", "--", old, path, NULL};
+    int told = run_through(program, words, NULL, last, end);
+    if (told == GIST_OK &&
+        sscanf(last, "migrated commits %" SCNu64 " used %" SCNu32, &found.commits, &found.used) != 2)
+        told = GIST_PROTOCOL;
+    if (told != GIST_OK && is_made) remove_made(path);
+    if (told == GIST_OK && migrated) *migrated = found;
     return told;
 }
 

@@ -36,6 +36,8 @@ static const text TEXTS[] = {
                             "bad parameter: the index is of other keys (gist_dimensions), or has numbers that none has"},
     [GIST_NO_CALL] = {"no call", "no call: an answer was asked for where no call is open"},
     [GIST_HISTORY_FULL] = {"history full", "history full: all numbers of commits are used up; make a fresh index"},
+    [GIST_OLD_VERSION] = {"old version",
+                          "old version: the index is of an older version; gist_migrate brings it into a new file"},
     [GIST_ENDED] = {"the program has ended",
                     "the program has ended, and with it all open transactions (gist_end says why); "
                     "open the file again: what was answered as committed is there"},

@@ -110,6 +110,7 @@ static const struct {
     {"killed", killed, 30},
     {"openings", openings, 30},
     {"overwriting", overwriting, 30},
+    {"migrations", migrations, 30},
     {"counts", counts, 30},
     {"installed", installed, 30},
     {"full_disk", full_disk, 60},

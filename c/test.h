@@ -37,6 +37,7 @@ void space_many(void);
 void wrong_boxes(void);
 void openings(void);
 void overwriting(void);
+void migrations(void);
 void counts(void);
 void installed(void);
 void killed(void);

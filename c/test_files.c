@@ -30,7 +30,7 @@ void openings(void) {
     }
     int zeros = open("zeros", O_RDWR | O_CREAT | O_CLOEXEC, 0600);
     HOLDS(ftruncate(zeros, 2048000) == 0 && gist_open(&other, NULL, "zeros", 64, &end) == GIST_TOO_SMALL);
-    HOLDS(ftruncate(zeros, 2199552) == 0 && gist_open(&other, NULL, "zeros", 64, NULL) == GIST_NOT_FORMATTED);
+    HOLDS(ftruncate(zeros, 512 * 16776) == 0 && gist_open(&other, NULL, "zeros", 64, NULL) == GIST_NOT_FORMATTED);
     HOLDS(close(zeros) == 0);
     index = fresh("-used", 16, 4);
     HOLDS(gist_open(&other, NULL, "-used", 64, &end) == GIST_DEVICE && strstr(end.sentence, "in use"));
@@ -50,8 +50,9 @@ void openings(void) {
     free(text);
     int odd = open("-used", O_RDWR | O_CLOEXEC);
     HOLDS(pwrite(odd, "\0\2", 2, 512 + 6) == 2 && gist_open(&other, NULL, "-used", 64, &end) == GIST_BAD_PARAMETER);
-    HOLDS(pwrite(odd, "\0\1", 2, 512 + 6) == 2 && pwrite(odd, "\0\0\0\2", 4, 4176 * 512 + 16) == 4);
+    HOLDS(pwrite(odd, "\0\1", 2, 512 + 6) == 2 && pwrite(odd, "\0\0\0\2", 4, 16656 * 512 + 16) == 4);
     HOLDS(gist_open(&other, NULL, "-used", 64, &end) == GIST_DAMAGED && strstr(end.sentence, "page 2"));
+    HOLDS(pwrite(odd, "1", 1, 7) == 1 && gist_open(&other, NULL, "-used", 64, &end) == GIST_OLD_VERSION);
     HOLDS(close(odd) == 0);
 }
 
@@ -80,6 +81,54 @@ void overwriting(void) {
     HOLDS(gist_format("/bin/false", "new", 8, 4, 0, NULL) == GIST_ENDED && !is_there("new"));
     HOLDS(gist_format("/", "new", 8, 4, 0, NULL) != GIST_OK && !is_there("new"));
     HOLDS(gist_format(NULL, "new", 8, 4, 0, NULL) == GIST_OK && is_there("new"));
+}
+
+/* A fresh index of the format's first version, for 8 pages of 4 entries. */
+static void make_older(const char *path) {
+    static const struct {
+        int sector, at;
+        const char *bytes;
+        size_t length;
+    } parts[] = {
+        {0, 0, "GISTRT01", 8},
+        {1, 0, "\0\0\0\10\0\4\0\1", 8},
+        {8, 0, "\247", 1},
+        {40, 0, "\0\0\0\35\5\0\0\0\0\0\0\0\0\0\0\0\0\0\0\0\0\0\0\0\2\0\0\0\0\0\0\0\1", 33},
+        {4168, 0, "\0\1\0\1\17\354", 6},
+        {4168, 20, "\0\0\0\1", 4},
+        {4168, 32, "\17\354\0\24", 4},
+        {4168, 4092, "\0\0\0\2", 4},
+        {4176, 4, "\20\0", 2},
+        {4176, 20, "\0\0\0\2", 4},
+    };
+    int file = open(path, O_RDWR | O_CREAT | O_CLOEXEC, 0600);
+    HOLDS(ftruncate(file, 512 * 4232) == 0);
+    for (size_t i = 0; i < sizeof parts / sizeof *parts; i++)
+        HOLDS(pwrite(file, parts[i].bytes, parts[i].length, 512 * parts[i].sector + parts[i].at) ==
+              (ssize_t)parts[i].length);
+    HOLDS(close(file) == 0);
+}
+
+void migrations(void) {
+    gist_migrated found;
+    gist_index *index = NULL;
+    gist_end end;
+    make_older("older");
+    HOLDS(gist_open(&index, NULL, "older", 64, &end) == GIST_OLD_VERSION && !index);
+    HOLDS(gist_migrate(NULL, "older", "newer", 0, &found, &end) == GIST_OK && end.status == 0);
+    HOLDS(found.commits == 0 && found.used == 2 && found_in("newer") == 0);
+    /* what a file holds is lost only where that is asked for */
+    HOLDS(gist_migrate(NULL, "older", "newer", 0, &found, &end) == GIST_SYSTEM && errno == EEXIST && found.used == 0);
+    HOLDS(strcmp(end.sentence, "newer: it isn't empty, and wasn't to be overwritten") == 0);
+    HOLDS(gist_migrate(NULL, "older", "newer", GIST_OVERWRITE, NULL, NULL) == GIST_OK);
+    HOLDS(gist_migrate(NULL, "older", "newer", GIST_SPACE, NULL, NULL) == GIST_SYSTEM && errno == EINVAL);
+    HOLDS(gist_migrate(NULL, "older", NULL, 0, NULL, NULL) == GIST_SYSTEM && errno == EINVAL);
+    /* a file that was made for it goes again */
+    HOLDS(gist_migrate(NULL, "newer", "third", 0, &found, &end) == GIST_NOT_FORMATTED && !is_there("third"));
+    HOLDS(gist_migrate(NULL, "nowhere", "third", 0, &found, &end) == GIST_DEVICE && !is_there("third"));
+    HOLDS(gist_migrate(NULL, "older", "older", GIST_OVERWRITE, &found, &end) == GIST_DEVICE);
+    HOLDS(strstr(end.sentence, "in use") && is_there("older"));
+    HOLDS(gist_migrate("/bin/echo", "older", "third", 0, &found, NULL) == GIST_PROTOCOL && !is_there("third"));
 }
 
 void counts(void) {

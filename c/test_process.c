@@ -36,7 +36,7 @@ void killed(void) {
     }
 }
 
-/* The file's first ten pages end at 2,134,016 + 40,960 bytes; no page behind them can be written. */
+/* The file's first ten pages end at 8,523,776 + 40,960 bytes; no page behind them can be written. */
 void full_disk(void) {
     gist_entry entries[100];
     gist_end end;
@@ -46,7 +46,7 @@ void full_disk(void) {
     int status = GIST_OK;
     HOLDS(gist_format(NULL, "full", 2048, 100, 0, NULL) == GIST_OK);
     HOLDS(getrlimit(RLIMIT_FSIZE, &before) == 0);
-    below = (struct rlimit){2134016 + 40960, before.rlim_max};
+    below = (struct rlimit){512 * 16648 + 40960, before.rlim_max};
     void (*usual)(int) = signal(SIGXFSZ, SIG_IGN);
     HOLDS(setrlimit(RLIMIT_FSIZE, &below) == 0);
     index = opened("full");

@@ -69,25 +69,25 @@ status, told, calls = run([devices], "file write\nfile write\nfile open\nfile cr
 case("a file is reported", told.splitlines(), ["file write: in use", "file write: in use", "file open: 4 sectors, 00 00 c3 00", "file create 5: 5 sectors, 00 00 c3 00"])
 case("a file's calls", calls, first + again + reads(0, 1, 2, 3) + [("ftruncate", 2560)] + reads(0, 1, 2, 3))
 
-# An extent of the log: 32 times a body and its gate, each with a sync behind it.
-SECTORS, BODY = 4168, 32768
+# An extent of the log: 128 times a body and its gate, each with a sync behind it.
+SECTORS, PLACES, BODIES, BODY = 16648, 128, 136, 32768
 def extent(begins, sync):
     calls = list(begins)
-    for k in range(32):
-        calls += [("pwrite64", BODY, 512 * (40 + 64 * k)), (sync,), ("pwrite64", 512, 512 * (8 + k)), ("fdatasync",)]
+    for k in range(PLACES):
+        calls += [("pwrite64", BODY, 512 * (BODIES + 64 * k)), (sync,), ("pwrite64", 512, 512 * (8 + k)), ("fdatasync",)]
         sync = "fdatasync"
     return calls
 
 new_log = extent([("ftruncate", 512 * SECTORS)], "fsync")
 status, told, calls = run([logs, "log", "commit", "1"])
 case("a log that makes its file", calls, new_log)
-case("its status", (status, told), (0, "32\n"))
+case("its status", (status, told), (0, f"{PLACES}\n"))
 with open("log.device", "rb") as it:
     bytes_now = it.read()
 gate = b"\xa7" + bytes(511)
 case("its length", len(bytes_now), 512 * SECTORS)
-case("its gates", [bytes_now[512 * (8 + k):512 * (9 + k)] == gate for k in range(33)], 32 * [True] + [False])
-case("its bodies", [bytes_now[512 * (40 + 64 * k):][:5].hex() for k in range(32)], 32 * [bytes_now[512 * 40:][:5].hex()])
+case("its gates", [bytes_now[512 * (8 + k):512 * (9 + k)] == gate for k in range(PLACES + 1)], PLACES * [True] + [False])
+case("its bodies", [bytes_now[512 * (BODIES + 64 * k):][:5].hex() for k in range(PLACES)], PLACES * [bytes_now[512 * BODIES:][:5].hex()])
 case("what is before them", any(bytes_now[:512 * 8]), False)
 status, told, calls = run([logs, "log", "commit", "1"])
 case("a log on a file of its length", calls, extent([], "fdatasync"))

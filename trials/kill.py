@@ -1,8 +1,11 @@
-"""What kill.sh kills, and what it looks at then: usage: kill.py PROGRAM THREADS SHIM KILLS SEED KILLS-OF-THREADS
+"""What kill.sh kills, and what it looks at then: usage: kill.py PROGRAM THREADS SHIM KILLS SEED KILLS-OF-THREADS KILLS-OF-MIGRATIONS
 
 In a separate folder, in which it makes its files."""
+import base64
 import collections
+import lzma
 import os
+import pathlib
 import random
 import re
 import subprocess
@@ -11,6 +14,8 @@ import threading
 import time
 
 PROGRAM, THREADS, SHIM = sys.argv[1:4]
+# The index of the format's first version that is migrated.
+VERSION1 = pathlib.Path(__file__).resolve().parent / "version1"
 ALL = b"1 BEGIN\n1 OVERLAP -2147483648 -2147483648 2147483647 2147483647\n"
 # Of one script, and of one file.
 COMMITS, MOST_COMMITS = 120, 600
@@ -188,10 +193,107 @@ def kill_threads(kills, seed):
     raise Wrong(f"a disk that lies wasn't noticed in {LIES} kills")
 
 
+def content(file):
+    return pathlib.Path(file).read_bytes() if os.path.exists(file) else b""
+
+
+def migration_killed(delay):
+    """Migrates `old` to `new`, and kills that after so many seconds. What it printed, and whether the kill met it."""
+    if os.path.exists("kept"):
+        os.remove("kept")
+    setting = {**os.environ, "FILE": "new", "KEPT": "kept", "LD_PRELOAD": SHIM}
+    command = [PROGRAM, "migrate", "old", "new"]
+    return killed(subprocess.Popen(command, stdout=subprocess.PIPE, stderr=subprocess.DEVNULL, env=setting), delay)
+
+
+def is_migrated(file, tree):
+    """Whether a file holds the migrated index, whose dump this is; else it holds none."""
+    told = subprocess.run([PROGRAM, "verify", file], capture_output=True, text=True)
+    if told.returncode == 0:
+        if subprocess.run([PROGRAM, "dump", file], capture_output=True).stdout != tree:
+            raise Wrong(f"{file} holds another index than the one that was migrated: {told}")
+        return True
+    if told.stdout not in ("refused 14 not formatted\n", "refused 17 too small\n"):
+        raise Wrong(f"{file} is neither refused nor whole: {told}")
+    return False
+
+
+def unpacked(kind):
+    """Unpacks an index of version 1 as the file `old`. Its bytes, and what a program of that version prints of it."""
+    old = lzma.decompress(base64.decodebytes((VERSION1 / f"{kind}.xz.base64").read_bytes()))
+    pathlib.Path("old").write_bytes(old)
+    return old, (VERSION1 / f"{kind}.dump").read_bytes()
+
+
+def put_new(before):
+    """Has the file `new` hold these bytes; without any there is no such file."""
+    path = pathlib.Path("new")
+    if before:
+        path.write_bytes(before)
+    else:
+        path.unlink(missing_ok=True)
+
+
+def migration_stopped(call, number, how):
+    """Migrates `old` to `new` with this one of its calls of a kind killed or failed. Its status."""
+    command = ["strace", "-o", "/dev/null", "-e", f"trace={call}", "-e", f"inject={call}:{how}:when={number}", PROGRAM, "migrate", "old", "new"]
+    return subprocess.run(command, capture_output=True).returncode
+
+
+def stop_migrations():
+    """Kills or fails each call of a migration that changes the new file, over no file and over another index."""
+    new_file()
+    other = content("places")
+    stops, done = 0, 0
+    for kind, before in (("open", b""), ("open", other), ("fresh", b"")):
+        old, tree = unpacked(kind)
+        for call in ("ftruncate", "pwrite64", "fdatasync"):
+            for how, status in (("signal=KILL", -9), ("error=EIO", 1)):
+                number, ended = 0, status
+                while ended == status:
+                    number += 1
+                    put_new(before)
+                    ended = migration_stopped(call, number, how)
+                    if content("old") != old:
+                        raise Wrong("the old file was changed")
+                    done += content("new") != before and is_migrated("new", tree)
+                stops += number - 1
+                if ended != 0 or not is_migrated("new", tree):
+                    raise Wrong(f"status {ended} of a migration whose {call} {number} was to stop by {how}")
+    print(f"{stops} calls of migrations were stopped, each in turn; {done} were whole", flush=True)
+    return stops
+
+
+def kill_migrations(kills, seed):
+    at = random.Random(seed)
+    began = time.time()
+    old, tree = unpacked("both")
+    migration_killed(None)
+    whole = time.time() - began
+    new_file()
+    other = content("places")
+    met, done = 0, 0
+    while met < kills:
+        # over no file, or over one that holds another index
+        before = other if at.random() < 0.5 else b""
+        put_new(before)
+        said, was_met = migration_killed(at.uniform(0, 1.05 * whole))
+        met += was_met
+        if content("old") != old:
+            raise Wrong("the old file was changed")
+        for file in filter(os.path.exists, ("new", "kept")):
+            if content(file) != before and is_migrated(file, tree):
+                done += file == "new"
+            elif said and file == "new":
+                raise Wrong(f"it was told as migrated and isn't: {said}")
+    print(f"{met} migrations were killed in {time.time() - began:.0f} s; {done} were whole", flush=True)
+    return met
+
+
 def main():
-    kills, seed, of_threads = map(int, sys.argv[4:])
+    kills, seed, of_threads, of_migrations = map(int, sys.argv[4:])
     try:
-        met = kill_scripts(kills, seed) + kill_threads(of_threads, seed)
+        met = kill_scripts(kills, seed) + kill_threads(of_threads, seed) + stop_migrations() + kill_migrations(of_migrations, seed)
     except Wrong as why:
         print(f"FAILED {why}")
         sys.exit(1)

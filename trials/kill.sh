@@ -8,10 +8,14 @@
 # be sound and to hold, of each thread, what its first n commits added, where n is how many were acknowledged, or one more. So has another
 # file, which has only what was synced (keep_synced.c): what a stop of the machine leaves at least. A disk that lies is noticed.
 #
-#   trials/kill.sh [KILLS [SEED [KILLS-OF-THREADS]]]
+# `gist migrate` brings an index of the format's first version into another file, over nothing or over another index. After each kill the
+# first file is byte for byte as it was, and the other is as it was, is refused, or holds the whole index; so does what was synced of it.
+# Before that each of its calls that changes the new file is killed in turn, and has an error in turn. Needs strace.
+#
+#   trials/kill.sh [KILLS [SEED [KILLS-OF-THREADS [KILLS-OF-MIGRATIONS]]]]
 #
 # PROGRAM and THREADS, where they are set, are the paths of the program and of gx_threads_example; else those of this checkout are proved and
-# built. KILLS is 200, SEED 1 and KILLS-OF-THREADS 40 where they aren't given. The last line counts the kills.
+# built. KILLS is 200, SEED 1, KILLS-OF-THREADS 40 and KILLS-OF-MIGRATIONS 100 where they aren't given. The last line counts the kills.
 set -euo pipefail
 top="$(cd "$(dirname "${BASH_SOURCE[0]}")/.." && pwd)"
 if [ -n "${PROGRAM-}" ]; then
@@ -30,4 +34,4 @@ work="$(mktemp -d)"
 trap 'rm -rf "$work"' EXIT
 "${CC:-cc}" -O2 -shared -fPIC -o "$work/keep_synced.so" "$top/trials/keep_synced.c" -lpthread
 cd "$work"
-python3 "$top/trials/kill.py" "$program" "$threads" "$work/keep_synced.so" "${1:-200}" "${2:-1}" "${3:-40}"
+python3 "$top/trials/kill.py" "$program" "$threads" "$work/keep_synced.so" "${1:-200}" "${2:-1}" "${3:-40}" "${4:-100}"

@@ -107,7 +107,7 @@ formatted='formatted pages 16 fanout 4
 cd "$work"
 
 on_file "a new file" 0 "$formatted" "" format places 16 4
-holds "its size" [ "$(stat -c %s places)" = $((512 * 4296)) ]
+holds "its size" [ "$(stat -c %s places)" = $((512 * 16776)) ]
 lines='1 BEGIN
 1 INSERT 7 0 0 10 10
 1 COMMIT
@@ -276,7 +276,7 @@ holds "and when it was changed" [ "$(stat -c %y tree)" = "$changed" ]
 cp places before
 for words in "format places 7 4" "format places 65537 4" "format places 16 3" "format places 16 101" "format places -16 4" "format places 16" \
     "format places 16 4 4" "format places sixteen 4" "run places --frames 15" "run places --frames 4097" "run places --frames" \
-    "run places --frames 16 --frames 16" "run places places" "run" "run --frames 16" "format" "dump" "dump places places" "dump places --frames 64" "verify" "verify places places" "verify places --frames 64" "open places" \
+    "run places --frames 16 --frames 16" "run places places" "run" "run --frames 16" "format" "dump" "dump places places" "dump places --frames 64" "verify" "verify places places" "verify places --frames 64" "open places" "migrate" "migrate places" "migrate places new new" "migrate places new --frames 15" "migrate places new --frames 4097" "migrate places new --class 1" \
     "plain --class 2" "plain --class 03" "plain --class" "plain --class 1 --class 1" "format places 16 4 --class 2" "run places --class 3" "dump places --class 1"; do
     # shellcheck disable=SC2086
     on_file "wrong words: $words" 2 "$nothing" "For more information, try '--help'" $words
@@ -290,7 +290,7 @@ on_file "a storm" 0 'storm ok calls 800
 on_file "a storm of one session" 0 'storm ok calls 2000
 ' "" storm 4294967295 1 2000
 # Each help is the whole text in trials/help.
-for command in gist plain format run dump verify storm; do
+for command in gist plain format run dump verify migrate storm; do
     words="$command --help"
     [ "$command" != gist ] || words=--help
     # shellcheck disable=SC2086
@@ -322,17 +322,43 @@ truncate -s 2048000 short
 shorter="^gist: the file is shorter than any index, or was cut$"
 on_file "a file of 4,000 sectors" 1 'refused 17 too small
 ' "$shorter" run short
-truncate -s 2199552 zeros
+truncate -s $((512 * 16776)) zeros
 on_file "a file of zeros" 1 'refused 14 not formatted
 ' "^gist: " run zeros
 on_file "its tree: none" 1 'refused 14 not formatted
 ' "^gist: " dump zeros
 on_file "zeros, verified" 1 'refused 14 not formatted
 ' "^gist: " verify zeros
+# Files that version 1 made, and one of this version's length with its letters: each is refused by these, and left as it is. One that was
+# cut shorter than any index of that version has is refused by its length, whatever it begins with.
+python3 - "$top/trials/version1" <<- 'END'
+	import base64, lzma, sys
+	for name in ["fresh", "log", "open", "both", "full"]:
+	    with open(f"{sys.argv[1]}/{name}.xz.base64", "rb") as packed, open(f"old_{name}", "wb") as file:
+	        file.write(lzma.decompress(base64.decodebytes(packed.read())))
+END
+cp places old_long
+printf 'GISTRT01' | dd of=old_long conv=notrunc 2> /dev/null
+for it in fresh log open both full long; do
+    cp "old_$it" older
+    for command in run dump verify; do
+        on_file "a file of version 1, $it: $command" 1 'refused 21 old version
+' "^gist: the index is of an older version; gist migrate makes one of this version from it$" "$command" older
+    done
+    holds "it stays as it was, $it" cmp -s older "old_$it"
+done
+holds "the least file of version 1 has no sector to spare" [ "$(stat -c %s old_fresh)" = $((512 * 4232)) ]
+cp old_fresh older
+truncate -s $((512 * 4231)) older
+for command in run dump verify; do
+    on_file "a file of version 1 that was cut: $command" 1 'refused 17 too small
+' "$shorter" "$command" older
+done
+source "$top/trials/migrate.sh"
 on_file "a name that begins with a hyphen" 0 "$formatted" "" format -- -places 16 4
 on_file "a path" 0 "$formatted" "" format "$work/another place" 16 4
 cp places damaged
-printf '\000\000\000\002' | dd of=damaged bs=1 seek=$((4176 * 512 + 16)) conv=notrunc 2> /dev/null
+printf '\000\000\000\002' | dd of=damaged bs=1 seek=$((16656 * 512 + 16)) conv=notrunc 2> /dev/null
 cp damaged as_damaged
 on_file "a damaged page, verified" 1 'refused 13 damaged
 ' "^gist: what the device holds is damaged: page 2: rightlinks lead to a page that is no leaf in use, or was passed$" verify damaged
@@ -358,10 +384,10 @@ on_file "a sweep of a live pair" 1 'refused 13 damaged
 "$program" run row < row_script > /dev/null
 # The whole file, whose bytes no later program changes.
 holds "a file of boxes of the plane has the bytes that it always had" \
-    [ "$(sha256sum < row)" = "83d28916db50687d559d4e4e1d86fffe17b08669de11a0347fe64b40df81f011  -" ]
+    [ "$(sha256sum < row)" = "8c9f892e628d07dcc9d57d3547180377843334a1869135ff8ebcd97feaf7ad48  -" ]
 batch() { printf '%s' "$@" | awk '{ printf "%08x%s", length($0) / 2, $0 }'; }
 # PLACE BYTES: that place's body, in extent B, begins with these.
-body_is() { [ "$(od -An -v -tx1 -j $((512 * (2120 + 64 * $1))) -N $((${#2} / 2)) row | tr -d ' \n')" = "$2" ]; }
+body_is() { [ "$(od -An -v -tx1 -j $((512 * (8456 + 64 * $1))) -N $((${#2} / 2)) row | tr -d ' \n')" = "$2" ]; }
 holds "a leaf's image is logged" body_is 1 0000204a
 holds "its second pair is logged small" body_is 2 "$(batch "08$(printf '%016x' 2)$(pair 8 0 0 5 5)$leaf" "$(commit 2)")"
 holds "a wider bound is" body_is 3 \
@@ -369,7 +395,7 @@ holds "a wider bound is" body_is 3 \
 holds "a mark is" body_is 4 "$(batch "07$(printf '%016x' 4)$(pair 7 0 0 10 10)0001$leaf" "$(commit 4)")"
 holds "a sweep is" body_is 6 "$(batch "0a${leaf}010000" "08$(printf '%016x' 6)$(pair 11 3 3 4 4)$leaf" "$(commit 6)")"
 cp places cut
-truncate -s $((512 * 4290)) cut
+truncate -s $((512 * 16770)) cut
 on_file "a file that was cut" 1 'refused 17 too small
 ' "$shorter" run cut
 

@@ -12,7 +12,7 @@ write_batch() {
     local file="$1" place="$2" records
     shift 2
     records="$(printf '%s' "$@")"
-    write_hex "$file" $((40 + 64 * place)) "$(printf '%08x' $((${#records} / 2)))$records"
+    write_hex "$file" $((136 + 64 * place)) "$(printf '%08x' $((${#records} / 2)))$records"
     write_hex "$file" $((8 + place)) "a7$(zeros 511)"
 }
 # ROW X1 Y1 X2 Y2, or none of a row: the bytes of a pair or of a key.

@@ -76,9 +76,9 @@ insert() {
     printf '1 BEGIN\n2 BEGIN\n1 INSERT 7 0 0 10 10\n2 INSERT 8 500 500 510 510\n1 COMMIT\n2 ABORT\n'
     printf '1 BEGIN\n1 DELETE 7 0 0 10 10\n1 INSERT 9 5 5 6 6\n1 COMMIT\n2 BEGIN\n2 OVERLAP 0 0 20 20\n2 COMMIT\n'
 } > short
-for number in $(seq 40); do
+for number in $(seq 100); do
     echo '1 BEGIN'
-    for row in $(seq 10); do insert 1 $((10 * number + row)); done
+    for row in $(seq 5); do insert 1 $((10 * number + row)); done
     echo '1 COMMIT'
 done > long
 
@@ -92,7 +92,7 @@ cp out ample
 syncs="$(grep -c sync calls)"
 noting "" run it --frames 16 < long
 holds "each of many commits is" is_settled
-holds "with two syncs each, and checkpoints" [ "$(grep -c sync calls)" -gt 82 ]
+holds "with two syncs each, and checkpoints" [ "$(grep -c sync calls)" -gt 202 ]
 noting "" dump it < /dev/null
 holds "what a dump writes is synced" [ "$(last_call)" = sync ]
 noting "" verify it < /dev/null

@@ -24,6 +24,7 @@ What is used most:
       .load(entries)           adds entries by the thousand
     stat(path)               an index in numbers
     verify(path)             tests an index
+    migrate(old, new)        brings an index of version 1 into a new file
     GistError                what any call raises; its classes say why
 
 Rows are integers below 2**64, boxes four integers of 32 bits: x1, y1, x2, y2;
@@ -34,14 +35,16 @@ what each call means and each refusal.
 """
 
 from gist._entries import MAX_CORNER, MAX_ROW, MIN_CORNER, Box, Box3, Hits
-from gist._files import Report, Stat, dump, format, open, stat, verify
+from gist._files import (Migrated, Report, Stat, dump, format, migrate, open,
+                         stat, verify)
 from gist._index import Index
 from gist._refusals import (Absent, BadBox, BadParameter, BadSession, Busy,
                             CallOpen, ClaimsFull, Damaged, Device, Ended,
                             Failed, GistError, HistoryFull, InTransaction,
                             InUse, Memory, NoCall, NoSession, NotFormatted,
-                            NoTransaction, PagesFull, PredicatesFull, Present,
-                            ProtocolError, Refused, TooSmall)
+                            NoTransaction, OldVersion, PagesFull,
+                            PredicatesFull, Present, ProtocolError, Refused,
+                            TooSmall)
 from gist._sessions import SESSIONS
 from gist._transactions import Reader, Transaction
 
@@ -49,10 +52,11 @@ __all__ = [
     "Absent", "BadBox", "BadParameter", "BadSession", "Box", "Box3", "Busy",
     "CallOpen", "ClaimsFull", "Damaged", "Device", "Ended", "Failed",
     "GistError", "HistoryFull", "Hits", "InTransaction", "InUse", "Index",
-    "MAX_CORNER", "MAX_ROW", "MIN_CORNER", "Memory", "NoCall", "NoSession",
-    "NoTransaction", "NotFormatted", "PagesFull", "PredicatesFull", "Present",
-    "ProtocolError", "Reader", "Refused", "Report", "SESSIONS", "Stat",
-    "TooSmall", "Transaction", "dump", "format", "open", "stat", "verify"]
+    "MAX_CORNER", "MAX_ROW", "MIN_CORNER", "Memory", "Migrated", "NoCall",
+    "NoSession", "NoTransaction", "NotFormatted", "OldVersion", "PagesFull",
+    "PredicatesFull", "Present", "ProtocolError", "Reader", "Refused",
+    "Report", "SESSIONS", "Stat", "TooSmall", "Transaction", "dump", "format",
+    "migrate", "open", "stat", "verify"]
 
 __version__ = "0.1.0"
 

@@ -104,6 +104,11 @@ def _copy(asked: argparse.Namespace) -> None:
     print(f"copied {count}")
 
 
+def _migrate(asked: argparse.Namespace) -> None:
+    it = gist.migrate(asked.old, asked.new)
+    print(f"migrated commits {it.commits} used {it.used}")
+
+
 def _draw(asked: argparse.Namespace) -> None:
     fanout = gist.stat(asked.index).fanout
     for line in draw(gist.dump(asked.index), fanout, Path(asked.index).name):
@@ -201,6 +206,11 @@ def _parser() -> argparse.ArgumentParser:
                   "must not exist, or be empty.")
     copying.add_argument("old", metavar="OLD")
     copying.add_argument("new", metavar="NEW")
+    migrating = add("migrate", _migrate, "bring an index of version 1 into a "
+                    "new file", "OLD is only read. NEW must not exist, or be "
+                    "empty.")
+    migrating.add_argument("old", metavar="OLD")
+    migrating.add_argument("new", metavar="NEW")
     copying.add_argument(
         "--pages", type=int, metavar="N", help="how many pages NEW may have, "
         "8 to 65536; without it as many as OLD, or twice what the entries "

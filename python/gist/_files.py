@@ -4,7 +4,7 @@ import errno
 import operator
 import os
 import time
-from contextlib import suppress
+from contextlib import contextmanager, suppress
 from typing import Iterator, NamedTuple, Optional
 
 from gist._entries import kind_of
@@ -29,6 +29,15 @@ class Report(NamedTuple):
     #: How many entries it has.
     entries: int
     #: How many of its pages are in use.
+    used: int
+
+
+class Migrated(NamedTuple):
+    """What `migrate` brought into the new file."""
+
+    #: The last commit's number.
+    commits: int
+    #: How many pages are in use.
     used: int
 
 
@@ -62,7 +71,8 @@ def open(path: AnyPath, frames: Optional[int] = None,
     file open; then it raises InUse.
 
     Raises OSError, as FileNotFoundError, for a file that can't be opened, and
-    NotFormatted, Damaged, TooSmall or BadParameter for what it holds.
+    OldVersion, NotFormatted, Damaged, TooSmall or BadParameter for what it
+    holds.
     """
     words_of(program)
     pages, _, _ = numbers_of(path, os.O_RDWR)
@@ -96,19 +106,34 @@ def format(path: AnyPath, pages: int, fanout: int = 100,
     chosen = ["--class", f"{kind.number:d}"] if kind.number > 1 else []
     words = words_of(program, "format", *chosen, "--", os.fspath(path),
                      f"{pages:d}", f"{fanout:d}")
-    is_made = _make(path, overwrite)
-    try:
+    with _made(path, overwrite):
         line = "".join(lines_of(words))
         if not line.startswith("formatted "):
             raise ProtocolError(f"{line!r} as the index was formatted")
-    except InUse:
-        raise
-    except BaseException:
-        if is_made:
-            # (half an index would be refused as a file that isn't empty)
-            with suppress(FileNotFoundError):
-                os.unlink(path)
-        raise
+
+
+def migrate(old: AnyPath, new: AnyPath, program: Optional[AnyPath] = None,
+            overwrite: bool = False) -> Migrated:
+    """Brings an index of the format's first version into a new file.
+
+    The file old is only read, so it has to be kept until the new one is
+    verified. new is made or is empty; FileExistsError is raised for a file
+    that isn't, unless overwrite is given: what the file held is lost then.
+    Neither may be open. Numbers of commits go on; what open transactions
+    have written is undone as the new index is opened.
+
+    Raises NotFormatted for a file without such an index, and what verify
+    raises.
+    """
+    words = words_of(program, "migrate", "--", os.fspath(old),
+                     os.fspath(new))
+    numbers_of(old)
+    with _made(new, overwrite):
+        line = "".join(lines_of(words))
+        told = line.split(" ")
+        if told[:1] != ["migrated"] or told[1::2] != ["commits", "used"]:
+            raise ProtocolError(f"{line!r} as the index was migrated")
+    return Migrated(*map(int, told[2::2]))
 
 
 def dump(path: AnyPath, program: Optional[AnyPath] = None) -> Iterator[str]:
@@ -147,6 +172,22 @@ def _check(name: str, number: int, least: int, most: int) -> None:
     if not least <= operator.index(number) <= most:
         raise ValueError(f"{name} is {number}: an integer from {least} to "
                          f"{most}")
+
+
+@contextmanager
+def _made(path: AnyPath, overwrite: bool) -> Iterator[None]:
+    """Makes a file where none exists; it goes again if what follows fails."""
+    is_made = _make(path, overwrite)
+    try:
+        yield
+    except BaseException as fault:
+        # (half an index would be refused as a file that isn't empty; one that
+        # is in use may be another's by now, unless nothing was written)
+        if is_made:
+            with suppress(FileNotFoundError):
+                if not (isinstance(fault, InUse) and os.stat(path).st_size):
+                    os.unlink(path)
+        raise
 
 
 def _make(path: AnyPath, overwrite: bool) -> bool:

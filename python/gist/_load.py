@@ -1,7 +1,7 @@
 """Loads entries into an index in the order of their places.
 
 Inserts that are near each other change few leaves, and a leaf that the log
-has already costs little: a load of 100,000 boxes in random order takes ten
+has already costs little: a load of 100,000 boxes in random order takes six
 times as many syncs as a sorted one.
 """
 

@@ -218,6 +218,12 @@ class HistoryFull(Refused):
     advice = "copy the entries to a fresh index"
 
 
+class OldVersion(Refused):
+    """The file holds an index of an older version of the format."""
+    number = 21
+    advice = "gist.migrate brings it into a new file"
+
+
 _BY_NUMBER = {it.number: it for it in Refused.__subclasses__()}
 
 

@@ -14,7 +14,7 @@ import gist
 from tests import PLANE, PROGRAM, REPOSITORY, Case, box_of, entries, rows
 
 # Where the file's first ten pages end: no page behind them can be written.
-TEN_PAGES = 2134016 + 10 * 4096
+TEN_PAGES = 512 * 16648 + 10 * 4096
 
 # A separate client, which is killed in the middle of a transaction.
 KILLED = """

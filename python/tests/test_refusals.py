@@ -20,7 +20,7 @@ class Refusals(Case):
     def test_names_and_numbers(self) -> None:
         table = re.findall(r"^\| (\d+) \| `([a-z ]+?)(?: T)?` \|",
                            (REPOSITORY / "docs/SCRIPT.md").read_text(), re.M)
-        self.assertEqual(len(table), 20)
+        self.assertEqual(len(table), 21)
         header = (REPOSITORY / "c/gist_client.h").read_text()
         for number, text in table:
             name = text.title().replace(" ", "")
@@ -33,10 +33,10 @@ class Refusals(Case):
             self.assertRegex(str(it), f"^{text}: [a-z].{{8,}}")
             in_c = f"GIST_{text.upper().replace(' ', '_')}"
             self.assertRegex(header, rf"\b{in_c} = {number}, ")
-        later = refusal(b"21 something new")
+        later = refusal(b"22 something new")
         self.assertIs(type(later), gist.Refused)
         assert isinstance(later, gist.Refused)
-        self.assertEqual(later.number, 21)
+        self.assertEqual(later.number, 22)
         self.assertEqual(str(later), "something new")
 
     def test_of_entries(self) -> None:
@@ -115,7 +115,7 @@ class Refusals(Case):
         self.new()
         with open(self.path, "r+b") as file:
             # (the log's first record: the last commit has the last number)
-            file.seek(40 * 512)
+            file.seek(136 * 512)
             file.write(struct.pack(">IBQQIQ", 29, 5, 2 ** 64 - 1, 0, 2, 1))
         with gist.open(self.path) as index:
             for _ in range(gist.SESSIONS + 1):
@@ -192,8 +192,14 @@ class Openings(Case):
     def test_no_index(self) -> None:
         self.path.write_bytes(bytes(2048000))
         self.refuses(gist.TooSmall, "small|short|cut")
-        self.path.write_bytes(bytes(2199552))
+        self.path.write_bytes(bytes(512 * 16776))
         self.refuses(gist.NotFormatted, ": [a-z]|^[a-z]")
+
+    def test_an_older_index(self) -> None:
+        self.new()
+        with open(self.path, "r+b") as file:
+            file.write(b"GISTRT01")
+        self.refuses(gist.OldVersion, "older version; gist migrate")
 
     def test_another_index(self) -> None:
         self.new()
@@ -209,7 +215,7 @@ class Openings(Case):
         # (an opening writes its page, and empties the log)
         self.assertEqual(len(self.found()), 1)
         with open(self.path, "r+b") as file:
-            file.seek(4176 * 512 + 16)
+            file.seek(16656 * 512 + 16)
             file.write(b"\0\0\0\2")
         self.refuses(gist.Damaged, "damaged: page 2")
 

@@ -1,10 +1,10 @@
-//! Batches of a log written to a file, 32 at a time, with one record each (`commit`), as many notes as fit (`notes`),
+//! Batches of a log written to a file, 128 at a time, with one record each (`commit`), as many notes as fit (`notes`),
 //! or as many writes to leaves of 100 entries (`leaves`). The sum is how many records were written.
 ghost use Rattle.gx_record.specs.Format.{IsInRange};
 ghost use Rattle.gx_record.specs.Seen.{rec_of};
 
 use crate::leaves::leaf;
-use gx_disk::{FileDisk, SectorDisk};
+use gx_disk::{FileDisk, PAGES_AT, SectorDisk};
 use gx_glog::{Appended, Extent, Glog, PLACES, Stage};
 use gx_page::Page;
 use gx_record::{Mark, Record};
@@ -15,7 +15,7 @@ use std::fs::{File, Files};
 pub(crate) const FILE: &str = "log.device";
 
 /// How many sectors it has: those in front of the pages.
-const SECTORS: u64 = 4168;
+const SECTORS: u64 = PAGES_AT;
 
 /// What a batch has.
 #[derive(Clone, Copy)]

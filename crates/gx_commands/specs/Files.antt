@@ -2,6 +2,7 @@
 use Rattle.std.specs.Prelude.{ℕ, ◌≡◌, ◌≤◌, ◌⊎◌, List, Option, None, Some, Ok, Err}
 use Rattle.gx_geom.specs.Rectangles.{Rectangle}
 use Rattle.gx_geom.specs.Solids.{Solid}
+use Rattle.gx_geom.specs.declared.refusal.Refusal.{Refusal}
 use Rattle.gx_geom.specs.declared.refusal.Refusal.TheVariants.{Device as NoDevice}
 use Rattle.gx_machine.specs.Keys.{Members}
 use Rattle.gx_class.specs.declared.class.KeyClass.{Ghosts}
@@ -14,10 +15,13 @@ use Rattle.gx_format.specs.Fresh.{fresh_root}
 use Rattle.gx_commands.specs.Devices.{DumpsDevice, RunsDevice, VerifiesDevice}
 use Rattle.gx_commands.specs.Endings.{FormatsOver}
 use Rattle.gx_commands.specs.Lines.{fault_text, named, refusal_line}
+use Rattle.gx_commands.specs.Migrating.{FindsNoneOlder, FindsOlder, MigratesBoxes}
 use Rattle.gx_commands.specs.Opener.{Tries, is_writable}
+use Rattle.gx_commands.specs.Refusing.{Refuses}
 use Rattle.gx_commands.specs.Streams.{Outputs, Prints, Stream, TellsPerson}
 use Rattle.gx_commands.specs.declared.opener.Access.{Access}
 use Rattle.gx_commands.specs.declared.opener.Access.TheVariants.{Create, Write, Read}
+use Rattle.gx_commands.specs.declared.devices.Kind.{Kind}
 use Rattle.gx_commands.specs.declared.opener.Opener.{Opener}
 
 -- A file that couldn't be opened: the user is told its name and why.
@@ -106,3 +110,57 @@ module _ {C E F : Type 0} (plane : Members Rectangle) (plane_class : Ghosts C Re
   -- how verifying a file may end
   abbrev pub EndsVerify : Outputs → Outputs → ℕ → Type 0
   EndsVerify from to status = IsNotOpened file old new Read from to status ⊎ VerifiesFile from to status
+
+module _ {C E F : Type 0} (plane : Members Rectangle) (plane_class : Ghosts C Rectangle) (space : Members Solid) (space_class : Ghosts E Solid) (state : FileDisk → Device) where
+  -- the index of boxes of an open device was migrated to the file, which had been extended for it
+  pub record MigratesToFile (kind : Kind) (pages : ℕ) (file : List ℕ) (old new : Opener F) (frames : ℕ) (had read : FileDisk) (from to : Outputs) (status : ℕ) : Type 0 where
+    pub disk : FileDisk
+    pub after : FileDisk
+    pub between : Outputs
+    pub uses : Uses file old new (Create (sectors_of pages)) disk after between to
+    pub room : sectors_of pages ≤ disk.sectors
+    pub migrates : MigratesBoxes plane plane_class space space_class state state kind frames had read disk after from between status
+
+  -- how that may end: of a file that couldn't be opened, with no call of the device
+  abbrev pub EndsMove : Kind → ℕ → List ℕ → Opener F → Opener F → ℕ → FileDisk → FileDisk → Outputs → Outputs → ℕ → Type 0
+  EndsMove kind pages file old new frames had read from to status =
+      ((read ≡ had) × IsNotOpened file old new (Create (sectors_of pages)) from to status) ⊎ MigratesToFile kind pages file old new frames had read from to status
+
+  -- what follows of a device that was opened to be read alone: of which boxes its index is was read, and that is migrated; or it holds none of the first version,
+  -- which is reported, and no other file is opened
+  pub record MigratesKind (file : List ℕ) (old new : Opener F) (frames : ℕ) (had read : FileDisk) (from to : Outputs) (status : ℕ) : Type 0 where
+    pub kind : Kind
+    pub pages : ℕ
+    pub told : FileDisk
+    pub finds : FindsOlder state had told (Ok (kind, pages))
+    pub ends : EndsMove kind pages file old new frames told read from to status
+
+  pub record HasNoOlder (old new : Opener F) (had read : FileDisk) (from to : Outputs) (status : ℕ) : Type 0 where
+    pub why : Refusal
+    pub finds : FindsNoneOlder state had read why
+    pub unopened : new ≡ old
+    pub told : Refuses why from to status
+
+  abbrev pub FollowsOlder : List ℕ → Opener F → Opener F → ℕ → FileDisk → FileDisk → Outputs → Outputs → ℕ → Type 0
+  FollowsOlder file old new frames had read from to status =
+      MigratesKind file old new frames had read from to status ⊎ HasNoOlder old new had read from to status
+
+  -- Two files: the first was opened to be read alone, and what followed was done before anything became of it. It is kept last as it was left, and nothing is done to it
+  -- from then on; why a call of it failed is reported.
+  pub record MigratesFiles (first second : List ℕ) (old new : Opener F) (frames : ℕ) (from to : Outputs) (status : ℕ) : Type 0 where
+    pub disk : FileDisk
+    pub after : FileDisk
+    pub begun : Opener F
+    pub ended : Opener F
+    pub between : Outputs
+    pub tries : Tries first Read (Ok disk.sectors) old begun
+    pub opened : IsOpened (is_writable Read) disk
+    pub unkept : begun.left ≡ old.left
+    pub follows : FollowsOlder second begun ended frames disk after from between status
+    pub leaves : Leaves first after ended new between.person to.person
+    pub quiet : to.replies ≡ between.replies
+
+  -- how a migration from one file to another may end
+  abbrev pub EndsMigration : List ℕ → List ℕ → Opener F → Opener F → ℕ → Outputs → Outputs → ℕ → Type 0
+  EndsMigration first second old new frames from to status =
+      IsNotOpened first old new Read from to status ⊎ MigratesFiles first second old new frames from to status

@@ -4,6 +4,7 @@ pub mod Watching
 pub mod Opener
 pub mod Openings
 pub mod Devices
+pub mod Migrating
 pub mod Files
 pub mod Endings
 pub mod Dumping

@@ -5,7 +5,7 @@ use Rattle.std.specs.declared.io.ErrorKind.TheVariants as error
 use Rattle.gx_disk.specs.declared.device.DiskFault.{DiskFault}
 use Rattle.gx_disk.specs.declared.device.DiskFault.TheVariants as disk
 use Rattle.gx_geom.specs.declared.refusal.Refusal.{Refusal}
-use Rattle.gx_geom.specs.declared.refusal.Refusal.TheVariants.{Memory, Device, Failed, Damaged, NotFormatted, TooSmall, BadParameter}
+use Rattle.gx_geom.specs.declared.refusal.Refusal.TheVariants.{Memory, Device, Failed, Damaged, NotFormatted, OldVersion, TooSmall, BadParameter}
 use Rattle.gx_geom.specs.Refusals.{refusal_number, refusal_text}
 use Rattle.gx_opening.specs.Texts.{damage_text}
 use Rattle.gx_opening.specs.declared.damage.Damage.{Damage}
@@ -26,6 +26,10 @@ abbrev pub verified_line : Report → List ℕ
 verified_line r =
     codes "ok commits " ++ (decimal r.commits ++ (codes " entries " ++ (decimal r.entries ++ (codes " used " ++ (decimal r.used ++ (10 ∷ []))))))
 
+-- an index that was migrated: the number of the last commit, and the greatest page in use
+abbrev pub migrated_line : ℕ → ℕ → List ℕ
+migrated_line commits used = codes "migrated commits " ++ (decimal commits ++ (codes " used " ++ (decimal used ++ (10 ∷ []))))
+
 -- what the user is told of a refusal outside of a script
 abbrev pub sentence_of : Refusal → List ℕ
 sentence_of Memory = codes "there isn't enough memory"
@@ -33,6 +37,7 @@ sentence_of Device = codes "a read, a write or a sync of the device failed"
 sentence_of Failed = codes "the device had failed before"
 sentence_of Damaged = codes "what the device holds is damaged"
 sentence_of NotFormatted = codes "the device holds no index; it has to be formatted first"
+sentence_of OldVersion = codes "the index is of an older version; gist migrate makes one of this version from it"
 sentence_of TooSmall = codes "the file is shorter than any index, or was cut"
 sentence_of BadParameter = codes "a number is out of its range, or the index has another kind of keys"
 sentence_of other = refusal_text other

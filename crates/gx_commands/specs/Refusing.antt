@@ -1,6 +1,6 @@
 -- How a command ends that is refused: its status, what it has written, and what the user was told.
 use Rattle.std.specs.Prelude.{ℕ, ◌≡◌, ◌<◌, ◌≤◌, true, Option, Some, Result, Ok, Err}
-use Rattle.gx_disk.specs.declared.layout.TheConstants.{MIN_SECTORS}
+use Rattle.gx_disk.specs.declared.layout.TheConstants.{LEAST_SECTORS}
 use Rattle.gx_geom.specs.declared.refusal.Refusal.{Refusal}
 use Rattle.gx_geom.specs.declared.refusal.Refusal.TheVariants.{Damaged, Device as NoDevice}
 use Rattle.gx_machine.specs.Keys.{Members}
@@ -29,7 +29,7 @@ module _ {B D : Type 0} (shape : Members B) (traits : Traits B) (state : D → D
   -- true, and where that is damaged something was found, unless a call failed or memory was refused.
   pub record TellsDamage (number : ℕ) (disk after : D) (old new : Outputs) (status : ℕ) : Type 0 where
     pub found : Result (Option Damage) Refusal
-    pub is_true : (state disk).honest ≡ true → MIN_SECTORS ≤ (state disk).sectors
+    pub is_true : (state disk).honest ≡ true → LEAST_SECTORS ≤ (state disk).sectors
         → Examines shape traits.is_proper traits.said (format_of (own traits)) D number (after ≡ disk) (state disk) found
     pub finds : (state disk).honest ≡ true → HoldsDamaged shape traits.is_proper traits.said (format_of (own traits)) number (state disk)
         → FindsDamage shape traits.is_proper traits.said (format_of (own traits)) D number (after ≡ disk) (state disk) found

@@ -1,7 +1,7 @@
 -- How a device is verified: the result, what is printed, and what the user is told.
 use Rattle.std.specs.Prelude.{ℕ, ◌≡◌, ◌⊎◌, ◌<◌, ◌≤◌, true, Option, Some, Result, Ok, Err, IfErr, IfOk}
 use Rattle.std.specs.Io.KnownBytes.{Appends}
-use Rattle.gx_disk.specs.declared.layout.TheConstants.{MIN_SECTORS}
+use Rattle.gx_disk.specs.declared.layout.TheConstants.{LEAST_SECTORS}
 use Rattle.gx_class.specs.Traits.{Traits, own}
 use Rattle.gx_commands.specs.Scripts.{TellsFault}
 use Rattle.gx_commands.specs.Streams.{Outputs, Prints, Stream, TakesNoMore}
@@ -29,12 +29,12 @@ use Rattle.gx_restart.specs.Setting.{IsDamagedCopyAs}
 pub record Verifies {B D : Type 0} (shape : Members B) (traits : Traits B)
     (state : D → Device) (number frames : ℕ) (old new : D) (result : Result Report Refusal) : Type 0 where
   pub frames_are : ((16 ≤ frames) × (frames ≤ 4096) → ⊥) → (result ≡ Err BadParameter) × (new ≡ old)
-  pub small : 16 ≤ frames → frames ≤ 4096 → (state old).sectors < MIN_SECTORS → (result ≡ Err TooSmall) × (new ≡ old)
+  pub small : 16 ≤ frames → frames ≤ 4096 → (state old).sectors < LEAST_SECTORS → (result ≡ Err TooSmall) × (new ≡ old)
   pub counted : Counted 0 (state old) (state new) result
   pub looks : (state old).honest ≡ true → Looks (state old) (state new)
   pub verified : (state old).honest ≡ true
       → IfOk result (IsVerified shape traits.is_proper traits.said (format_of (own traits)) number (state old))
-  pub refused : (state old).honest ≡ true → 16 ≤ frames → frames ≤ 4096 → MIN_SECTORS ≤ (state old).sectors
+  pub refused : (state old).honest ≡ true → 16 ≤ frames → frames ≤ 4096 → LEAST_SECTORS ≤ (state old).sectors
       → IfErr result (IsUnverified shape traits.is_proper traits.said (format_of (own traits)) number (state old))
 
 -- A report is written: its whole line; or a beginning of it, if the writer takes no more, which the user is told.

@@ -1,12 +1,14 @@
 //! The commands over a device whose index is of boxes; the device says whether they are of the plane or of space.
 ghost use Rattle.gx_commands.specs.Devices.{DumpsDevice, FindsKind, HasKind, RunsDevice, VerifiesDevice};
+ghost use Rattle.gx_commands.specs.Migrating.{FindsOlder, MigratesBoxes};
 ghost use Rattle.gx_commands.specs.Streams.{outputs_of, stream_of};
 
 use crate::refusals::refuse;
-use crate::{dump_over, run_over, verify_over};
+use crate::{dump_over, migrate_over, run_over, verify_over};
 use gx_class::{Box2Class, Box3Class, KeyClass};
 use gx_disk::SectorDisk;
 use gx_geom::{Box2, Box3, Refusal, Shape};
+use gx_older::class_of_old;
 use gx_restart::class_of;
 use gx_script::Noted;
 use std::alloc::Global;
@@ -42,6 +44,18 @@ fn kind_of<D: SectorDisk>(disk: &mut D) -> Result<Kind, Refusal>
     let class = class_of(disk)?;
     match boxes_of(class) {
         Some(kind) => Ok(kind),
+        None => Err(Refusal::BadParameter),
+    }
+}
+
+/// Reads from a device of the first version whether its index is of boxes of the plane or of space, and for how many
+/// pages. Refused as `gx_older::class_of_old` is, and with `BadParameter` if it is of intervals.
+pub(crate) fn kind_of_old<D: SectorDisk>(disk: &mut D) -> Result<(Kind, u32), Refusal>
+    ensures { FindsOlder D.state disk.old disk.new result }
+{
+    let told = class_of_old(disk)?;
+    match boxes_of(told.0) {
+        Some(kind) => Ok((kind, told.1)),
         None => Err(Refusal::BadParameter),
     }
 }
@@ -119,5 +133,31 @@ pub fn verify_device<D: SectorDisk, W: Write, E: Write>(
         Ok(Kind::Plane) => verify_over::<D, Box2Class, W, E>(alloc, disk, frames, writer, faults),
         Ok(Kind::Space) => verify_over::<D, Box3Class, W, E>(alloc, disk, frames, writer, faults),
         Err(why) => refuse(writer, faults, why),
+    }
+}
+
+/// Migrates an index of boxes of the first version from one device to another, as `migrate_over` does: of the plane or
+/// of space.
+pub fn migrate_device<D: SectorDisk, N: SectorDisk, W: Write, E: Write>(
+    alloc: Global,
+    kind: Kind,
+    old: &mut D,
+    new: &mut N,
+    frames: usize,
+    writer: &mut Noted<W>,
+    faults: &mut Noted<E>,
+) -> u8
+    ensures { MigratesBoxes ⟦<Box2 as Shape>⟧ ⟦<Box2Class as KeyClass>⟧ ⟦<Box3 as Shape>⟧ ⟦<Box3Class as KeyClass>⟧
+        D.state N.state kind frames old.old old.new new.old new.new
+        (outputs_of W.contents E.contents writer.old faults.old)
+        (outputs_of W.contents E.contents writer.new faults.new) result }
+{
+    match kind {
+        Kind::Plane => migrate_over::<D, N, Box2Class, W, E>(
+            alloc, old, new, frames, writer, faults,
+        ),
+        Kind::Space => migrate_over::<D, N, Box3Class, W, E>(
+            alloc, old, new, frames, writer, faults,
+        ),
     }
 }

@@ -1,11 +1,13 @@
 //! The commands over a file.
-ghost use Rattle.gx_commands.specs.Files.{EndsDump, EndsFormat, EndsRun, EndsVerify, HasNoDevice, Leaves};
+ghost use Rattle.gx_commands.specs.Files.{EndsDump, EndsFormat, EndsMigration, EndsMove, EndsRun, EndsVerify};
+ghost use Rattle.gx_commands.specs.Files.{FollowsOlder, HasNoDevice, Leaves};
 ghost use Rattle.gx_commands.specs.Streams.{outputs_of, stream_of};
 
+use crate::devices::{Kind, kind_of_old};
 use crate::opener::{Access, Opener};
 use crate::person::tell_file;
-use crate::refusals::print_refusal;
-use crate::{REFUSED, dump_device, format_over, run_device, verify_device};
+use crate::refusals::{print_refusal, refuse};
+use crate::{REFUSED, dump_device, format_over, migrate_device, run_device, verify_device};
 use gx_class::{Box2Class, Box3Class, KeyClass};
 use gx_disk::{DiskFault, FileDisk, SectorDisk};
 use gx_format::sectors_for;
@@ -129,6 +131,89 @@ pub fn verify_file<'w, F: Files<File = File>, W: Write, E: Write>(
             status
         }
         Err(fault) => refuse_file(file, fault, writer, faults),
+    }
+}
+
+/// Opens an existing file only for reading, opens or creates another, which it extends if it is shorter, and migrates
+/// the index of boxes of the first version that the first holds to the other. The first file doesn't change.
+///
+/// The status is that of `migrate_device`. It is also 1 if either file can't be opened, so also if both are one: then
+/// the function writes `refused 11 device`, and tells the user that file's name and why. If the first holds no index of
+/// boxes of the first version, the function writes `refused N text`, tells the user what that means, and opens no other
+/// file. If a call of a file failed, it tells the user why.
+pub fn migrate_file<'w, F: Files<File = File>, W: Write, E: Write>(
+    opener: &mut Opener<'w, F>,
+    alloc: Global,
+    old: &'w str,
+    new: &'w str,
+    frames: usize,
+    writer: &mut Noted<W>,
+    faults: &mut Noted<E>,
+) -> u8
+    ensures { EndsMigration ⟦<Box2 as Shape>⟧ ⟦<Box2Class as KeyClass>⟧ ⟦<Box3 as Shape>⟧ ⟦<Box3Class as KeyClass>⟧
+        ⟦<FileDisk as SectorDisk>⟧.state old.now new.now opener.old opener.new frames
+        (outputs_of W.contents E.contents writer.old faults.old)
+        (outputs_of W.contents E.contents writer.new faults.new) result }
+{
+    match opener.open(old, Access::Read) {
+        Ok(mut disk) => {
+            let status = migrate_older(opener, alloc, &mut disk, new, frames, writer, faults);
+            leave(opener, old, disk, faults);
+            status
+        }
+        Err(fault) => refuse_file(old, fault, writer, faults),
+    }
+}
+
+// Migrates the index of boxes of the first version that a device holds to a file, and returns the status. If it holds
+// none, that is reported, and no file is opened.
+fn migrate_older<'w, F: Files<File = File>, W: Write, E: Write>(
+    opener: &mut Opener<'w, F>,
+    alloc: Global,
+    old: &mut FileDisk,
+    new: &'w str,
+    frames: usize,
+    writer: &mut Noted<W>,
+    faults: &mut Noted<E>,
+) -> u8
+    ensures { FollowsOlder ⟦<Box2 as Shape>⟧ ⟦<Box2Class as KeyClass>⟧ ⟦<Box3 as Shape>⟧ ⟦<Box3Class as KeyClass>⟧
+        ⟦<FileDisk as SectorDisk>⟧.state new.now opener.old opener.new frames old.old old.new
+        (outputs_of W.contents E.contents writer.old faults.old)
+        (outputs_of W.contents E.contents writer.new faults.new) result }
+{
+    match kind_of_old(old) {
+        Ok(found) => migrate_to(
+            opener, alloc, found.0, found.1, old, new, frames, writer, faults,
+        ),
+        Err(why) => refuse(writer, faults, why),
+    }
+}
+
+// Opens or creates a file, extends a shorter one for an index of so many pages, and migrates the index of a device to
+// it.
+fn migrate_to<'w, F: Files<File = File>, W: Write, E: Write>(
+    opener: &mut Opener<'w, F>,
+    alloc: Global,
+    kind: Kind,
+    pages: u32,
+    old: &mut FileDisk,
+    new: &'w str,
+    frames: usize,
+    writer: &mut Noted<W>,
+    faults: &mut Noted<E>,
+) -> u8
+    ensures { EndsMove ⟦<Box2 as Shape>⟧ ⟦<Box2Class as KeyClass>⟧ ⟦<Box3 as Shape>⟧ ⟦<Box3Class as KeyClass>⟧
+        ⟦<FileDisk as SectorDisk>⟧.state kind pages new.now opener.old opener.new frames old.old old.new
+        (outputs_of W.contents E.contents writer.old faults.old)
+        (outputs_of W.contents E.contents writer.new faults.new) result }
+{
+    match opener.open(new, Access::Create(sectors_for(pages))) {
+        Ok(mut disk) => {
+            let status = migrate_device(alloc, kind, old, &mut disk, frames, writer, faults);
+            leave(opener, new, disk, faults);
+            status
+        }
+        Err(fault) => refuse_file(new, fault, writer, faults),
     }
 }
 

@@ -1,6 +1,7 @@
 //! The program's commands, however its arguments spell them: run a script on a fresh index in memory; format a device
-//! or a file; run a script on the index that it holds, dump the tree of that, or verify it. Each command reports a
-//! refusal by a line among the replies and by one to the user, and returns the program's status.
+//! or a file; run a script on the index that it holds, dump the tree of that, or verify it; migrate an index of the
+//! first version. Each command reports a refusal by a line among the replies and by one to the user, and returns the
+//! program's status.
 #![tactic(auto)]
 
 mod causes;
@@ -10,6 +11,7 @@ mod dumping;
 mod files;
 mod formatting;
 pub mod laws;
+mod migrating;
 mod opener;
 mod opening;
 mod person;
@@ -19,11 +21,12 @@ mod scripts;
 mod verifying;
 mod watched;
 
-pub use devices::{dump_device, run_device, verify_device};
+pub use devices::{Kind, dump_device, migrate_device, run_device, verify_device};
 pub use dumping::dump_over;
-pub use files::{dump_file, format_file, run_file, verify_file};
+pub use files::{dump_file, format_file, migrate_file, run_file, verify_file};
 pub use formatting::format_over;
 pub use gx_script::Noted;
+pub use migrating::migrate_over;
 pub use opener::{Access, Opener, Opening};
 pub use person::{SENTENCE, print, tell_fault, tell_person};
 pub use refusals::{print_refusal, refuse};

@@ -28,8 +28,9 @@ pub struct Opening<'w> {
     pub ended: Result<u64, DiskFault>,
 }
 
-/// Opens files, one for each command; nothing else opens any. It notes what a command of the program opened, and keeps
-/// the device that the command leaves, so that nothing is done to it once the command has ended.
+/// Opens files, one for a command and two for a migration; nothing else opens any. It notes what a command of the
+/// program opened, and keeps the device that the command leaves, so that nothing is done to it once the command has
+/// ended.
 #[derive(Drop)]
 pub struct Opener<'w, F> {
     files: F,

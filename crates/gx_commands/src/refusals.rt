@@ -45,6 +45,8 @@ fn sentence(why: Refusal, text: &str) -> &str
         Refusal::Failed => "the device had failed before",
         Refusal::Damaged => "what the device holds is damaged",
         Refusal::NotFormatted => "the device holds no index; it has to be formatted first",
+        Refusal::OldVersion =>
+            "the index is of an older version; gist migrate makes one of this version from it",
         Refusal::TooSmall => "the file is shorter than any index, or was cut",
         Refusal::BadParameter => {
             "a number is out of its range, or the index has another kind of keys"

@@ -1,8 +1,9 @@
 //! An image to be damaged: nine rows in seven pages, four entries a node, and a log of three bodies that has some of
 //! these pages.
-use crate::bytes::{lay, sector};
+use crate::bytes::{FIRST_OF_BODIES, FIRST_OF_PAGES, lay, sector};
 use crate::draw::{below, one_in};
 use crate::fault::RunFault;
+use gx_format::MAGIC;
 use gx_page::Page;
 use rand_pcg::Pcg32;
 use std::alloc::Global;
@@ -16,7 +17,7 @@ pub(crate) const USED: usize = 7;
 pub(crate) const MOST: u16 = 4;
 
 /// How many sectors the device has.
-pub(crate) const SECTORS: usize = 4296;
+pub(crate) const SECTORS: usize = FIRST_OF_PAGES + 8 * PAGES as usize;
 
 /// A page of the tree: level, sequence number, rightlink, and of each entry the row or the child, and the first and the
 /// last of the rows that its key covers.
@@ -179,7 +180,7 @@ impl Body {
 
 /// Writes a body and its open gate, and notes where its images are.
 fn lay_body(base: &mut Base, body: &Body, place: usize) {
-    let at = sector(place.saturating_mul(64).saturating_add(40));
+    let at = sector(place.saturating_mul(64).saturating_add(FIRST_OF_BODIES));
     let size = u32::try_from(body.bytes.len()).unwrap_or(0);
     lay(&mut base.bytes, at, &size.to_be_bytes());
     let at = at.saturating_add(4);
@@ -217,13 +218,13 @@ fn pages(alloc: Global, class: u16) -> Result<Vec<Page>, RunFault> {
 fn bare(alloc: Global, class: u16, pages: &[Page]) -> Result<Base, RunFault> {
     let mut bytes = Vec::new(alloc);
     bytes.resize(sector(SECTORS), 0)?;
-    lay(&mut bytes, 0, b"GISTRT01");
+    lay(&mut bytes, 0, &MAGIC);
     lay(&mut bytes, 512, &PAGES.to_be_bytes());
     lay(&mut bytes, 516, &MOST.to_be_bytes());
     lay(&mut bytes, 518, &class.to_be_bytes());
     let mut places = Vec::new(alloc);
     for (before, page) in pages.iter().enumerate() {
-        let at = sector(before.saturating_mul(8).saturating_add(4168));
+        let at = sector(before.saturating_mul(8).saturating_add(FIRST_OF_PAGES));
         lay(&mut bytes, at, page.image());
         places.push(at)?;
     }

@@ -1,5 +1,11 @@
 //! Bytes of an image, changed in place; what lies outside it isn't there.
 
+/// The sector at which page 1 begins.
+pub(crate) const FIRST_OF_PAGES: usize = gx_disk::PAGES_AT as usize;
+
+/// The sector at which the bodies of extent A begin, of 64 each.
+pub(crate) const FIRST_OF_BODIES: usize = gx_glog::BODIES_A as usize;
+
 /// The place of a sector's first byte.
 pub(crate) fn sector(number: usize) -> usize {
     number.saturating_mul(512)

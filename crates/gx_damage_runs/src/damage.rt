@@ -1,6 +1,6 @@
 //! Random damage.
 use crate::base::{Base, USED};
-use crate::bytes::{byte, copy, exchange, flip, sector, set};
+use crate::bytes::{FIRST_OF_BODIES, byte, copy, exchange, flip, sector, set};
 use crate::draw::{below, one_in};
 use rand_pcg::Pcg32;
 
@@ -45,7 +45,7 @@ fn flip_head(base: &mut Base, draw: &mut Pcg32) {
 /// A body's size or one of its bytes is another.
 fn body(base: &mut Base, draw: &mut Pcg32) {
     let number = below(draw, base.bodies);
-    let at = sector(number.saturating_mul(64).saturating_add(40));
+    let at = sector(number.saturating_mul(64).saturating_add(FIRST_OF_BODIES));
     let span = match below(draw, 3) {
         0 => 4,
         1 => 200,
@@ -59,7 +59,9 @@ fn body(base: &mut Base, draw: &mut Pcg32) {
 /// end.
 fn note(base: &mut Base, draw: &mut Pcg32) {
     let behind = below(draw, 4).saturating_add(1).saturating_mul(38);
-    let at = sector(40).saturating_add(32).saturating_add(behind);
+    let at = sector(FIRST_OF_BODIES)
+        .saturating_add(32)
+        .saturating_add(behind);
     let leaf = u8::try_from(below(draw, 9)).unwrap_or(0);
     set(&mut base.bytes, at, leaf);
 }

@@ -1,5 +1,6 @@
 //! Events of an engine between two marks, between which a library that is loaded before the C library refuses memory
 //! (`trials/refuse_memory.c`). Without that library nothing is refused.
+use crate::bytes::FIRST_OF_PAGES;
 use crate::draw::{below, one_in};
 use crate::fault::RunFault;
 use crate::opened::FRAMES;
@@ -221,7 +222,9 @@ fn helping(need: Need) -> Event<Box2> {
 /// Makes so many random events of a new index, of eight sessions and of the flusher, settles it, and returns how often
 /// memory was refused.
 pub(crate) fn run_lacking(alloc: Global, seed: u64, events: u64) -> Result<Lacked, RunFault> {
-    let sectors = (PAGES as usize).saturating_mul(8).saturating_add(4168);
+    let sectors = (PAGES as usize)
+        .saturating_mul(8)
+        .saturating_add(FIRST_OF_PAGES);
     let mut disk = MemDisk::new(alloc, sectors)?;
     disk.reserve(CALLS, SECTORS)?;
     format::<MemDisk, Box2Class>(alloc, &mut disk, PAGES, MOST)?;

@@ -1,10 +1,11 @@
 //! A large tree of boxes on a file, with a log that has as many pages as a log can have.
 use crate::base::Body;
-use crate::bytes::{lay, sector};
+use crate::bytes::{FIRST_OF_BODIES, FIRST_OF_PAGES, lay, sector};
 use crate::draw::below;
 use crate::fault::RunFault;
 use gx_class::Box2Class;
 use gx_disk::{FileDisk, SectorDisk};
+use gx_format::MAGIC;
 use gx_geom::Box2;
 use gx_machine::Entry;
 use gx_memory_tree::{DescentPlace, MemoryPages, insert_step};
@@ -17,13 +18,13 @@ use std::fs::{File, Files};
 /// How many entries a node has at most.
 pub(crate) const MOST: usize = 100;
 
-/// How many bodies of the log have pages, and how many each: a log has at most 217 pages.
-const BODIES: usize = 31;
+/// How many bodies of the log have pages, and how many each: a log has at most 889 pages.
+const BODIES: usize = 127;
 
 const IN_BODY: usize = 7;
 
 /// The last page that the log has.
-const LOGGED: u32 = 217;
+const LOGGED: u32 = 889;
 
 /// How many steps an insert takes at most.
 const STEPS: u32 = 1000;
@@ -117,7 +118,7 @@ fn given(alloc: Global, counter: u64, used: u32, pages: &[&Page]) -> Result<Body
 
 /// Lays a body and its open gate.
 fn lay_body(bytes: &mut [u8], body: &Body, place: usize) {
-    let at = sector(place.saturating_mul(64).saturating_add(40));
+    let at = sector(place.saturating_mul(64).saturating_add(FIRST_OF_BODIES));
     let size = u32::try_from(body.bytes.len()).unwrap_or(0);
     lay(bytes, at, &size.to_be_bytes());
     lay(bytes, at.saturating_add(4), &body.bytes);
@@ -149,17 +150,19 @@ fn lay_log(alloc: Global, bytes: &mut [u8], tree: &Tree) -> Result<(), RunFault>
 /// The bytes of a device that has this tree and no room for more: each page in the log alone or in its place alone.
 fn image(alloc: Global, tree: &Tree) -> Result<Vec<u8>, RunFault> {
     let used = tree.used();
-    let sectors = (used as usize).saturating_mul(8).saturating_add(4168);
+    let sectors = (used as usize)
+        .saturating_mul(8)
+        .saturating_add(FIRST_OF_PAGES);
     let mut bytes = Vec::new(alloc);
     bytes.resize(sector(sectors), 0)?;
-    lay(&mut bytes, 0, b"GISTRT01");
+    lay(&mut bytes, 0, &MAGIC);
     lay(&mut bytes, 512, &used.to_be_bytes());
     lay(&mut bytes, 516, &100u16.to_be_bytes());
     lay(&mut bytes, 518, &1u16.to_be_bytes());
     for number in 1..=used {
         if number > LOGGED {
             let before = (number as usize).saturating_sub(1);
-            let at = sector(before.saturating_mul(8).saturating_add(4168));
+            let at = sector(before.saturating_mul(8).saturating_add(FIRST_OF_PAGES));
             lay(&mut bytes, at, tree.page(number).image());
         }
     }

@@ -93,14 +93,14 @@ fn take_image(
         Kind::Boxes => {
             let mut image = make_base(alloc, 1, draw)?;
             damage(&mut image, draw);
-            judge::<Box2Class>(alloc, &image.bytes)
+            judge::<Box2Class>(alloc, image.bytes)
         }
         Kind::Intervals => {
             let mut image = make_base(alloc, 2, draw)?;
             damage(&mut image, draw);
-            judge::<IntervalClass>(alloc, &image.bytes)
+            judge::<IntervalClass>(alloc, image.bytes)
         }
-        Kind::Moments => judge::<Box2Class>(alloc, &life.damaged(alloc, draw)?),
+        Kind::Moments => judge::<Box2Class>(alloc, life.damaged(alloc, draw)?),
     }
 }
 

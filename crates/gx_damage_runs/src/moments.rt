@@ -1,6 +1,6 @@
 //! Images of an index at moments of its life, and such with sectors of other moments.
-use crate::bytes::{exchange, lay, sector, set};
-use crate::device::{bytes_of, device, formatted};
+use crate::bytes::{FIRST_OF_PAGES, exchange, lay, sector, set};
+use crate::device::{copied, device, formatted};
 use crate::draw::{below, byte_of, one_in};
 use crate::fault::RunFault;
 use crate::opened::FRAMES;
@@ -9,9 +9,6 @@ use gx_disk::MemDisk;
 use gx_restart::{Index, Noted, open, run_script};
 use rand_pcg::Pcg32;
 use std::alloc::Global;
-
-/// The first sector of pages.
-const FIRST_OF_PAGES: usize = 4168;
 
 /// An index's images, in the order of its life.
 #[derive(Drop)]
@@ -91,15 +88,16 @@ impl Life {
     /// moment.
     pub(crate) fn go_on(&mut self, alloc: Global, script: &[u8]) -> Result<(), RunFault> {
         let last = self.images.last().ok_or(RunFault::BadLine)?;
-        let Ok(engine) = open::<MemDisk, Box2Class>(alloc, device(alloc, last)?, FRAMES) else {
+        let disk = device(alloc, copied(alloc, last)?)?;
+        let Ok(engine) = open::<MemDisk, Box2Class>(alloc, disk, FRAMES) else {
             return Err(RunFault::Unexpected);
         };
         let mut index = Index::new(engine);
         let mut replies = Noted::new(Vec::new(alloc));
         let ended = run_script(&mut Noted::new(script), &mut replies, &mut index);
-        let mut disk = index.into_engine().into_disk();
+        let disk = index.into_engine().into_disk();
         ended?;
-        self.keep(bytes_of(alloc, &mut disk)?)
+        self.keep(copied(alloc, disk.bytes())?)
     }
 
     /// Takes a random one of the moments' images.
@@ -133,8 +131,7 @@ impl Life {
 
     /// Takes a random image, and changes it in one to four places.
     pub(crate) fn damaged(&self, alloc: Global, draw: &mut Pcg32) -> Result<Vec<u8>, RunFault> {
-        let mut image = Vec::new(alloc);
-        image.extend_from_slice(self.draw(draw)?)?;
+        let mut image = copied(alloc, self.draw(draw)?)?;
         for _ in 0..below(draw, 4).saturating_add(1) {
             self.change(&mut image, draw)?;
         }

@@ -1,5 +1,5 @@
 //! Opens an image, and compares the outcome with what the plain reader finds there.
-use crate::device::{bytes_of, device};
+use crate::device::device;
 use crate::fault::RunFault;
 use gx_class::{Probing, ReadKeys};
 use gx_disk::MemDisk;
@@ -24,6 +24,7 @@ pub(crate) enum Found {
 fn refusal_of(finding: &Finding) -> u8 {
     match finding.damage() {
         Damage::Magic => 14,
+        Damage::OldMagic => 21,
         Damage::Short => 17,
         Damage::Parameters => 18,
         _ => 13,
@@ -65,9 +66,8 @@ fn is_opened<K: ReadKeys>(
     before: &Reading,
 ) -> Result<bool, RunFault> {
     let number = engine.commits();
-    let mut disk = engine.into_disk();
-    let bytes = bytes_of(alloc, &mut disk)?;
-    let after = read(alloc, &bytes, K::CLASS)?;
+    let disk = engine.into_disk();
+    let after = read(alloc, disk.bytes(), K::CLASS)?;
     Ok(number == before.number && is_same(before, &after))
 }
 
@@ -88,16 +88,12 @@ fn is_refused<K: ReadKeys>(
     Ok(true)
 }
 
-/// Verifies an image: what it holds, or the number of the refusal.
-fn verified<K: ReadKeys + Probing>(
-    alloc: Global,
-    bytes: &[u8],
-) -> Result<Result<Report, u8>, RunFault> {
-    let mut disk = device(alloc, bytes)?;
-    Ok(match verify::<MemDisk, K>(alloc, &mut disk, FRAMES) {
+/// Verifies a device: what it holds, or the number of the refusal.
+fn verified<K: ReadKeys + Probing>(alloc: Global, disk: &mut MemDisk) -> Result<Report, u8> {
+    match verify::<MemDisk, K>(alloc, disk, FRAMES) {
         Ok(report) => Ok(report),
         Err(why) => Err(why.number()),
-    })
+    }
 }
 
 /// What an image holds of which this is read.
@@ -110,12 +106,13 @@ fn holding(read: &Reading) -> Report {
 }
 
 /// Verifies and opens a sound image.
-fn open_sound<K: ReadKeys + Probing>(alloc: Global, bytes: &[u8]) -> Result<bool, RunFault> {
-    let before = read(alloc, bytes, K::CLASS)?;
-    if verified::<K>(alloc, bytes)? != Ok(holding(&before)) {
+fn open_sound<K: ReadKeys + Probing>(alloc: Global, bytes: Vec<u8>) -> Result<bool, RunFault> {
+    let before = read(alloc, &bytes, K::CLASS)?;
+    let mut disk = device(alloc, bytes)?;
+    if verified::<K>(alloc, &mut disk) != Ok(holding(&before)) {
         return Ok(false);
     }
-    match open::<MemDisk, K>(alloc, device(alloc, bytes)?, FRAMES) {
+    match open::<MemDisk, K>(alloc, disk, FRAMES) {
         Ok(engine) => is_opened(alloc, engine, &before),
         Err(_) => Ok(false),
     }
@@ -124,14 +121,15 @@ fn open_sound<K: ReadKeys + Probing>(alloc: Global, bytes: &[u8]) -> Result<bool
 /// Verifies and opens an image of which this is found.
 fn open_damaged<K: ReadKeys + Probing>(
     alloc: Global,
-    bytes: &[u8],
+    bytes: Vec<u8>,
     found: &[Finding],
     wanted: u8,
 ) -> Result<bool, RunFault> {
-    if verified::<K>(alloc, bytes)? != Err(wanted) {
+    let mut disk = device(alloc, bytes)?;
+    if verified::<K>(alloc, &mut disk) != Err(wanted) {
         return Ok(false);
     }
-    match open::<MemDisk, K>(alloc, device(alloc, bytes)?, FRAMES) {
+    match open::<MemDisk, K>(alloc, disk, FRAMES) {
         Ok(_engine) => Ok(false),
         Err(refused) => is_refused::<K>(alloc, refused, found, wanted),
     }
@@ -143,9 +141,9 @@ fn open_damaged<K: ReadKeys + Probing>(
 /// with what is read of it.
 pub(crate) fn judge<K: ReadKeys + Probing>(
     alloc: Global,
-    bytes: &[u8],
+    bytes: Vec<u8>,
 ) -> Result<Option<Found>, RunFault> {
-    let found = findings(alloc, bytes, K::CLASS)?;
+    let found = findings(alloc, &bytes, K::CLASS)?;
     let Some(first) = found.first() else {
         return Ok(open_sound::<K>(alloc, bytes)?.then_some(Found::Sound));
     };

@@ -1,6 +1,6 @@
 //! What the program says of a device on which one thing was changed: the line of its refusal, and the sentence that the
 //! user reads.
-use crate::device::device;
+use crate::device::{copied, device};
 use crate::fault::RunFault;
 use gx_class::Box2Class;
 use gx_commands::{dump_over, run_over, verify_over};
@@ -20,7 +20,7 @@ fn run(alloc: Global, bytes: &[u8], frames: usize) -> Result<Written, RunFault> 
     let mut reader = Noted::new([].as_slice());
     let mut writer = Noted::new(Vec::new(alloc));
     let mut faults = Noted::new(Vec::new(alloc));
-    let disk = device(alloc, bytes)?;
+    let disk = device(alloc, copied(alloc, bytes)?)?;
     let (_disk, _status) = run_over::<MemDisk, _, Box2Class, _, _, _>(
         alloc,
         disk,
@@ -39,7 +39,7 @@ fn run(alloc: Global, bytes: &[u8], frames: usize) -> Result<Written, RunFault> 
 fn dump(alloc: Global, bytes: &[u8], frames: usize) -> Result<Written, RunFault> {
     let mut writer = Noted::new(Vec::new(alloc));
     let mut faults = Noted::new(Vec::new(alloc));
-    let disk = device(alloc, bytes)?;
+    let disk = device(alloc, copied(alloc, bytes)?)?;
     let (_disk, _status) = dump_over::<MemDisk, _, Box2Class, _, _>(
         alloc,
         disk,
@@ -57,7 +57,7 @@ fn dump(alloc: Global, bytes: &[u8], frames: usize) -> Result<Written, RunFault>
 fn verify(alloc: Global, bytes: &[u8], frames: usize) -> Result<Written, RunFault> {
     let mut writer = Noted::new(Vec::new(alloc));
     let mut faults = Noted::new(Vec::new(alloc));
-    let mut disk = device(alloc, bytes)?;
+    let mut disk = device(alloc, copied(alloc, bytes)?)?;
     let _status = verify_over::<MemDisk, Box2Class, _, _>(
         alloc,
         &mut disk,
@@ -110,7 +110,7 @@ pub(crate) fn tell_opening(
     bytes: &[u8],
     frames: usize,
 ) -> Result<Option<String>, RunFault> {
-    match open::<MemDisk, Box2Class>(alloc, device(alloc, bytes)?, frames) {
+    match open::<MemDisk, Box2Class>(alloc, device(alloc, copied(alloc, bytes)?)?, frames) {
         Ok(engine) => {
             let commits = engine.commits();
             let said = format!(in alloc; "opened, commits {commits}")?;

@@ -4,7 +4,7 @@ use crate::extents::{Seen, log_of, say_seen};
 use crate::fault::RunFault;
 use crate::logs::{Logged, Work, append_commit, append_counters, make, make_calls, put_head};
 use crate::words::{Line, Part, print_parts, say_end};
-use gx_disk::{Fuse, Torn};
+use gx_disk::{Fuse, MIN_SECTORS, Torn};
 use std::alloc::Global;
 
 /// What a crash leaves of what wasn't synced.
@@ -90,7 +90,7 @@ impl Case {
 
     /// Crashes another device so, and reads its log back.
     fn seen(self, alloc: Global) -> Result<Seen, RunFault> {
-        let mut logged = Logged::new(alloc, 4232)?;
+        let mut logged = Logged::new(alloc, MIN_SECTORS as usize)?;
         self.run(alloc, &mut logged)
     }
 

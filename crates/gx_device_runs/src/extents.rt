@@ -3,7 +3,7 @@ use crate::fault::RunFault;
 use crate::logs::extent;
 use crate::records::say_record;
 use crate::words::{Line, Part, print_parts, say, say_number, say_parts};
-use gx_disk::SectorDisk;
+use gx_disk::{PAGES_AT, SectorDisk};
 use gx_geom::Refusal;
 use gx_glog::{BODY_SIZE, Extent, PLACES, read_extent, selected};
 use std::alloc::Global;
@@ -28,7 +28,7 @@ fn name(extent: Extent) -> &'static str {
 
 /// The extent that a device selects.
 fn selected_by<D: SectorDisk>(disk: &mut D) -> Result<Extent, Refusal> {
-    if disk.sectors() < 4168 {
+    if disk.sectors() < PAGES_AT {
         return Err(Refusal::TooSmall);
     }
     selected(disk)
@@ -41,7 +41,7 @@ fn read<D: SectorDisk>(
     place: u8,
     body: &mut [u8],
 ) -> Result<Option<usize>, Refusal> {
-    if place >= PLACES || disk.sectors() < 4168 || body.len() != BODY_SIZE {
+    if place >= PLACES || disk.sectors() < PAGES_AT || body.len() != BODY_SIZE {
         return Err(Refusal::TooSmall);
     }
     read_extent(disk, extent, place, body)

@@ -5,7 +5,7 @@ ghost use Rattle.gx_record.specs.Seen.{rec_of};
 use crate::devices::{Device, blank};
 use crate::fault::RunFault;
 use crate::words::{Line, Part, say, say_number, say_parts};
-use gx_disk::SectorDisk;
+use gx_disk::{PAGES_AT, SectorDisk};
 use gx_geom::Refusal;
 use gx_glog::{Appended, Extent, Glog, PLACES};
 use gx_record::Record;
@@ -55,7 +55,7 @@ fn is_made<T: Copy>(answer: Result<T, Refusal>) -> Result<bool, RunFault> {
 
 /// Makes the next call of a batch.
 fn step<D: SectorDisk>(log: &mut Glog, disk: &mut D) -> Result<bool, RunFault> {
-    if disk.sectors() < 4168 {
+    if disk.sectors() < PAGES_AT {
         return Err(RunFault::BadLine);
     }
     is_made(log.log_step(disk))
@@ -63,7 +63,7 @@ fn step<D: SectorDisk>(log: &mut Glog, disk: &mut D) -> Result<bool, RunFault> {
 
 /// Makes the next call of a turn.
 fn turn<D: SectorDisk>(log: &mut Glog, disk: &mut D) -> Result<bool, RunFault> {
-    if disk.sectors() < 4168 || !log.is_idle() || !log.has_head() {
+    if disk.sectors() < PAGES_AT || !log.is_idle() || !log.has_head() {
         return Err(RunFault::BadLine);
     }
     is_made(log.turn_step(disk))

@@ -2,7 +2,7 @@
 use crate::fault::RunFault;
 use crate::pools::{Leaves, empty, is_there};
 use crate::words::{Line, Part, say_parts, truth};
-use gx_disk::{Fuse, FuseDisk, MAX_PAGES, MemDisk, SectorDisk};
+use gx_disk::{Fuse, FuseDisk, MAX_PAGES, MemDisk, PAGES_AT, SectorDisk};
 use gx_pool::{Pool, PoolFault};
 use rand_core::utils::NextWord;
 use rand_pcg::Pcg32;
@@ -153,7 +153,7 @@ fn run_long(run: &mut Run, disk: &mut MemDisk) -> (u64, bool) {
 }
 
 fn say_long<R: Print>(rt: &R, alloc: Global) -> Result<(), RunFault> {
-    let mut disk = MemDisk::new(alloc, 4168 + 8 * 2000)?;
+    let mut disk = MemDisk::new(alloc, PAGES_AT as usize + 8 * 2000)?;
     let mut run = start(alloc, 2001)?;
     let (taken, well) = run_long(&mut run, &mut disk);
     say_parts(
@@ -215,7 +215,7 @@ fn end_of(faults: Option<u64>, well: bool) -> End {
 
 /// A run over a device that fails once, at its k-th call.
 fn run_with_fault(alloc: Global, k: u64) -> Result<End, AllocError> {
-    let inner = MemDisk::new(alloc, 4168 + 8 * 20)?;
+    let inner = MemDisk::new(alloc, PAGES_AT as usize + 8 * 20)?;
     let mut disk = FuseDisk::new(inner, k, Fuse::Once, k % 2 == 0);
     let mut run = start(alloc, 21)?;
     let faults = run_with_faults(&mut run, &mut disk, k);

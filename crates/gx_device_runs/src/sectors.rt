@@ -2,6 +2,7 @@
 use crate::fault::RunFault;
 use crate::words::{Line, Part, byte, say, say_bytes, say_number, say_parts};
 use gx_disk::{DiskFault, SectorDisk};
+use gx_glog::PLACES;
 use std::io::ErrorKind;
 
 /// What a call answers, as a word.
@@ -79,11 +80,11 @@ fn open_gate() -> [u8; 512] {
     gate
 }
 
-/// Prints how many of the 32 gates from a sector on are written open, and how many behind these closed.
+/// Prints how many of an extent's gates from a sector on are written open, and how many behind these closed.
 fn say_gates<R: Print, D: SectorDisk>(rt: &R, disk: &mut D, first: u64) -> Result<(), RunFault> {
     let mut open = 0_u64;
     let mut closed = 0_u64;
-    for k in 0..32_u64 {
+    for k in 0..u64::from(PLACES) {
         let gate = read(disk, first.saturating_add(k))?;
         if gate == [0; 512] {
             closed = closed.wrapping_add(1);

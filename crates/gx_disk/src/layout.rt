@@ -5,7 +5,7 @@
 pub const LOG_AT: u64 = 8;
 
 /// How many sectors the log has.
-pub const LOG_SECTORS: u64 = 4160;
+pub const LOG_SECTORS: u64 = 16_640;
 
 /// The sector at which page 1 begins. Each page begins where the one before ends.
 pub const PAGES_AT: u64 = LOG_AT + LOG_SECTORS;
@@ -21,3 +21,10 @@ pub const MAX_PAGES: usize = 65_536;
 
 /// How many sectors the smallest index takes.
 pub const MIN_SECTORS: u64 = PAGES_AT + PAGE_SECTORS * MIN_PAGES as u64;
+
+/// How many sectors the greatest index takes.
+pub const MAX_SECTORS: u64 = PAGES_AT + PAGE_SECTORS * MAX_PAGES as u64;
+
+/// How many sectors the smallest index of any version of the format takes. A device of fewer holds none, so this is
+/// tested before its magic is read.
+pub const LEAST_SECTORS: u64 = 4_232;

@@ -14,6 +14,9 @@ mod tear;
 pub use device::{DiskFault, SECTOR_SIZE, SectorDisk};
 pub use file::{FileDisk, SyncAhead};
 pub use fuse::{Fuse, FuseDisk};
-pub use layout::{LOG_AT, LOG_SECTORS, MAX_PAGES, MIN_PAGES, MIN_SECTORS, PAGE_SECTORS, PAGES_AT};
+pub use layout::{
+    LEAST_SECTORS, LOG_AT, LOG_SECTORS, MAX_PAGES, MAX_SECTORS, MIN_PAGES, MIN_SECTORS,
+    PAGE_SECTORS, PAGES_AT,
+};
 pub use memory::{MemDisk, Torn};
 pub use ram::RamDisk;

@@ -194,6 +194,13 @@ impl MemDisk {
         self.synced_size = 0;
     }
 
+    /// Its bytes, as reads return them.
+    pub fn bytes(&self) -> &[u8]
+        ensures { result.now ≡ self.now.bytes.items }
+    {
+        &self.bytes
+    }
+
     /// How many sectors were written since the last sync that succeeded, or the last crash.
     pub fn unsynced(&self) -> usize
         ensures { result ≡ pending_below (pending_after self.now.past.items false) self.now.sectors }

@@ -57,7 +57,7 @@ synced_apart extent before now rests j = body_kept before.seen now.seen before.p
 turn_bodies : (t : Turn) (extent : Extent) (sectors : ℕ) (head : List ℕ) (before now : Device) (result : Result Turn Refusal) → TurnCalls t (other_of extent) sectors head before now result
     → (j : ℕ) → j < PLACES → body_of now.seen extent j ≡ body_of before.seen extent j
 turn_bodies turn.Closed extent sectors head before now result call j less =
-    written_apart extent (gates_of (other_of extent)) 32 call.0 before now result (omega arith) (omega arith) call.2 j less
+    written_apart extent (gates_of (other_of extent)) PLACES call.0 before now result (omega arith) (omega arith) call.2 j less
 turn_bodies turn.Body extent sectors head before now result call j less =
     let at = placed (other_of extent) in
     written_apart extent (bodies_of (other_of extent) + BODY_SECTORS * 0) sectors (take (512 * sectors) call.0) before now result (omega (arith, at.bodies)) (omega (arith, at.bodies, call.2)) call.3 j less

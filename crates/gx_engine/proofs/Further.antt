@@ -28,7 +28,6 @@ use Rattle.gx_events.specs.declared.outcome.Outcome.{Outcome}
 use Rattle.gx_events.specs.declared.outcome.Outcome.TheVariants.{Replied, More}
 use Rattle.gx_events.specs.Steps.{IsJust}
 use Rattle.gx_phases.specs.declared.phase.Phase.TheVariants as phase
-use Rattle.gx_phases.specs.Moves as moves
 use Rattle.gx_phases.specs.States.{State, IsKept, phase_at, with_phase_of}
 use Rattle.gx_engine.specs.declared.work.Work.{Work}
 use Rattle.gx_engine.specs.declared.work.Work.TheVariants.{Looks, Rests}
@@ -38,7 +37,7 @@ use Rattle.gx_engine.specs.Moves.{Moved, Moves, MovesOn, MovesSo, calling}
 use Rattle.gx_engine.specs.States.{Parts}
 use Rattle.gx_engine.specs.Writes.{brought}
 use Rattle.gx_engine.proofs.LookMoves.{at_work, begins_moves, phase_again, put_kept}
-use Rattle.gx_engine.proofs.Taking.{again, put_moves, same_calling}
+use Rattle.gx_engine.proofs.AtWork.{read_is, same_again}
 
 -- work that decides nothing, twice, is such work
 pub works_joined : {B : Type 0} (c : Class B) → IsLawful c → (old mid new : index.State B) → IsWhole c old → Happens c old Works mid → Happens c mid Works new → Happens c old Works new
@@ -159,28 +158,23 @@ module _ {B D : Type 0} (c : Class B) (lawful : 4 ≤ c.rules.most → IsLawful 
       let one = begun_on first bodies i h in
       absurd (none one.0.led.bodies one.0.led.index one.0.led.holds)
 
--- a look that read a page, while its work is at hand
+-- a look that read a page, in its session
 pub read_there : {B D : Type 0} (c : Class B) (r : Reading (Entry B) (Page B)) (f : Format B) (passes : ℕ → Contents → Bool) (d m : Device) (s : ℕ) (call : Call B) (work : Work B) (old e there : Parts B D)
-    → there ≡ brought e there → MovesOn c r f passes d m s old (calling s call work (record e { volume = there.volume })) → MovesOn c r f passes d m s old (calling s call work there)
-read_there c r f passes d m s call work old e there only on = subst (λ (x : Parts _ _). MovesOn c r f passes d m s old x) (sym (same_calling s call work e there only)) on
+    → there ≡ calling s call work (brought e there) → MovesOn c r f passes d m s old (calling s call work (record e { volume = there.volume })) → MovesOn c r f passes d m s old there
+read_there c r f passes d m s call work old e there only on = subst (λ (x : Parts _ _). MovesOn c r f passes d m s old x) (sym (read_is s call work e there only)) on
 
--- and as it is put in its place
-pub put_on : {B D : Type 0} (k : Keys B) (e : Parts B D) (kept : IsKept k e.sessions) (s : ℕ) (is : is_session s ≡ true) (call : Call B) (rest : Work B)
-    (at : phase_at (s - 1) e.sessions.phases ≡ phase.Open call rest) (held : Work B) (there : Parts B D) (only : there ≡ brought e there) (work : Work B) (now : State B (Work B))
-    (placed : now ≡ with_phase_of s (moves.with_work work (phase_at (s - 1) there.sessions.phases)).1 there.sessions)
-    (c : Class B) (r : Reading (Entry B) (Page B)) (f : Format B) (passes : ℕ → Contents → Bool) (state : D → Device) (d : Device) (same : Parts B D) → there ≡ same
-    → MovesOn c r f passes d (state same.volume.shelf.disk) s (calling s call held e) (calling s call work (record e { volume = same.volume }))
-    → Moves c r f passes d (state there.volume.shelf.disk) s (calling s call held e) (record there { sessions = now }) More (Works ∷ [])
-put_on k e kept s is call rest at held there only work now placed c r f passes state d same view on =
-    put_moves k e kept s is call rest at held there only work now placed state same view (λ m x. Moves c r f passes d m s (calling s call held e) x More (Works ∷ []))
-    (λ bodies i h. (on bodies i h).0)
+-- and turned then
+pub turned_there : {B D : Type 0} (c : Class B) (r : Reading (Entry B) (Page B)) (f : Format B) (passes : ℕ → Contents → Bool) (d : Device) (state : D → Device) (s : ℕ) (call : Call B) (was work : Work B)
+    (old e mid new : Parts B D) → mid ≡ calling s call was (brought e mid) → new ≡ calling s call work mid
+    → MovesOn c r f passes d (state mid.volume.shelf.disk) s old (calling s call work (record e { volume = mid.volume })) → MovesOn c r f passes d (state new.volume.shelf.disk) s old new
+turned_there {B} {D} c r f passes d state s call was work old e mid new only turned on =
+    subst (λ (x : Parts B D). MovesOn c r f passes d (state x.volume.shelf.disk) s old x) (sym (turned ∙ same_again s call work was e mid only)) on
 
--- what an engine with work that was taken out comes to, the engine that had it comes to
-module _ {B D : Type 0} (c : Class B) (r : Reading (Entry B) (Page B)) (f : Format B) (passes : ℕ → Contents → Bool) (d m : Device) (e : Parts B D) (s : ℕ) (call : Call B) (was : Work B)
-    (at : phase_at (s - 1) e.sessions.phases ≡ phase.Open call was) (now : State B (Work B)) (is : now ≡ with_phase_of s (moves.with_work Rests (phase_at (s - 1) e.sessions.phases)).1 e.sessions)
-    (work : Work B) (here : was ≡ work) (new : Parts B D) where
-  pub on_again : MovesOn c r f passes d m s (calling s call work (record e { sessions = now })) new → MovesOn c r f passes d m s e new
-  on_again on = again e s call was at now is work here (λ x. MovesOn c r f passes d m s x new) on
+-- what is said of an engine is said of the same
+pub moves_as : {B D : Type 0} {new : Parts B D} {outcome : Outcome B} {events : List (Happening B)} (c : Class B) (r : Reading (Entry B) (Page B)) (f : Format B) (passes : ℕ → Contents → Bool) (d e : Device) (s : ℕ)
+    (was old : Parts B D) → was ≡ old → Moves c r f passes d e s was new outcome events → Moves c r f passes d e s old new outcome events
+moves_as {B} {D} {new} {outcome} {events} c r f passes d e s was old is moves = subst (λ (x : Parts B D). Moves c r f passes d e s x new outcome events) is moves
 
-  pub moves_again : (outcome : Outcome B) (events : List (Happening B)) → Moves c r f passes d m s (calling s call work (record e { sessions = now })) new outcome events → Moves c r f passes d m s e new outcome events
-  moves_again outcome events said = again e s call was at now is work here (λ x. Moves c r f passes d m s x new outcome events) said
+pub on_as : {B D : Type 0} {new : Parts B D} (c : Class B) (r : Reading (Entry B) (Page B)) (f : Format B) (passes : ℕ → Contents → Bool) (d e : Device) (s : ℕ)
+    (was old : Parts B D) → was ≡ old → MovesOn c r f passes d e s was new → MovesOn c r f passes d e s old new
+on_as {B} {D} {new} c r f passes d e s was old is on = subst (λ (x : Parts B D). MovesOn c r f passes d e s x new) is on

@@ -245,6 +245,7 @@ memory_is refusal.TooSmall is = let no : ⊥ = cc in absurd no
 memory_is refusal.BadParameter is = let no : ⊥ = cc in absurd no
 memory_is refusal.NoCall is = let no : ⊥ = cc in absurd no
 memory_is refusal.HistoryFull is = let no : ⊥ = cc in absurd no
+memory_is refusal.OldVersion is = let no : ⊥ = cc in absurd no
 memory_is (refusal.Busy s) is = let no : ⊥ = cc in absurd no
 memory_is refusal.Memory is = refl
 

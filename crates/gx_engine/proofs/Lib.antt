@@ -3,7 +3,7 @@ pub mod Failing
 pub mod Flushing
 pub mod LookMoves
 pub mod Reading
-pub mod Taking
+pub mod AtWork
 pub mod Touching
 pub mod Noting
 pub mod Restored

@@ -349,3 +349,19 @@ of_err {A} {F} P result x is holds = subst (λ (o : Result A F). IfErr o P) is h
 
 pub on_err : {A F : Type 0} (P : Type 0) (result : Result A F) (x : F) → result ≡ Err x → OnErr result P → P
 on_err {A} {F} P result x is holds = subst (λ (o : Result A F). OnErr o P) is holds
+
+pub on_ok : {A F : Type 0} (P : Type 0) (result : Result A F) (x : A) → result ≡ Ok x → OnOk result P → P
+on_ok {A} {F} P result x is holds = subst (λ (o : Result A F). OnOk o P) is holds
+
+-- what holds whichever it is, or where it is so
+pub ok_so : {A F : Type 0} (P : Type 0) (result : Result A F) → ((x : A) → result ≡ Ok x → P) → OnOk result P
+ok_so P (Ok x) so = so x refl
+ok_so P (Err x) so = tt
+
+pub err_so : {A F : Type 0} (P : F → Type 0) (result : Result A F) → ((x : F) → result ≡ Err x → P x) → IfErr result P
+err_so P (Ok x) so = tt
+err_so P (Err x) so = so x refl
+
+pub err_any : {A F : Type 0} (P : Type 0) (result : Result A F) → P → OnErr result P
+err_any P (Ok x) holds = tt
+err_any P (Err x) holds = holds

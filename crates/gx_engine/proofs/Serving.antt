@@ -144,7 +144,7 @@ writes_still Running v page stands gated = (λ turns. (let no : ◌≡◌ {A = C
 writes_still Turning v page stands gated =
     absurd (let no : true ≡ false = sym gated ∙ ap (λ (x : Option ℕ). is_gated v.shelf.frames.gated x) (stands.clean page) in cc)
 
--- an event that doesn't wait for a checkpoint: none runs, and fewer than 24 places are taken
+-- an event that doesn't wait for a checkpoint: none runs, and fewer than `CHECKPOINT_AT` places are taken
 pub not_due : {B D : Type 0} (e : Parts B D) → is_due e ≡ false → (runs e.checkpoint ≡ false) × (e.volume.log.used < CHECKPOINT_AT)
 not_due e early =
     let both = or_parts (runs e.checkpoint) (nat_le CHECKPOINT_AT e.volume.log.used) early in

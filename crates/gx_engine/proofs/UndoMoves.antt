@@ -493,16 +493,15 @@ pub seeking : {B D : Type 0} (known : Limits → Known (Entry B) (Page B)) (r : 
     (spelling : B → List ℕ) (key : ℕ) (d e : Device) (v w : Volume D) (t : ℕ) (n : Note B) (leaf : ℕ)
     → (result : Result Sought (StepFault StoreFault)) → IfOk result (MarkIsLogged known r f passes spelling key t n.entry leaf n.before d e v w)
     → OnErr result (IsUnlogged known r f passes (begun v (mark_room (is_imaged v.imaged leaf) key)) d e v w)
-    → IfOk result (MarksEntry IsKey shape (IsSteady d v.shelf.frames) (store_of f d.seen v.shelf) (store_of f e.seen w.shelf) n.entry leaf n.before) → IfOk result (OwnWhereSet e.seen w.shelf leaf)
+    → MarksEntry IsKey shape n.entry leaf n.before result (IsSteady d v.shelf.frames) (store_of f d.seen v.shelf) (store_of f e.seen w.shelf) → IfOk result (OwnWhereSet e.seen w.shelf leaf)
     → IfErr result (IsWhy (faults.IsWhy passes d e (begun v (mark_room (is_imaged v.imaged leaf) key)) w.shelf))
-    → (IsSteady d v.shelf.frames → result ≡ Err step.Damaged → IsNoLeaf known r f passes IsKey (keys_of shape) spelling key d v leaf)
     → Seeking known r f passes IsKey (keys_of shape) spelling key d e v w t n leaf result
-seeking known r f passes IsKey shape spelling key d e v w t n leaf (Ok sought) logged unlogged marks own why damaged =
-    record { wants = marks.wants; wanted = marks.wanted; logged = logged; sets = marks.sets; own = own }
-seeking known r f passes IsKey shape spelling key d e v w t n leaf (Err fault) logged unlogged marks own why damaged =
+seeking known r f passes IsKey shape spelling key d e v w t n leaf (Ok sought) logged unlogged marks own why =
+    record { wants = marks.wants; wanted = marks.wanted; logged = logged; sets = marks.tells.marked; own = own }
+seeking known r f passes IsKey shape spelling key d e v w t n leaf (Err fault) logged unlogged marks own why =
     let result : StepFault StoreFault → Result Sought (StepFault StoreFault) = λ x. Err x in
     record {
       unlogged = unlogged;
       why = why;
-      damaged = λ steady is. damaged steady (ap result is);
+      damaged = λ steady is. marks.tells.damaged steady (ap result is);
     }

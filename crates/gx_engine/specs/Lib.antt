@@ -23,6 +23,7 @@ pub mod Heads
 pub mod Stepping
 pub mod Running
 pub mod Descents
+pub mod Drained
 pub mod Comes
 pub mod Losing
 pub mod Starting

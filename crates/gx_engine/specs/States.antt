@@ -26,7 +26,7 @@ runs Off = false
 runs Running = true
 runs Turning = true
 
--- an event that would append a record has to wait: a checkpoint runs, or 24 places of the extent are taken
+-- an event that would append a record has to wait: a checkpoint runs, or `CHECKPOINT_AT` places of the extent are taken
 abbrev pub is_due : {B D : Type 0} → Parts B D → Bool
 is_due e = runs e.checkpoint || nat_le CHECKPOINT_AT e.volume.log.used
 

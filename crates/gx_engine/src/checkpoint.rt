@@ -29,8 +29,8 @@ impl<D: SectorDisk, K: ReadKeys> Engine<D, K> {
         }
     }
 
-    // Whether an event that would append a record has to wait for a checkpoint: one runs, or 24 places of the extent
-    // are taken.
+    // Whether an event that would append a record has to wait for a checkpoint: one runs, or `CHECKPOINT_AT` places of
+    // the extent are taken.
     pub(crate) fn is_due(&self) -> bool
         ensures { result ≡ is_due self.now }
     {

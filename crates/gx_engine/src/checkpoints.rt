@@ -118,7 +118,7 @@ impl<D: SectorDisk, K: ReadKeys> Engine<D, K> {
         self.begin_turn()
     }
 
-    // Begins a checkpoint, once 24 places of the extent are taken, and makes its first step.
+    // Begins a checkpoint, once `CHECKPOINT_AT` places of the extent are taken, and makes its first step.
     fn begin_checkpoint(&mut self) -> Outcome<K::Key>
         requires works { self.old.sessions.failed ≡ false }
         requires off { self.old.checkpoint ≡ Off }
@@ -134,11 +134,11 @@ impl<D: SectorDisk, K: ReadKeys> Engine<D, K> {
     }
 
     /// Makes the next step of a checkpoint, with at most one write or sync of the device. If none runs: returns
-    /// `Nothing` while fewer than 24 places of the extent are taken; with 24 or more it begins one, and makes its first
-    /// step at once. While one runs, its steps are: the log's next call, until nothing is in flight or fills; then the
-    /// write of the least page that may be written, until none is dirty; then a sync of the pages, after which the head
-    /// of the renewed log is in memory; then each of the turn's calls, with the last of which the checkpoint is over.
-    /// Each returns `More`.
+    /// `Nothing` while fewer than `CHECKPOINT_AT` places of the extent are taken; with as many it begins one, and makes
+    /// its first step at once. While one runs, its steps are: the log's next call, until nothing is in flight or fills;
+    /// then the write of the least page that may be written, until none is dirty; then a sync of the pages, after which
+    /// the head of the renewed log is in memory; then each of the turn's calls, with the last of which the checkpoint
+    /// is over. Each returns `More`.
     ///
     /// Refused with `Failed` by an engine that has failed, with `Device` exactly if the device failed, and with
     /// `Damaged` if no dirty page may be written or the head has no room, both only over a device that isn't honest;

@@ -29,8 +29,8 @@ impl<D: SectorDisk, K: ReadKeys> Engine<D, K> {
     /// number. The session then waits until that number is durable; its claims and predicates are free. Returns `More`.
     /// It makes no call of the device and takes no memory.
     ///
-    /// Returns `Help(Checkpoint)` exactly if a checkpoint runs or 24 places of the extent are taken, `Help(Log)` if the
-    /// record doesn't fit the batch that fills; nothing has changed then.
+    /// Returns `Help(Checkpoint)` exactly if a checkpoint runs or `CHECKPOINT_AT` places of the extent are taken,
+    /// `Help(Log)` if the record doesn't fit the batch that fills; nothing has changed then.
     pub(crate) fn seal(&mut self, session: u8) -> Outcome<K::Key>
         requires session { is_session session ≡ true }
         requires commit { asks_commit (phase_in session self.old) ≡ true }

@@ -6,6 +6,7 @@ mod asks;
 mod checkpoint;
 mod checkpoints;
 mod commits;
+mod drain;
 mod driven;
 mod engine;
 mod flusher;

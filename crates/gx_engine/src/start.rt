@@ -5,6 +5,7 @@ ghost use Rattle.gx_pool.specs.declared.frames.TheConstants.{FRAMES};
 ghost use Rattle.gx_machine.specs.Keys.{keys_of};
 ghost use Rattle.gx_recovery.specs.Known.{Limits};
 ghost use Rattle.gx_disk.specs.declared.layout.TheConstants.{MAX_PAGES, PAGES_AT, PAGE_SECTORS};
+ghost use Rattle.gx_glog.specs.declared.extent.TheConstants.{PLACES};
 ghost use Rattle.gx_engine.specs.Starting.{AreFresh, Started, TakenUp, WhyNot, rested};
 ghost use Rattle.gx_engine.specs.Setting.{HoldsFromAs};
 
@@ -31,7 +32,7 @@ use std::alloc::{AllocError, Global};
 pub struct Start<B> {
     /// The extent that is selected.
     pub extent: Extent,
-    /// How many of its gates are open in a row from the first on, 1 to 32. All later gates are closed.
+    /// How many of its gates are open in a row from the first on, 1 to 128. All later gates are closed.
     pub bodies: u8,
     /// How many pages the device has, up to 65,536.
     pub pages: u32,
@@ -190,7 +191,7 @@ impl<D: SectorDisk, K: ReadKeys> Engine<D, K> {
     /// If an honest device without unsynced writes has an undamaged log, with its pages laid and good for it, the
     /// engine holds the index that is opened over them.
     pub fn start(alloc: Global, disk: D, start: Start<K::Key>) -> Result<Self, NotOpened<D>>
-        requires bodies { (1 ≤ start.bodies) × (start.bodies ≤ 32) }
+        requires bodies { (1 ≤ start.bodies) × (start.bodies ≤ PLACES) }
         requires inside { (start.pages ≤ MAX_PAGES) × (PAGES_AT + PAGE_SECTORS * start.pages ≤ (D.state disk).sectors)
             × (start.used ≤ start.pages) }
         requires fanout { (4 ≤ start.fanout) × (start.fanout ≤ MAX_ENTRIES) }

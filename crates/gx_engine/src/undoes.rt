@@ -137,10 +137,10 @@ impl<D: SectorDisk, K: ReadKeys + Probing> Engine<D, K> {
     /// no note is left, it logs the end of the transaction, frees the session, and returns `Replied(Aborted)`. It makes
     /// no write and no sync of the device and takes no memory.
     ///
-    /// Returns `Help(Checkpoint)` exactly if a checkpoint runs or 24 places of the extent are taken, and nothing has
-    /// changed. Returns `Help` with the event that has to come first, if the record doesn't fit the batch that fills or
-    /// a page couldn't be brought; the undo's state is unchanged then. If the device failed, or a page can't be read,
-    /// the engine has failed, and the reply is `Device` or `Damaged`.
+    /// Returns `Help(Checkpoint)` exactly if a checkpoint runs or `CHECKPOINT_AT` places of the extent are taken, and
+    /// nothing has changed. Returns `Help` with the event that has to come first, if the record doesn't fit the batch
+    /// that fills or a page couldn't be brought; the undo's state is unchanged then. If the device failed, or a page
+    /// can't be read, the engine has failed, and the reply is `Device` or `Damaged`.
     pub(crate) fn undo(&mut self, session: u8) -> Outcome<K::Key>
         requires session { is_session session ≡ true }
         requires undoes { is_undoing (phase_in session self.old) ≡ true }

@@ -86,11 +86,11 @@ impl<D: SectorDisk, K: ReadKeys + Probing> Engine<D, K> {
     /// pair is in a leaf, noted, and its record is logged, or `Replied(Refused(Present))` if it is live already. It
     /// makes no write and no sync of the device.
     ///
-    /// Returns `Help(Checkpoint)` if a move would log while a checkpoint runs or 24 places of the extent are taken;
-    /// `Help` with the event that has to come first, if its record doesn't fit the batch that fills, or no frame is
-    /// free for a page. The insert's state is unchanged then. The call is closed with `Memory` if memory is refused,
-    /// which only its look takes, and with `PagesFull` if too few pages are left. If the device failed, or a page can't
-    /// be read, the engine has failed, and the reply is `Device` or `Damaged`.
+    /// Returns `Help(Checkpoint)` if a move would log while a checkpoint runs or `CHECKPOINT_AT` places of the extent
+    /// are taken; `Help` with the event that has to come first, if its record doesn't fit the batch that fills, or no
+    /// frame is free for a page. The insert's state is unchanged then. The call is closed with `Memory` if memory is
+    /// refused, which only its look takes, and with `PagesFull` if too few pages are left. If the device failed, or a
+    /// page can't be read, the engine has failed, and the reply is `Device` or `Damaged`.
     pub(crate) fn insert(&mut self, session: u8, entry: Entry<K::Key>) -> Outcome<K::Key>
         requires session { is_session session ≡ true }
         requires inserts { (work : declared.Work K.Key) × (phase_in session self.old ≡ Open (Insert entry) work) }

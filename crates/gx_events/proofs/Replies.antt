@@ -54,6 +54,7 @@ own_refuses_none refusal.TooSmall call own = refl
 own_refuses_none refusal.BadParameter call own = refl
 own_refuses_none refusal.NoCall call own = refl
 own_refuses_none refusal.HistoryFull call own = cc
+own_refuses_none refusal.OldVersion call own = refl
 
 pub quiet_refuses_none : {B : Type 0} (r : Reply B) (call : Call B) → is_quiet_reply r ≡ true → refuses_ask r call ≡ false
 quiet_refuses_none reply.Ok call quiet = refl

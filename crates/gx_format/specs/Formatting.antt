@@ -43,11 +43,7 @@ pub record IsOldBeside (old : disk.Device) (image : List ℕ) : Type 0 where
   pub size : length image ≡ length old.seen
   pub same : (s : ℕ) → 1 ≤ s → old.pending s ≡ false → sector_of image s ≡ sector_of old.seen s
 
--- no index
-abbrev pub IsUnnamed : List ℕ → Type 0
-IsUnnamed image = HasMagic image → ⊥
-
--- no index, or the fresh one
+-- the fresh index, or none
 abbrev pub IsUnnamedOrFresh : Parameters → Contents → List ℕ → Type 0
 IsUnnamedOrFresh parameters root image = HasMagic image → IsFresh parameters root image
 

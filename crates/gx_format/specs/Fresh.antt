@@ -14,13 +14,25 @@ use Rattle.gx_glog.specs.declared.parameters.Parameters.{Parameters}
 use Rattle.gx_node.specs.Trees.{Child}
 use Rattle.gx_node.specs.Entries.{child_bytes}
 
--- the eight letters GISTRT01
+-- the eight letters GISTRT02
 abbrev pub magic_bytes : List ℕ
-magic_bytes = 0x47 ∷ 0x49 ∷ 0x53 ∷ 0x54 ∷ 0x52 ∷ 0x54 ∷ 0x30 ∷ 0x31 ∷ []
+magic_bytes = 0x47 ∷ 0x49 ∷ 0x53 ∷ 0x54 ∷ 0x52 ∷ 0x54 ∷ 0x30 ∷ 0x32 ∷ []
+
+-- those of version 1, GISTRT01
+abbrev pub old_magic_bytes : List ℕ
+old_magic_bytes = 0x47 ∷ 0x49 ∷ 0x53 ∷ 0x54 ∷ 0x52 ∷ 0x54 ∷ 0x30 ∷ 0x31 ∷ []
 
 -- the first eight bytes say that it is an index: no other byte of sector 0 is read
 abbrev pub HasMagic : List ℕ → Type 0
 HasMagic image = take 8 (sector_of image 0) ≡ magic_bytes
+
+-- that it is one of version 1
+abbrev pub HasOldMagic : List ℕ → Type 0
+HasOldMagic image = take 8 (sector_of image 0) ≡ old_magic_bytes
+
+-- neither: no index
+abbrev pub IsUnnamed : List ℕ → Type 0
+IsUnnamed image = (HasMagic image → ⊥) × (HasOldMagic image → ⊥)
 
 -- page 1 of a fresh tree: a root of level 1, whose one entry has the class's start key and names page 2
 abbrev pub fresh_root : {B : Type 0} → (B → List ℕ) → B → Contents

@@ -8,8 +8,8 @@ use Rattle.gx_disk.specs.Moments.{Leaves}
 use Rattle.gx_page.specs.Contents.{Contents}
 use Rattle.gx_glog.specs.declared.parameters.Parameters.{Parameters}
 use Rattle.gx_format.specs.Calls.{Runs}
-use Rattle.gx_format.specs.Fresh.{IsFresh}
-use Rattle.gx_format.specs.Formatting.{clearing, laying, naming, formatting, IsOldBeside, IsUnnamed, IsUnnamedOrFresh, IsOldOrFresh, IsCleared, IsLaidDown}
+use Rattle.gx_format.specs.Fresh.{IsFresh, IsUnnamed}
+use Rattle.gx_format.specs.Formatting.{clearing, laying, naming, formatting, IsOldBeside, IsUnnamedOrFresh, IsOldOrFresh, IsCleared, IsLaidDown}
 
 -- in the first write and its sync each image is one of before except for sector 0, and then the device has no index
 abbrev pub ClearingLeavesOld : (D : Type 0) → (D → disk.Device) → Type 0

@@ -7,7 +7,7 @@ use gx_disk::SectorDisk;
 use gx_geom::Refusal;
 
 /// Writes whole sectors.
-pub(crate) fn write<D: SectorDisk>(disk: &mut D, first: u64, bytes: &[u8]) -> Result<(), Refusal>
+pub fn write<D: SectorDisk>(disk: &mut D, first: u64, bytes: &[u8]) -> Result<(), Refusal>
     requires { IsSpan (D.state disk.old).sectors first (length bytes.now) }
     ensures sectors { (D.state disk.new).sectors ≡ (D.state disk.old).sectors }
     ensures runs { (n : ℕ) → length bytes.now ≡ 512 * n
@@ -18,7 +18,7 @@ pub(crate) fn write<D: SectorDisk>(disk: &mut D, first: u64, bytes: &[u8]) -> Re
 }
 
 /// Makes all writes durable.
-pub(crate) fn settle<D: SectorDisk>(disk: &mut D) -> Result<(), Refusal>
+pub fn settle<D: SectorDisk>(disk: &mut D) -> Result<(), Refusal>
     ensures sectors { (D.state disk.new).sectors ≡ (D.state disk.old).sectors }
     ensures runs { Runs D.state (Sync ∷ []) disk.old disk.new result }
 {

@@ -28,7 +28,10 @@ use gx_page::Page;
 use std::alloc::Global;
 
 /// The first eight bytes of a device that has an index.
-pub const MAGIC: [u8; 8] = *b"GISTRT01";
+pub const MAGIC: [u8; 8] = *b"GISTRT02";
+
+/// The first eight bytes of a device that has an index of version 1 of the format.
+pub const OLD_MAGIC: [u8; 8] = *b"GISTRT01";
 
 /// The sector at which page 2 begins.
 pub const PAGE_2: u64 = PAGES_AT + PAGE_SECTORS;
@@ -36,7 +39,7 @@ pub const PAGE_2: u64 = PAGES_AT + PAGE_SECTORS;
 /// The least limit of entries in a node.
 pub const MIN_FANOUT: u16 = 4;
 
-/// How many sectors an index of so many pages takes: 4,168 for parameters and log, and eight for each page.
+/// How many sectors an index of so many pages takes: 16,648 for parameters and log, and eight for each page.
 pub fn sectors_for(pages: u32) -> u64
     ensures { result ≡ sectors_of pages }
 {
@@ -53,15 +56,15 @@ pub fn is_in_range(pages: u32, most: u16) -> bool
 
 // The sector of the magic.
 fn named() -> [u8; SECTOR_SIZE]
-    ensures { result ≡ 0x47 ∷ 0x49 ∷ 0x53 ∷ 0x54 ∷ 0x52 ∷ 0x54 ∷ 0x30 ∷ 0x31 ∷ replicate 504 0 }
+    ensures { result ≡ 0x47 ∷ 0x49 ∷ 0x53 ∷ 0x54 ∷ 0x52 ∷ 0x54 ∷ 0x30 ∷ 0x32 ∷ replicate 504 0 }
 {
     let mut sector = [0; SECTOR_SIZE];
     sector[..8].copy_from_slice(&MAGIC);
     sector
 }
 
-// Clears the magic.
-fn clear<D: SectorDisk>(disk: &mut D) -> Result<(), Refusal>
+/// Clears the magic: the first of the three phases.
+pub fn clear<D: SectorDisk>(disk: &mut D) -> Result<(), Refusal>
     requires { MIN_SECTORS ≤ (D.state disk.old).sectors }
     ensures sectors { (D.state disk.new).sectors ≡ (D.state disk.old).sectors }
     ensures runs { Runs D.state clearing disk.old disk.new result }
@@ -70,8 +73,8 @@ fn clear<D: SectorDisk>(disk: &mut D) -> Result<(), Refusal>
     settle(disk)
 }
 
-// Writes the parameters, and the selector of extent A.
-fn lay_parameters<D: SectorDisk>(disk: &mut D, parameters: &Parameters) -> Result<(), Refusal>
+/// Writes the parameters, and the selector of extent A.
+pub fn lay_parameters<D: SectorDisk>(disk: &mut D, parameters: &Parameters) -> Result<(), Refusal>
     requires { MIN_SECTORS ≤ (D.state disk.old).sectors }
     ensures sectors { (D.state disk.new).sectors ≡ (D.state disk.old).sectors }
     ensures runs { Runs D.state (Write PARAMETERS 1 (parameters_bytes parameters.now ++ replicate 504 0)
@@ -81,8 +84,8 @@ fn lay_parameters<D: SectorDisk>(disk: &mut D, parameters: &Parameters) -> Resul
     write(disk, SELECTOR, &selecting(Extent::A))
 }
 
-// Closes all gates.
-fn close_gates<D: SectorDisk>(disk: &mut D) -> Result<(), Refusal>
+/// Closes all gates.
+pub fn close_gates<D: SectorDisk>(disk: &mut D) -> Result<(), Refusal>
     requires { MIN_SECTORS ≤ (D.state disk.old).sectors }
     ensures sectors { (D.state disk.new).sectors ≡ (D.state disk.old).sectors }
     ensures runs { Runs D.state (Write GATES_A PLACES closed_gates_bytes
@@ -115,8 +118,8 @@ fn lay_body<D: SectorDisk>(disk: &mut D) -> Result<(), Refusal>
     settle(disk)
 }
 
-// Opens the first gate.
-fn open<D: SectorDisk>(disk: &mut D) -> Result<(), Refusal>
+/// Opens the first gate of extent A.
+pub fn open_first_gate<D: SectorDisk>(disk: &mut D) -> Result<(), Refusal>
     requires { MIN_SECTORS ≤ (D.state disk.old).sectors }
     ensures sectors { (D.state disk.new).sectors ≡ (D.state disk.old).sectors }
     ensures runs { Runs D.state (Write GATES_A 1 open_gate_bytes ∷ Sync ∷ []) disk.old disk.new result }
@@ -125,8 +128,8 @@ fn open<D: SectorDisk>(disk: &mut D) -> Result<(), Refusal>
     settle(disk)
 }
 
-// Writes the magic.
-fn name<D: SectorDisk>(disk: &mut D) -> Result<(), Refusal>
+/// Writes the magic: the last of the three phases.
+pub fn name<D: SectorDisk>(disk: &mut D) -> Result<(), Refusal>
     requires { MIN_SECTORS ≤ (D.state disk.old).sectors }
     ensures sectors { (D.state disk.new).sectors ≡ (D.state disk.old).sectors }
     ensures runs { Runs D.state naming disk.old disk.new result }
@@ -145,7 +148,7 @@ fn lay<D: SectorDisk>(disk: &mut D, parameters: &Parameters, page: &mut Page) ->
     close_gates(disk)?;
     lay_pages(disk, page)?;
     lay_body(disk)?;
-    open(disk)
+    open_first_gate(disk)
 }
 
 // Makes all the calls of a format.

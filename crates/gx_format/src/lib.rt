@@ -6,4 +6,8 @@ mod fresh;
 pub mod laws;
 mod root;
 
-pub use fresh::{MAGIC, MIN_FANOUT, format, is_in_range, sectors_for};
+pub use calls::{settle, write};
+pub use fresh::{
+    MAGIC, MIN_FANOUT, OLD_MAGIC, clear, close_gates, format, is_in_range, lay_parameters, name,
+    open_first_gate, sectors_for,
+};

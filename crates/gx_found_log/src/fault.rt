@@ -30,7 +30,7 @@ impl Misfit {
 pub struct LogDamage {
     /// The extent that is selected.
     pub extent: Extent,
-    /// The place of the body in it, 0 to 31. All before it are whole.
+    /// The place of the body in it, 0 to 127. All before it are whole.
     pub body: u8,
     /// How many bytes of whole records come before the damage in this body.
     pub at: usize,

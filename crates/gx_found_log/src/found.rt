@@ -23,7 +23,7 @@ use gx_recovery::{Analysis, LogRule};
 pub struct FoundLog<E> {
     /// The extent that is selected.
     pub extent: Extent,
-    /// How many of its gates are open in a row from the first on, 1 to 32.
+    /// How many of its gates are open in a row from the first on, 1 to 128.
     pub bodies: u8,
     /// What the records of their bodies say.
     pub analysis: Analysis<E>,

@@ -87,7 +87,7 @@ impl Given {
         }
     }
 
-    /// How many pages there are, up to 224.
+    /// How many pages there are, up to 896.
     pub fn count(&self) -> usize
         ensures { result ≡ length self.now }
     {

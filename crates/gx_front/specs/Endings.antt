@@ -7,7 +7,7 @@ use Rattle.gx_machine.specs.Keys.{Members, keys_of}
 use Rattle.gx_class.specs.declared.class.KeyClass.{Ghosts}
 use Rattle.gx_disk.specs.Device.{Device}
 use Rattle.gx_disk.specs.declared.file.FileDisk.{FileDisk}
-use Rattle.gx_commands.specs.Files.{EndsDump, EndsFormat, EndsRun, EndsVerify}
+use Rattle.gx_commands.specs.Files.{EndsDump, EndsFormat, EndsMigration, EndsRun, EndsVerify}
 use Rattle.gx_commands.specs.Scripts.{EndsScript, LacksMemory}
 use Rattle.gx_commands.specs.Streams.{Outputs, Prints}
 use Rattle.gx_commands.specs.declared.opener.Opener.{Opener}
@@ -50,7 +50,7 @@ FormatsBoxes plane space state Three file old new pages most from to status = En
 
 module _ {C E F : Type 0} (plane : Members Rectangle) (plane_class : Ghosts C Rectangle) (space : Members Solid) (space_class : Ghosts E Solid) (state : FileDisk → Device)
     (events : MemoryEvents) where
-  -- how what was asked for may end: of files it opens the one that is named, and no other
+  -- how what was asked for may end: of files it opens those that are named, and no other
   abbrev pub EndsAsked : AskedCommand → World F → World F → ℕ → Type 0
   EndsAsked (command.Plain Two) from to status =
       (to.opener ≡ from.opener) × EndsScript rectangle_grammar (keys_of plane) from.input to.input from.outputs to.outputs status
@@ -64,6 +64,9 @@ module _ {C E F : Type 0} (plane : Members Rectangle) (plane_class : Ghosts C Re
       (to.input ≡ from.input) × EndsDump plane plane_class space space_class state file.now from.opener to.opener from.outputs to.outputs status
   EndsAsked (command.Verify file) from to status =
       (to.input ≡ from.input) × EndsVerify plane plane_class space space_class state file.now from.opener to.opener from.outputs to.outputs status
+  EndsAsked (command.Migrate old new frames) from to status =
+      (to.input ≡ from.input)
+      × EndsMigration plane plane_class space space_class state old.now new.now from.opener to.opener frames from.outputs to.outputs status
   EndsAsked (command.Storm seed sessions calls) from to status =
       IsUntouched from to × EndsStormed (keys_of plane) events (record { seed = seed; sessions = sessions; calls = calls }) from.outputs to.outputs status
 

@@ -10,7 +10,8 @@ use arrayvec::ArrayString;
 use clap::error::ErrorKind;
 use gx_class::{Box2Class, Box3Class, KeyClass};
 use gx_commands::{
-    Noted, Opener, dump_file, format_file, print, refuse_memory, run_file, run_script, verify_file,
+    Noted, Opener, dump_file, format_file, migrate_file, print, refuse_memory, run_file,
+    run_script, verify_file,
 };
 use gx_disk::{FileDisk, RamDisk, SectorDisk};
 use gx_engine_events::EngineEvents;
@@ -43,6 +44,8 @@ const LONGEST: usize = 64;
 /// - `gist run FILE [--frames N]` reads a script from the reader and writes the replies of the index in a file.
 /// - `gist dump FILE` writes the text of the tree of the index in a file.
 /// - `gist verify FILE` tests the index in a file, and writes `ok commits N entries E used U`; the file doesn't change.
+/// - `gist migrate OLD NEW [--frames N]` brings the index of the format's first version that one file holds into
+///   another file, and writes `migrated commits N used U`; the first file doesn't change.
 /// - `gist storm SEED SESSIONS CALLS` runs sessions in threads on an index in memory, and writes whether a plain index
 ///   replies the same. No other command has threads or waits: `before_threads` is all that they do.
 ///
@@ -55,8 +58,8 @@ const LONGEST: usize = 64;
 /// replies has closed its end, or memory was refused for the arguments or for an index in memory. The status is 2 for
 /// arguments that ask for something else or for help: then a text is written to `faults` and nothing to the writer.
 ///
-/// It opens no file but the one that the arguments name, once, by the opener, which keeps the device that the command
-/// left.
+/// It opens no files but those that the arguments name, each once, by the opener, which keeps the device that the
+/// command left.
 pub fn gist<
     'w,
     F: Files<File = File>,
@@ -154,6 +157,9 @@ fn carry_out<'w, F: Files<File = File>, R: Read, W: Write, E: Write>(
         )),
         AskedCommand::Dump { file } => Ok(dump_file(opener, alloc, file, writer, faults)),
         AskedCommand::Verify { file } => Ok(verify_file(opener, alloc, file, writer, faults)),
+        AskedCommand::Migrate { old, new, frames } => Ok(migrate_file(
+            opener, alloc, old, new, frames, writer, faults,
+        )),
         AskedCommand::Storm {
             seed,
             sessions,

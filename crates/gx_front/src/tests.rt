@@ -199,8 +199,8 @@ fn what_is_committed_is_in_the_file(rt: HostRuntime) {
     for step in &steps {
         carries_out(&rt, step);
     }
-    assert!(rt; length_of(&rt, "north") == 512 * (4168 + 8 * 16));
-    assert!(rt; length_of(&rt, "south") == 512 * (4168 + 8 * 8));
+    assert!(rt; length_of(&rt, "north") == 512 * (16_648 + 8 * 16));
+    assert!(rt; length_of(&rt, "south") == 512 * (16_648 + 8 * 8));
     let _ = fs::remove_file(&rt, "north");
     let _ = fs::remove_file(&rt, "south");
 }

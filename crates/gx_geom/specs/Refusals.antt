@@ -1,7 +1,7 @@
 -- The number and the text of each refusal.
 use Rattle.std.specs.Prelude.{ℕ, List, ◌++◌, codes, decimal}
 use Rattle.gx_geom.specs.declared.refusal.Refusal.{Refusal}
-use Rattle.gx_geom.specs.declared.refusal.Refusal.TheVariants.{NoTransaction, InTransaction, Present, Absent, Busy, BadBox, PagesFull, ClaimsFull, PredicatesFull, Memory, Device, Failed, Damaged, NotFormatted, BadSession, CallOpen, TooSmall, BadParameter, NoCall, HistoryFull}
+use Rattle.gx_geom.specs.declared.refusal.Refusal.TheVariants.{NoTransaction, InTransaction, Present, Absent, Busy, BadBox, PagesFull, ClaimsFull, PredicatesFull, Memory, Device, Failed, Damaged, NotFormatted, BadSession, CallOpen, TooSmall, BadParameter, NoCall, HistoryFull, OldVersion}
 
 abbrev pub refusal_number : Refusal → ℕ
 refusal_number NoTransaction = 1
@@ -24,6 +24,7 @@ refusal_number TooSmall = 17
 refusal_number BadParameter = 18
 refusal_number NoCall = 19
 refusal_number HistoryFull = 20
+refusal_number OldVersion = 21
 
 abbrev pub refusal_text : Refusal → List ℕ
 refusal_text NoTransaction = codes "no transaction"
@@ -46,3 +47,4 @@ refusal_text TooSmall = codes "too small"
 refusal_text BadParameter = codes "bad parameter"
 refusal_text NoCall = codes "no call"
 refusal_text HistoryFull = codes "history full"
+refusal_text OldVersion = codes "old version"

@@ -48,10 +48,12 @@ pub enum Refusal {
     NoCall,
     /// The record, or the numbers of commits or transactions, are used up.
     HistoryFull,
+    /// The device holds an index of an older version of the format.
+    OldVersion,
 }
 
 impl Refusal {
-    /// The refusal's number, from 1 to 20.
+    /// The refusal's number, from 1 to 21.
     pub fn number(self) -> u8
         ensures { result ≡ refusal_number self }
     {
@@ -76,6 +78,7 @@ impl Refusal {
             Refusal::BadParameter => 18,
             Refusal::NoCall => 19,
             Refusal::HistoryFull => 20,
+            Refusal::OldVersion => 21,
         }
     }
 
@@ -104,6 +107,7 @@ impl Refusal {
             Refusal::BadParameter => short("bad parameter"),
             Refusal::NoCall => short("no call"),
             Refusal::HistoryFull => short("history full"),
+            Refusal::OldVersion => short("old version"),
         }
     }
 }

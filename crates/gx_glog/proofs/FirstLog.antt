@@ -4,7 +4,7 @@ use Rattle.gx_disk.specs.Sectors.{span_of, sector_of}
 use Rattle.gx_disk.specs.Device.{IsImage}
 use Rattle.gx_disk.proofs.Spans.{image_span}
 use Rattle.gx_record.specs.Bytes.{u64_bytes, u32_bytes}
-use Rattle.gx_glog.specs.declared.extent.TheConstants.{PLACES}
+use Rattle.gx_glog.specs.declared.extent.TheConstants.{BODIES_A, BODY_SECTORS, GATES_A, PLACES}
 use Rattle.gx_glog.specs.declared.extent.Extent.TheVariants.{A, B}
 use Rattle.gx_glog.specs.Bodies.{HasRecords}
 use Rattle.gx_glog.specs.Cuts.{open_bodies, joined}
@@ -32,7 +32,7 @@ first_open seen has = ap (λ (sector : List ℕ). get_or sector 0 0 == 0xA7) has
 
 later_closed : (seen : List ℕ) (k : ℕ) → HasFirstLog seen → 1 ≤ k → k < PLACES → is_open seen A k ≡ false
 unfolding is_open span_of sector_of
-later_closed seen k has from below = ap (λ (sector : List ℕ). get_or sector 0 0 == 0xA7) (has.closed (8 + k) (omega arith) (omega arith))
+later_closed seen k has from below = ap (λ (sector : List ℕ). get_or sector 0 0 == 0xA7) (has.closed (GATES_A + k) (omega arith) (omega arith))
 
 first_has : HasRecords first_record first_body_bytes
 unfolding size_in records_in
@@ -51,9 +51,9 @@ module _ (seen : List ℕ) (pending : ℕ → Bool) (has : HasFirstLog seen) (se
       head_stands A first_record seen pending has.size (omega arith, omega arith) (record {
         records = body_has seen has;
         body = λ s within. settled s (inr (omega (arith, within.from), omega (arith, within.below)));
-        closed = λ k from below. record { reads = later_closed seen k has from below; settled = settled (8 + k) (inr (omega arith, omega arith)) };
+        closed = λ k from below. record { reads = later_closed seen k has from below; settled = settled (GATES_A + k) (inr (omega arith, omega arith)) };
       })
-      (record { reads = first_open seen has; settled = settled (8 + 0) (inr (omega arith, omega arith)) })
+      (record { reads = first_open seen has; settled = settled (GATES_A + 0) (inr (omega arith, omega arith)) })
 
   pub first_on : On (starting A 1) seen pending
   first_on = start_on A 1 seen pending (omega arith) selected head.batches
@@ -63,9 +63,9 @@ module _ (seen : List ℕ) (pending : ℕ → Bool) (has : HasFirstLog seen) (se
   first_images image may = record {
     size = omega (arith, may.size, has.size);
     selector = may.settled 2 (settled 2 (inl refl)) ∙ has.selector;
-    opened = may.settled 8 (settled 8 (inr (omega arith, omega arith))) ∙ has.opened;
+    opened = may.settled GATES_A (settled GATES_A (inr (omega arith, omega arith))) ∙ has.opened;
     closed = λ s from below. may.settled s (settled s (inr (omega arith, omega arith))) ∙ has.closed s from below;
-    body = image_span 64 40 seen pending image may (λ s within. settled s (inr (omega (arith, within.from), omega (arith, within.below)))) ∙ has.body;
+    body = image_span BODY_SECTORS BODIES_A seen pending image may (λ s within. settled s (inr (omega (arith, within.from), omega (arith, within.below)))) ∙ has.body;
   }
 
 -- what reads so has the first log

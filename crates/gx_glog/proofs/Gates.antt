@@ -12,9 +12,9 @@ use Rattle.gx_glog.specs.Cuts.{bodies_in, open_bodies}
 
 -- an extent's gates lie before its bodies, behind the selector and before the pages
 pub record IsPlaced (extent : Extent) : Type 0 where
-  pub bodies : bodies_of extent ≡ gates_of extent + 32
+  pub bodies : bodies_of extent ≡ gates_of extent + PLACES
   pub from : 8 ≤ gates_of extent
-  pub to : bodies_of extent + 2048 ≤ PAGES_AT
+  pub to : bodies_of extent + PLACES * BODY_SECTORS ≤ PAGES_AT
 
 pub placed : (extent : Extent) → IsPlaced extent
 placed A = record { bodies = refl; from = omega arith; to = omega arith }
@@ -42,7 +42,7 @@ selector_same xs ys same = ap (λ (sector : List ℕ). if slice_index sector 0 =
 
 pub body_same : (extent : Extent) (k : ℕ) (xs ys : List ℕ) → ((s : ℕ) → IsWithin (bodies_of extent + BODY_SECTORS * k) BODY_SECTORS s → sector_of xs s ≡ sector_of ys s) → body_of xs extent k ≡ body_of ys extent k
 unfolding body_of
-body_same extent k xs ys same = spans_same 64 (bodies_of extent + BODY_SECTORS * k) xs ys same
+body_same extent k xs ys same = spans_same BODY_SECTORS (bodies_of extent + BODY_SECTORS * k) xs ys same
 
 -- bodies are the same where their sectors are
 pub bodies_same : (extent : Extent) (n : ℕ) (xs ys : List ℕ) → ((k : ℕ) → k < n → body_of xs extent k ≡ body_of ys extent k) → bodies_in xs extent n ≡ bodies_in ys extent n

@@ -49,7 +49,7 @@ module _ (seen seen' : List ℕ) (pending pending' : ℕ → Bool) where
       subst P (sym (body_kept extent k kept)) has
 
   -- and reads as it did to its end
-  pub whole_kept : (extent : Extent) (k : ℕ) (records : List ℕ) → ((s : ℕ) → IsWithin (bodies_of extent + 64 * k) 64 s → IsKept seen seen' pending pending' s)
+  pub whole_kept : (extent : Extent) (k : ℕ) (records : List ℕ) → ((s : ℕ) → IsWithin (bodies_of extent + BODY_SECTORS * k) BODY_SECTORS s → IsKept seen seen' pending pending' s)
       → IsBody records (body_of seen extent k) → IsBody records (body_of seen' extent k)
   whole_kept extent k records kept is =
       let P : List ℕ → Type 0 = λ body. IsBody records body in
@@ -231,7 +231,7 @@ touched_wider first n old new from to touches = record {
   settled = λ s out. touches.settled s (outside_narrower first n s from to out);
 }
 
-starting_sound : (extent : Extent) (used : ℕ) → used ≤ 32 → IsSound (starting extent used)
+starting_sound : (extent : Extent) (used : ℕ) → used ≤ PLACES → IsSound (starting extent used)
 starting_sound extent used few = record {
   places = omega arith;
   few = few;

@@ -56,7 +56,7 @@ module _ (extent : Extent) (used gated : ℕ) (flight filling tails bytes : List
   body_tails = tails_written tails extent gated before now sound.tails (omega (arith, sound.places, sound.few)) writes.touches have
 
   gates_stay : (k : ℕ) → k < PLACES → IsKept before.seen now.seen before.pending now.pending (gates_of extent + k)
-  gates_stay k below = let at = placed extent in touched_kept (bodies_of extent + BODY_SECTORS * gated) 64 (gates_of extent + k) before now place_touches (inl (omega (arith, at.bodies)))
+  gates_stay k below = let at = placed extent in touched_kept (bodies_of extent + BODY_SECTORS * gated) BODY_SECTORS (gates_of extent + k) before now place_touches (inl (omega (arith, at.bodies)))
 
   earlier_stay : (k : ℕ) → k < gated → (s : ℕ) → IsWithin (bodies_of extent + BODY_SECTORS * k) BODY_SECTORS s → IsKept before.seen now.seen before.pending now.pending s
   earlier_stay k less s within = touched_kept (bodies_of extent + BODY_SECTORS * gated) BODY_SECTORS s before now place_touches (inl (omega (arith, within.below)))
@@ -68,7 +68,7 @@ module _ (extent : Extent) (used gated : ℕ) (flight filling tails bytes : List
   body_selected : IsSelected extent now.seen now.pending
   body_selected =
       let at = placed extent in
-      selected_kept before.seen now.seen before.pending now.pending extent (touched_kept (bodies_of extent + BODY_SECTORS * gated) 64 2 before now place_touches (inl (omega (arith, at.bodies, at.from)))) selected
+      selected_kept before.seen now.seen before.pending now.pending extent (touched_kept (bodies_of extent + BODY_SECTORS * gated) BODY_SECTORS 2 before now place_touches (inl (omega (arith, at.bodies, at.from)))) selected
 
   body_gate : IsGate false now.seen now.pending extent gated
   body_gate = gate_kept before.seen now.seen before.pending now.pending false extent gated (gates_stay gated (omega (arith, sound.places, sound.few))) gate
@@ -255,8 +255,8 @@ body_synced : (extent : Extent) (used gated : ℕ) (flight filling tails : List 
 body_synced extent used gated flight filling tails before now on syncs =
     let log = log_with extent used gated BodySync flight filling tails in
     let there : On log now.seen now.pending = synced_on log before now (Ok BodySync) on syncs in
-    let below : gated < 32 = omega (arith, on.sound.places, on.sound.few) in
-    let few : sectors_of flight ≤ 64 = omega (arith, on.sound.fits) in
+    let below : gated < PLACES = omega (arith, on.sound.places, on.sound.few) in
+    let few : sectors_of flight ≤ BODY_SECTORS = omega (arith, on.sound.fits) in
     let tail : HasTail (sectors_of flight) extent gated now.seen now.pending = body_tail extent gated flight now.seen now.pending on.sound.fits there.flight.1 syncs.settled in
     record {
       on = record {
@@ -334,7 +334,7 @@ failed_keeps GateSync extent used gated flight filling tails before now refusal 
 
 -- where a record waits for a batch, there is a place for it
 pub room_left : (used : ℕ) (filling : List ℕ) → 1 ≤ length filling → (PLACES ≤ used → filling ≡ []) → used < PLACES
-room_left used filling some room = ⊎_elim (λ less. less) (λ full. absurd (let none : length filling ≡ 0 = ap length (room full) in omega arith)) (cases_lt used 32)
+room_left used filling some room = ⊎_elim (λ less. less) (λ full. absurd (let none : length filling ≡ 0 = ap length (room full) in omega arith)) (cases_lt used PLACES)
 
 -- a batch begins where there is a place for it
 pub begun_on : (extent : Extent) (used gated : ℕ) (flight filling tails seen : List ℕ) (pending : ℕ → Bool) → 1 ≤ length filling → On (log_with extent used gated Idle flight filling tails) seen pending
@@ -342,7 +342,7 @@ pub begun_on : (extent : Extent) (used gated : ℕ) (flight filling tails seen :
 begun_on extent used gated flight filling tails seen pending some on =
     let fewer : used < PLACES = room_left used filling some on.sound.room in
     let below : gated < PLACES = omega (arith, on.sound.places) in
-    let few : sectors_of filling ≤ 64 = omega (arith, on.sound.filled) in
+    let few : sectors_of filling ≤ BODY_SECTORS = omega (arith, on.sound.filled) in
     record {
       sound = record {
         places = omega (arith, on.sound.places);

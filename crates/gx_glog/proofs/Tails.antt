@@ -6,6 +6,8 @@ use Rattle.std.proofs.lemmas.List.{drop-drop, drop-replicate, drop-take, get_or-
 use Rattle.gx_disk.specs.Device.{Device, IsWritten, Touches}
 use Rattle.gx_disk.specs.Sectors.{span_of, sector_of, put, IsOutside, IsWithin}
 use Rattle.gx_disk.proofs.Spans.{put_back, put_behind, spans_same, take_two}
+use Rattle.gx_disk.specs.declared.layout.TheConstants.{PAGES_AT}
+use Rattle.gx_glog.specs.declared.extent.TheConstants.{BODIES_A, BODIES_B, BODY_ROOM, BODY_SECTORS, BODY_SIZE, PLACES}
 use Rattle.gx_glog.specs.declared.extent.Extent.{Extent}
 use Rattle.gx_glog.specs.declared.extent.Extent.TheVariants.{A, B}
 use Rattle.gx_glog.specs.Bodies.{IsBody, IsZero}
@@ -16,7 +18,7 @@ use Rattle.gx_glog.proofs.Gates.{placed}
 
 -- ---- tails as numbers
 
-place_below : (extent : Extent) (k : ℕ) → k < 32 → place_of extent k < 64
+place_below : (extent : Extent) (k : ℕ) → k < PLACES → place_of extent k < 2 * PLACES
 place_below A k below = omega arith
 place_below B k below = omega arith
 
@@ -30,8 +32,8 @@ replicated_within n v i =
     let size : length (replicate n v) ≡ n = length-replicate n v in
     ⊎_elim (λ (less : i < n). omega (arith, get_or-replicate n i v 0 less)) (λ (from : n ≤ i). omega (arith, get_or_past (replicate n v) i 0 (omega (arith, from, size)))) (cases_lt i n)
 
-pub replicated_are : AreTails (replicate 64 64)
-replicated_are = record { whole = length-replicate {A = ℕ} 64 64; within = replicated_within 64 64 }
+pub replicated_are : AreTails (replicate (2 * PLACES) BODY_SECTORS)
+replicated_are = record { whole = length-replicate {A = ℕ} (2 * PLACES) BODY_SECTORS; within = replicated_within (2 * PLACES) BODY_SECTORS }
 
 pub are_unknown : AreTails unknown_tails
 unfolding unknown_tails
@@ -39,21 +41,21 @@ are_unknown = replicated_are
 
 -- ---- tails that begin elsewhere
 
-module _ (tails : List ℕ) (are : AreTails tails) (extent : Extent) (k v : ℕ) (below : k < 32) where
+module _ (tails : List ℕ) (are : AreTails tails) (extent : Extent) (k v : ℕ) (below : k < PLACES) where
   pub set_there : tail_of (slice_set tails (place_of extent k) v) extent k ≡ v
   set_there = get_or-set_same tails (place_of extent k) v 0 (omega (arith, place_below extent k below, are.whole))
 
-  set_within : v ≤ 64 → (i : ℕ) → place_of extent k ≡ i ⊎ (i ≢ place_of extent k) → get_or (slice_set tails (place_of extent k) v) i 0 ≤ 64
+  set_within : v ≤ BODY_SECTORS → (i : ℕ) → place_of extent k ≡ i ⊎ (i ≢ place_of extent k) → get_or (slice_set tails (place_of extent k) v) i 0 ≤ BODY_SECTORS
   set_within bound i (inl same) = let is = set_there in let there : get_or (slice_set tails (place_of extent k) v) i 0 ≡ v = ap (λ j. get_or (slice_set tails (place_of extent k) v) j 0) (sym same) ∙ is in omega (arith, there)
   set_within bound i (inr other) = let is = get_or-set_other tails (place_of extent k) i v 0 other in omega (arith, is, are.within i)
 
-  pub are_set : v ≤ 64 → AreTails (slice_set tails (place_of extent k) v)
+  pub are_set : v ≤ BODY_SECTORS → AreTails (slice_set tails (place_of extent k) v)
   are_set bound = record {
     whole = length-set tails (place_of extent k) v ∙ are.whole;
     within = λ i. set_within bound i (same_or_not (place_of extent k) i);
   }
 
-same_place : (extent other : Extent) (k j : ℕ) → k < 32 → j < 32 → place_of extent k ≡ place_of other j → (extent ≡ other) × (k ≡ j)
+same_place : (extent other : Extent) (k j : ℕ) → k < PLACES → j < PLACES → place_of extent k ≡ place_of other j → (extent ≡ other) × (k ≡ j)
 same_place A A k j below less is = (refl, is)
 same_place A B k j below less is = absurd (omega arith)
 same_place B A k j below less is = absurd (omega arith)
@@ -62,8 +64,8 @@ same_place B B k j below less is = (refl, omega arith)
 tail_later : (tail later : ℕ) (extent : Extent) (k : ℕ) (seen : List ℕ) (pending : ℕ → Bool) → tail ≤ later → HasTail tail extent k seen pending → HasTail later extent k seen pending
 tail_later tail later extent k seen pending le has s from to = has s (omega (arith, from)) to
 
-module _ (tails : List ℕ) (are : AreTails tails) (extent : Extent) (k v : ℕ) (below : k < 32) (seen : List ℕ) (pending : ℕ → Bool) (have : HaveTails tails seen pending) where
-  set_has : HasTail v extent k seen pending → (other : Extent) (j : ℕ) → j < 32 → (place_of extent k ≡ place_of other j) ⊎ (place_of other j ≢ place_of extent k)
+module _ (tails : List ℕ) (are : AreTails tails) (extent : Extent) (k v : ℕ) (below : k < PLACES) (seen : List ℕ) (pending : ℕ → Bool) (have : HaveTails tails seen pending) where
+  set_has : HasTail v extent k seen pending → (other : Extent) (j : ℕ) → j < PLACES → (place_of extent k ≡ place_of other j) ⊎ (place_of other j ≢ place_of extent k)
       → HasTail (tail_of (slice_set tails (place_of extent k) v) other j) other j seen pending
   set_has has other j less (inl same) =
       let is = same_place extent other k j below less same in
@@ -82,8 +84,8 @@ module _ (tails : List ℕ) (are : AreTails tails) (extent : Extent) (k v : ℕ)
   have_set has other j less = set_has has other j less (same_or_not (place_of extent k) (place_of other j))
 
 -- a tail that begins farther on, or where it did
-module _ (tails : List ℕ) (are : AreTails tails) (extent : Extent) (k sectors : ℕ) (below : k < 32) where
-  pub are_widened : sectors ≤ 64 → AreTails (widened extent k sectors tails)
+module _ (tails : List ℕ) (are : AreTails tails) (extent : Extent) (k sectors : ℕ) (below : k < PLACES) where
+  pub are_widened : sectors ≤ BODY_SECTORS → AreTails (widened extent k sectors tails)
   are_widened bound = are_set tails are extent k (max (tail_of tails extent k) sectors) below (omega (arith, are.within (place_of extent k)))
 
   pub widened_covers : sectors ≤ tail_of (widened extent k sectors tails) extent k
@@ -97,11 +99,11 @@ module _ (tails : List ℕ) (are : AreTails tails) (extent : Extent) (k sectors 
       (tail_later (tail_of tails extent k) (max (tail_of tails extent k) sectors) extent k seen pending (le-max_left (tail_of tails extent k) sectors) (have extent k below))
 
 -- if no place is known to have a tail, nothing is said of one
-none_within : (extent : Extent) (k s : ℕ) → k < 32 → bodies_of extent + 64 * k + tail_of unknown_tails extent k ≤ s → s < bodies_of extent + 64 * (k + 1) → ⊥
+none_within : (extent : Extent) (k s : ℕ) → k < PLACES → bodies_of extent + BODY_SECTORS * k + tail_of unknown_tails extent k ≤ s → s < bodies_of extent + BODY_SECTORS * (k + 1) → ⊥
 unfolding unknown_tails
 none_within extent k s below from to =
-    let all : ℕ = 64 in
-    let is : get_or (replicate 64 all) (place_of extent k) 0 ≡ all = get_or-replicate 64 (place_of extent k) all 0 (place_below extent k below) in
+    let all : ℕ = BODY_SECTORS in
+    let is : get_or (replicate (2 * PLACES) all) (place_of extent k) 0 ≡ all = get_or-replicate (2 * PLACES) (place_of extent k) all 0 (place_below extent k below) in
     omega (arith, from, to, is)
 
 pub unknown_have : (seen : List ℕ) (pending : ℕ → Bool) → HaveTails unknown_tails seen pending
@@ -111,7 +113,7 @@ unknown_have seen pending extent k below s from to = absurd (none_within extent 
 
 -- each sector of bodies is kept
 abbrev pub KeptBodies : List ℕ → List ℕ → (ℕ → Bool) → (ℕ → Bool) → Type 0
-KeptBodies seen seen' pending pending' = (extent : Extent) (s : ℕ) → IsWithin (bodies_of extent) 2048 s → IsKept seen seen' pending pending' s
+KeptBodies seen seen' pending pending' = (extent : Extent) (s : ℕ) → IsWithin (bodies_of extent) (PLACES * BODY_SECTORS) s → IsKept seen seen' pending pending' s
 
 zeroed_kept : (seen seen' : List ℕ) (pending pending' : ℕ → Bool) (s : ℕ) → IsKept seen seen' pending pending' s → IsZeroed seen pending s → IsZeroed seen' pending' s
 zeroed_kept seen seen' pending pending' s kept was = record { reads = kept.bytes ∙ was.reads; settled = kept.settled was.settled }
@@ -121,20 +123,20 @@ tails_kept seen seen' pending pending' tails kept have extent k below s from to 
     zeroed_kept seen seen' pending pending' s (kept extent s (record { from = omega (arith, from); below = omega (arith, to, below) })) (have extent k below s from to)
 
 -- no gate of an extent is a sector of a body
-pub gates_apart : (extent other : Extent) (k n s : ℕ) → k + n ≤ 32 → IsWithin (bodies_of other) 2048 s → IsOutside (gates_of extent + k) n s
+pub gates_apart : (extent other : Extent) (k n s : ℕ) → k + n ≤ PLACES → IsWithin (bodies_of other) (PLACES * BODY_SECTORS) s → IsOutside (gates_of extent + k) n s
 gates_apart A A k n s few within = inr (omega (arith, within.from))
 gates_apart A B k n s few within = inr (omega (arith, within.from))
 gates_apart B A k n s few within = inl (omega (arith, within.below))
 gates_apart B B k n s few within = inr (omega (arith, within.from))
 
-pub all_gates_apart : (extent other : Extent) (s : ℕ) → IsWithin (bodies_of other) 2048 s → IsOutside (gates_of extent) 32 s
+pub all_gates_apart : (extent other : Extent) (s : ℕ) → IsWithin (bodies_of other) (PLACES * BODY_SECTORS) s → IsOutside (gates_of extent) PLACES s
 all_gates_apart A A s within = inr (omega (arith, within.from))
 all_gates_apart A B s within = inr (omega (arith, within.from))
 all_gates_apart B A s within = inl (omega (arith, within.below))
 all_gates_apart B B s within = inr (omega (arith, within.from))
 
 -- of places of one extent
-by_order : (first k j n tail s : ℕ) → n ≤ 64 → (k ≡ j → n ≡ tail) → first + 64 * j + tail ≤ s → s < first + 64 * (j + 1) → IsOutside (first + 64 * k) n s
+by_order : (first k j n tail s : ℕ) → n ≤ BODY_SECTORS → (k ≡ j → n ≡ tail) → first + BODY_SECTORS * j + tail ≤ s → s < first + BODY_SECTORS * (j + 1) → IsOutside (first + BODY_SECTORS * k) n s
 by_order first k j n tail s few same from to =
     ⊎_elim (λ (before : j < k). inl (omega (arith, to, before)))
     (λ (at : k ≤ j). ⊎_elim (λ (behind : k < j). inr (omega (arith, from, behind)))
@@ -142,12 +144,12 @@ by_order first k j n tail s few same from to =
     (cases_lt j k)
 
 -- a sector behind a place's tail isn't one of those that are written up to a place's tail
-behind_tail : (extent other : Extent) (k j n tail s : ℕ) → k < 32 → j < 32 → n ≤ 64 → (place_of extent k ≡ place_of other j → n ≡ tail) → bodies_of other + 64 * j + tail ≤ s → s < bodies_of other + 64 * (j + 1)
-    → IsOutside (bodies_of extent + 64 * k) n s
-behind_tail A A k j n tail s below less few same from to = by_order 40 k j n tail s few same from to
+behind_tail : (extent other : Extent) (k j n tail s : ℕ) → k < PLACES → j < PLACES → n ≤ BODY_SECTORS → (place_of extent k ≡ place_of other j → n ≡ tail) → bodies_of other + BODY_SECTORS * j + tail ≤ s → s < bodies_of other + BODY_SECTORS * (j + 1)
+    → IsOutside (bodies_of extent + BODY_SECTORS * k) n s
+behind_tail A A k j n tail s below less few same from to = by_order BODIES_A k j n tail s few same from to
 behind_tail A B k j n tail s below less few same from to = inr (omega (arith, from))
 behind_tail B A k j n tail s below less few same from to = inl (omega (arith, to))
-behind_tail B B k j n tail s below less few same from to = by_order 2120 k j n tail s few (λ is. same (ap (λ i. 32 + i) is)) from to
+behind_tail B B k j n tail s below less few same from to = by_order BODIES_B k j n tail s few (λ is. same (ap (λ i. PLACES + i) is)) from to
 
 outside_fewer : (first n m s : ℕ) → n ≤ m → IsOutside first m s → IsOutside first n s
 outside_fewer first n m s few (inl before) = inl before
@@ -162,7 +164,7 @@ touched_more first n m old new few touches = record {
 }
 
 -- a write of a place's sectors before its tail leaves all tails
-pub tails_written : (tails : List ℕ) (extent : Extent) (k : ℕ) (old new : Device) → AreTails tails → k < 32 → Touches (bodies_of extent + 64 * k) (tail_of tails extent k) old new
+pub tails_written : (tails : List ℕ) (extent : Extent) (k : ℕ) (old new : Device) → AreTails tails → k < PLACES → Touches (bodies_of extent + BODY_SECTORS * k) (tail_of tails extent k) old new
     → HaveTails tails old.seen old.pending → HaveTails tails new.seen new.pending
 tails_written tails extent k old new are below touches have other j less s from to =
     let out = behind_tail extent other k j (tail_of tails extent k) (tail_of tails other j) s below less (are.within (place_of extent k)) (λ is. ap (λ i. get_or tails i 0) is) from to in
@@ -197,65 +199,65 @@ zero_span first n seen zeros =
     ∙ take-replicate (512 * n) (512 * (first + n) - 512 * first) 0 (omega arith)
 
 -- The first so many sectors of a body, all that its records take, over sectors of which the later ones read zero: what is read then is the body.
-module _ (first n : ℕ) (flight bytes seen : List ℕ) (few : n ≤ 64) (covers : sectors_of flight ≤ n) (is : IsBody flight bytes) (fits : 512 * first + 32768 ≤ length seen)
-    (zeros : (s : ℕ) → first + n ≤ s → s < first + 64 → sector_of seen s ≡ replicate 512 0) where
+module _ (first n : ℕ) (flight bytes seen : List ℕ) (few : n ≤ BODY_SECTORS) (covers : sectors_of flight ≤ n) (is : IsBody flight bytes) (fits : 512 * first + BODY_SIZE ≤ length seen)
+    (zeros : (s : ℕ) → first + n ≤ s → s < first + BODY_SECTORS → sector_of seen s ≡ replicate 512 0) where
   abbrev front : List ℕ
   front = take (512 * n) bytes
 
   abbrev rest : ℕ
-  rest = 512 * (64 - n)
+  rest = 512 * (BODY_SECTORS - n)
 
   front_size : length front ≡ 512 * n
   front_size = length-take-le (512 * n) bytes (omega (arith, is.whole, few))
 
   whole_body : bytes ≡ front ++ replicate rest 0
   whole_body =
-      let size : 512 * n + rest ≡ 32768 = omega (arith, few) in
+      let size : 512 * n + rest ≡ BODY_SIZE = omega (arith, few) in
       let tail : take rest (drop (512 * n) bytes) ≡ replicate rest 0 = zero_part (4 + length flight) (512 * n) rest bytes is.zeros (omega (arith, covers)) (omega (arith, is.whole, size)) in
       sym (take_all (512 * n + rest) bytes (omega (arith, is.whole, size))) ∙ take_two (512 * n) rest bytes ∙ ap (λ (ys : List ℕ). front ++ ys) tail
 
-  pub whole_read : span_of (put (512 * first) front seen) first 32768 ≡ bytes
+  pub whole_read : span_of (put (512 * first) front seen) first BODY_SIZE ≡ bytes
   unfolding span_of
   whole_read =
       let at : ℕ = 512 * first in
       let new : List ℕ = drop at (put at front seen) in
-      let size : 32768 ≡ 512 * n + rest = omega (arith, few) in
+      let size : BODY_SIZE ≡ 512 * n + rest = omega (arith, few) in
       let long : length front ≡ 512 * n = front_size in
       let head : take (512 * n) new ≡ front = ap (λ m. take m new) (sym long) ∙ put_back at front seen (omega (arith, long, fits, few)) in
       let order : at + 512 * n ≡ 512 * (first + n) = omega arith in
       let behind : drop (512 * n) new ≡ drop (512 * (first + n)) seen =
       drop-drop (512 * n) at (put at front seen) ∙ ap (λ m. drop m (put at front seen)) order ∙ put_behind at front seen (512 * (first + n)) (omega (arith, long)) (omega (arith, fits)) in
-      let tail : take rest (drop (512 * n) new) ≡ replicate rest 0 = ap (take rest) behind ∙ zero_span (first + n) (64 - n) seen (λ s from to. zeros s from (omega (arith, to, few))) in
+      let tail : take rest (drop (512 * n) new) ≡ replicate rest 0 = ap (take rest) behind ∙ zero_span (first + n) (BODY_SECTORS - n) seen (λ s from to. zeros s from (omega (arith, to, few))) in
       ap (λ m. take m new) size ∙ take_two (512 * n) rest new ∙ rw (head, tail) refl ∙ sym whole_body
 
 -- what was written of a body up to its place's tail reads as all of it
-pub body_whole : (tails : List ℕ) (extent : Extent) (k : ℕ) (flight bytes : List ℕ) (before now : Device) → AreTails tails → k < 32 → sectors_of flight ≤ tail_of tails extent k → IsBody flight bytes
-    → 2134016 ≤ length before.seen → HaveTails tails before.seen before.pending
-    → IsWritten (bodies_of extent + 64 * k) (tail_of tails extent k) (take (512 * tail_of tails extent k) bytes) before now → IsBody flight (body_of now.seen extent k)
+pub body_whole : (tails : List ℕ) (extent : Extent) (k : ℕ) (flight bytes : List ℕ) (before now : Device) → AreTails tails → k < PLACES → sectors_of flight ≤ tail_of tails extent k → IsBody flight bytes
+    → 512 * PAGES_AT ≤ length before.seen → HaveTails tails before.seen before.pending
+    → IsWritten (bodies_of extent + BODY_SECTORS * k) (tail_of tails extent k) (take (512 * tail_of tails extent k) bytes) before now → IsBody flight (body_of now.seen extent k)
 unfolding body_of span_of
 body_whole tails extent k flight bytes before now are below covers is size have written =
     let at = placed extent in
-    let first = bodies_of extent + 64 * k in
+    let first = bodies_of extent + BODY_SECTORS * k in
     let n = tail_of tails extent k in
-    let reads : span_of (put (512 * first) (take (512 * n) bytes) before.seen) first 32768 ≡ bytes =
+    let reads : span_of (put (512 * first) (take (512 * n) bytes) before.seen) first BODY_SIZE ≡ bytes =
     whole_read first n flight bytes before.seen (are.within (place_of extent k)) covers is (omega (arith, at.to, size, below)) (λ s from to. (have extent k below s from (omega (arith, to))).reads) in
     let P : List ℕ → Type 0 = λ body. IsBody flight body in
-    subst P (sym (ap (λ seen. span_of seen first 32768) written.seen ∙ reads)) is
+    subst P (sym (ap (λ seen. span_of seen first BODY_SIZE) written.seen ∙ reads)) is
 
 -- a settled body's place reads zero behind its records
-pub body_tail : (extent : Extent) (k : ℕ) (flight seen : List ℕ) (pending : ℕ → Bool) → length flight ≤ 32764 → IsBody flight (body_of seen extent k) → ((s : ℕ) → pending s ≡ false)
+pub body_tail : (extent : Extent) (k : ℕ) (flight seen : List ℕ) (pending : ℕ → Bool) → length flight ≤ BODY_ROOM → IsBody flight (body_of seen extent k) → ((s : ℕ) → pending s ≡ false)
     → HasTail (sectors_of flight) extent k seen pending
 unfolding body_of span_of sector_of
 body_tail extent k flight seen pending fits is settled s from to =
-    let first = bodies_of extent + 64 * k in
+    let first = bodies_of extent + BODY_SECTORS * k in
     let j : ℕ = s - first in
-    let body : List ℕ = take 32768 (drop (512 * first) seen) in
-    let split : 32768 ≡ 512 * j + (32768 - 512 * j) = omega (arith, from, to) in
+    let body : List ℕ = take BODY_SIZE (drop (512 * first) seen) in
+    let split : BODY_SIZE ≡ 512 * j + (BODY_SIZE - 512 * j) = omega (arith, from, to) in
     let order : 512 * first + 512 * j ≡ 512 * s = omega (arith, from) in
     let part : take 512 (drop (512 * j) body) ≡ sector_of seen s =
     ap (λ m. take 512 (drop (512 * j) (take m (drop (512 * first) seen)))) split
-    ∙ ap (take 512) (drop-take (512 * j) (32768 - 512 * j) (drop (512 * first) seen))
-    ∙ take-take 512 (32768 - 512 * j) (drop (512 * j) (drop (512 * first) seen)) (omega (arith, from, to))
+    ∙ ap (take 512) (drop-take (512 * j) (BODY_SIZE - 512 * j) (drop (512 * first) seen))
+    ∙ take-take 512 (BODY_SIZE - 512 * j) (drop (512 * j) (drop (512 * first) seen)) (omega (arith, from, to))
     ∙ ap (take 512) (drop-drop (512 * j) (512 * first) seen ∙ ap (λ m. drop m seen) order) in
     record {
       reads = sym part ∙ zero_part (4 + length flight) (512 * j) 512 body is.zeros (omega (arith, from)) (omega (arith, is.whole, to));

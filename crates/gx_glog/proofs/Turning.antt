@@ -117,7 +117,7 @@ module _ (extent : Extent) (first n : ℕ) (before now : Device) (lies : IsOfOth
 turn_stays : (t : Turn) (extent : Extent) (sectors : ℕ) (head : List ℕ) (before now : Device) (result : Result Turn Refusal) → Leads t extent (other_of extent) head before.seen before.pending
     → TurnCalls t (other_of extent) sectors head before now result → Stays t extent head before now
 turn_stays turn.Closed extent sectors head before now result leads (bytes, closed, writes) =
-    let lies : IsOfOther extent (gates_of (other_of extent)) 32 = record { from = omega arith; to = omega arith } in
+    let lies : IsOfOther extent (gates_of (other_of extent)) PLACES = record { from = omega arith; to = omega arith } in
     record {
       size = writes.touches.size;
       kept = other_kept extent (gates_of (other_of extent)) PLACES before now lies writes.touches;
@@ -239,7 +239,7 @@ turn_tails : (t : Turn) (extent : Extent) (head tails : List ℕ) (before now : 
     → TurnCalls t (other_of extent) (tail_of tails (other_of extent) 0) head before now result → HaveTails tails now.seen now.pending
 turn_tails turn.Closed extent head tails before now result are have (bytes, closed, writes) =
     tails_kept before.seen now.seen before.pending now.pending tails
-    (λ other s within. touched_kept (gates_of (other_of extent)) 32 s before now writes.touches (all_gates_apart (other_of extent) other s within)) have
+    (λ other s within. touched_kept (gates_of (other_of extent)) PLACES s before now writes.touches (all_gates_apart (other_of extent) other s within)) have
 turn_tails turn.Body extent head tails before now result are have (bytes, is_body, few, writes) =
     tails_written tails (other_of extent) 0 before now are (omega arith) writes.touches have
 turn_tails turn.BodySync extent head tails before now result are have syncs = tails_kept before.seen now.seen before.pending now.pending tails (λ other s within. rested_kept s before now syncs.rests) have
@@ -269,7 +269,7 @@ record TailsNext (t : Turn) (extent : Extent) (head tails seen : List ℕ) (pend
   pub have : HaveTails (tails_after t extent head tails) seen pending
 
 module _ (extent : Extent) (head tails : List ℕ) (before now : Device) (fits : length head ≤ 32764) where
-  head_few : sectors_of head ≤ 64
+  head_few : sectors_of head ≤ BODY_SECTORS
   head_few = omega (arith, fits)
 
   same_tails : (t : Turn) → tails_after t extent head tails ≡ tails → turning t ≡ 1 → HaveHead t extent head tails before.seen before.pending → HaveTails tails now.seen now.pending

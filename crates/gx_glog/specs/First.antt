@@ -13,7 +13,7 @@ use Rattle.gx_glog.specs.declared.extent.Extent.TheVariants.{A, B}
 abbrev pub open_gate_bytes : List ℕ
 open_gate_bytes = 0xA7 ∷ replicate 511 0
 
--- the sectors of an extent's 32 gates, all closed
+-- the sectors of an extent's gates, all closed
 abbrev pub closed_gates_bytes : List ℕ
 closed_gates_bytes = replicate GATES_SIZE 0
 

@@ -10,23 +10,23 @@ use Rattle.gx_glog.specs.Layout.{bodies_of}
 abbrev pub sectors_of : List ℕ → ℕ
 sectors_of records = (length records + 515) / 512
 
--- which of the log's 64 places an extent's place k is
+-- which of the log's places, those of both extents, an extent's place k is
 abbrev pub place_of : Extent → ℕ → ℕ
 place_of A k = k
 place_of B k = PLACES + k
 
--- the sector of an extent's place k at which that place's tail begins, 64 where it has none
+-- the sector of an extent's place k at which that place's tail begins, all of them where it has none
 abbrev pub tail_of : List ℕ → Extent → ℕ → ℕ
 tail_of tails extent k = slice_index tails (place_of extent k)
 
--- a tail for each place, within its 64 sectors
+-- a tail for each place, within its sectors
 pub record AreTails (tails : List ℕ) : Type 0 where
-  pub whole : length tails ≡ 64
+  pub whole : length tails ≡ 2 * PLACES
   pub within : (i : ℕ) → slice_index tails i ≤ BODY_SECTORS
 
 -- no place is known to have one
 unfoldable pub unknown_tails : List ℕ
-unknown_tails = replicate 64 BODY_SECTORS
+unknown_tails = replicate (2 * PLACES) BODY_SECTORS
 
 -- a place's tail begins so far on, or where it did, if that is farther on
 abbrev pub widened : Extent → ℕ → ℕ → List ℕ → List ℕ

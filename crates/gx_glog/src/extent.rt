@@ -12,7 +12,7 @@ use gx_disk::{LOG_AT, PAGES_AT, SECTOR_SIZE, SectorDisk};
 use gx_geom::Refusal;
 
 /// How many batches an extent has places for: each has a gate, of one sector, and a body.
-pub const PLACES: u8 = 32;
+pub const PLACES: u8 = 128;
 
 /// How many sectors a body has.
 pub const BODY_SECTORS: u64 = 64;
@@ -48,7 +48,7 @@ const SELECTS_B: u8 = 0x5A;
 
 pub(crate) const OPEN: u8 = 0xA7;
 
-/// One of the log's two halves: 32 gates and 32 bodies.
+/// One of the log's two halves: 128 gates and 128 bodies.
 #[derive(Clone, Copy, Debug, PartialEq, Eq)]
 pub enum Extent {
     A,

@@ -93,7 +93,7 @@ fn at_rest(alloc: Global, extent: Extent, used: u8) -> Result<Glog, AllocError>
 }
 
 impl Glog {
-    /// Makes a log that goes on in an extent of which so many places are taken, 32 at most, all of them by gated
+    /// Makes a log that goes on in an extent of which so many places are taken, 128 at most, all of them by gated
     /// batches. If a later gate may be open, it may only turn to the other extent. Refused if there is no memory for
     /// its buffers.
     pub fn start(alloc: Global, extent: Extent, used: u8) -> Result<Glog, Refusal>

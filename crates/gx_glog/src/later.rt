@@ -48,9 +48,9 @@ fn close_from<D: SectorDisk>(disk: &mut D, extent: Extent, from: u8) -> Result<(
 }
 
 /// Closes the gates of an extent behind the first one that is closed, which is that of place `bodies`: if one of the
-/// places `bodies` + 1 to 31 has an open gate, it writes all of these gates closed, in one write, and syncs; if none
+/// places from `bodies` + 1 on has an open gate, it writes all of these gates closed, in one write, and syncs; if none
 /// has, it writes nothing. It is called before a log goes on behind `bodies` batches that were found on a device, 0 to
-/// 32 of them: an image that no run of a log left may have such a gate, and one more batch would make the body behind
+/// 128 of them: an image that no run of a log left may have such a gate, and one more batch would make the body behind
 /// it count. Refused with `Device` if a call fails, and only then.
 ///
 /// On an honest device, with everything durable and this extent selected, each image at each moment has the same log

@@ -20,7 +20,7 @@ pub enum Stage {
 /// A device call of a turn to the other extent, in their order.
 #[derive(Clone, Copy, Debug, PartialEq, Eq)]
 pub enum Turn {
-    /// The 32 gates of the other extent are written closed, in one write.
+    /// The gates of the other extent are written closed, in one write.
     Closed,
     /// Its body 0 is written, up to its place's tail.
     Body,

@@ -1,12 +1,12 @@
 //! How far the places of the log were written: from its tail on each reads zero, so a body is written no farther.
-ghost use Rattle.std.specs.Prelude.{◌≡◌, ◌≤◌, ◌<◌};
+ghost use Rattle.std.specs.Prelude.{◌≡◌, ◌*◌, ◌≤◌, ◌<◌};
 ghost use Rattle.gx_glog.specs.Tails.{place_of, tail_of, trimmed, unknown_tails, widened};
 
 use crate::extent::{BODY_SECTORS, Extent, PLACES};
 use std::marker::Model;
 
 // How many places the two extents have.
-const ALL_PLACES: usize = 64;
+const ALL_PLACES: usize = 2 * PLACES as usize;
 
 /// For each place of both extents the sector of it at which its tail begins.
 #[derive(Drop)]
@@ -29,7 +29,7 @@ impl Model for Tails {
 fn place(extent: Extent, k: u8) -> usize
     requires { k < PLACES }
     ensures place { result ≡ place_of extent k }
-    ensures bound { result < 64 }
+    ensures bound { result < 2 * PLACES }
 {
     match extent {
         Extent::A => usize::from(k),

@@ -31,7 +31,7 @@ fn zeroed<const N: usize>() -> [u8; N]
     [0; N]
 }
 
-/// The sectors of an extent's 32 gates, all closed.
+/// The sectors of an extent's gates, all closed.
 pub fn closed_gates() -> [u8; GATES_SIZE]
     ensures gates { AreClosedGates result }
     ensures bytes { result ≡ closed_gates_bytes }

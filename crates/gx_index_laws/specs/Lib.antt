@@ -6,5 +6,6 @@ pub mod Whole
 pub mod Happening
 pub mod Openings
 pub mod Measures
+pub mod Writes
 pub mod WorkedLife
 pub mod Upkeep

@@ -1,16 +1,21 @@
 -- What an unanswered call has left: a number that each move of the call lowers.
-use Rattle.std.specs.Prelude.{ℕ, ◌+◌, ◌-◌, ◌*◌, Bool, not, ◌&&◌, is_some, None, Some, List}
+use Rattle.std.specs.Prelude.{ℕ, ◌≡◌, ◌<◌, ◌+◌, ◌-◌, ◌*◌, Bool, not, ◌&&◌, is_some, None, Some, List}
 use Rattle.gx_machine.specs.declared.entry.Entry.{Entry}
+use Rattle.gx_machine.specs.declared.call.Call.{Call}
 use Rattle.gx_machine.specs.Keys.{Keys}
+use Rattle.gx_machine.specs.Sessions.{Locks}
 use Rattle.gx_machine.specs.Sets.{has}
 use Rattle.gx_node.specs.Lists.{how_many}
-use Rattle.gx_node.specs.Trees.{Pair, Tree}
+use Rattle.gx_node.specs.Looks.{from_root}
+use Rattle.gx_node.specs.Trees.{Pair, Tree, child_pages, size, times}
 use Rattle.gx_node.specs.Reach.{TraversalItem, pages_ahead}
 use Rattle.gx_node.specs.Writes.{leaves_left, descent_left}
 use Rattle.gx_events.specs.Slots.{Note, Slot, Free, Working, Undoing, Waiting, slot_at, noted}
 use Rattle.gx_events.specs.Wants.{is_claimed}
-use Rattle.gx_index_laws.specs.Classes.{Class, entry_of}
+use Rattle.gx_index_laws.specs.Classes.{Class, IsLawful, entry_of}
+use Rattle.gx_index_laws.specs.Happening.{with_work}
 use Rattle.gx_index_laws.specs.States.{State, Work, Rests, Looks, Descends, Seeks, tree_now}
+use Rattle.gx_index_laws.specs.Whole.{IsWhole}
 
 -- the device's free pages
 abbrev pub pages_free : {B : Type 0} → Class B → Tree B → ℕ
@@ -61,3 +66,35 @@ slot_left c t slots (Waiting number) work restored = 0
 -- what a session's call has left
 abbrev pub work_left : {B : Type 0} → Class B → State B → ℕ → ℕ
 work_left c s a = slot_left c (tree_now c s) s.slots (slot_at a s.slots) (s.work a) (s.restored a)
+
+-- a session's open call is at this work
+pub record IsAtWork {B : Type 0} (c : Class B) (old : State B) (s : ℕ) (work : Work B) : Type 0 where
+  pub lawful : IsLawful c
+  pub whole : IsWhole c old
+  pub locks : Locks B
+  pub notes : List (Note B)
+  pub call : Call B
+  pub at : slot_at s old.slots ≡ Working locks notes (Some call)
+  pub is : old.work s ≡ work
+
+-- its abort is, with these notes
+pub record IsUndoing {B : Type 0} (c : Class B) (old : State B) (s : ℕ) (notes : List (Note B)) : Type 0 where
+  pub lawful : IsLawful c
+  pub whole : IsWhole c old
+  pub locks : Locks B
+  pub at : slot_at s old.slots ≡ Undoing locks notes
+
+-- a session's call has less left than before
+abbrev pub LeavesLess : {B : Type 0} → Class B → ℕ → State B → State B → Type 0
+LeavesLess c s old new = work_left c new s < work_left c old s
+
+-- a page isn't full, and has an entry for this one
+abbrev pub HasRoomFor : {B : Type 0} → Class B → Tree B → ℕ → ℕ → Type 0
+HasRoomFor c t page x = (size (t.node page) < c.rules.most) × (0 < times x (child_pages (t.node page)))
+
+-- the index once a session's descent goes down from its item to a page, or begins again
+abbrev pub goes_to : {B : Type 0} → Class B → ℕ → Entry B → TraversalItem → ℕ → State B → State B
+goes_to c s e item x old = with_work s (Descends e item.page (record { page = x; seen = (tree_now c old).counter })) old
+
+abbrev pub begins_anew : {B : Type 0} → Class B → ℕ → Entry B → State B → State B
+begins_anew c s e old = with_work s (Descends e 0 (from_root (tree_now c old))) old

@@ -39,7 +39,7 @@ abbrev pub used_then : Upkeep → ℕ
 used_then u = u.used + where_so u.filling 1
 
 -- The number: a page's write for each dirty frame; what is left of the batch in flight, and the four calls of the next one; and
--- a checkpoint's sync of pages and its turn, where one runs or has to, since 24 bodies are used or will be.
+-- a checkpoint's sync of pages and its turn, where one runs or has to, since as many bodies as that are used or will be.
 abbrev pub checkpoint_left : Checkpoint → ℕ → ℕ
 checkpoint_left Off used = where_so (nat_le CHECKPOINT_AT used) 8
 checkpoint_left Running used = 8

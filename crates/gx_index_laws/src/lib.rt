@@ -16,4 +16,4 @@ pub mod worked;
 pub mod writes;
 
 /// How many places of the log's extent are taken when a checkpoint is due.
-pub const CHECKPOINT_AT: u8 = 24;
+pub const CHECKPOINT_AT: u8 = 96;

@@ -8,11 +8,10 @@ ghost use Rattle.gx_machine.specs.Sessions.{Locks};
 ghost use Rattle.gx_machine.specs.Sets.{has};
 ghost use Rattle.gx_machine.specs.Machine.{is_session};
 ghost use Rattle.gx_node.specs.Lists.{how_many};
-ghost use Rattle.gx_node.specs.Trees.{Pair, Used, size, child_pages, times};
-ghost use Rattle.gx_node.specs.Steps.{IsSplit, IsRootSplit, IsWidening, IsAdding};
-ghost use Rattle.gx_node.specs.Steps.{IsMarking, IsSweep, Step, IsStep};
+ghost use Rattle.gx_node.specs.Trees.{Pair, Used};
+ghost use Rattle.gx_node.specs.Steps.{IsSplit, IsRootSplit, IsWidening, IsAdding, IsMarking, IsSweep, Step, IsStep};
 ghost use Rattle.gx_node.specs.Reach.{TraversalItem};
-ghost use Rattle.gx_node.specs.Looks.{from_root, stacked};
+ghost use Rattle.gx_node.specs.Looks.{stacked};
 ghost use Rattle.gx_node.specs.Writes.{is_sweepable, must_restart};
 ghost use Rattle.gx_events.specs.Slots.{Note, Slot, Working, Undoing, Waiting, locks_held, slot_at, noted};
 ghost use Rattle.gx_recovery.specs.Records.{Record, Commit, End};
@@ -24,7 +23,8 @@ ghost use Rattle.gx_index_laws.specs.Steps.{IsPageStep};
 ghost use Rattle.gx_index_laws.specs.States.{State, Work, Rests, Looks, Descends, Seeks, tree_now};
 ghost use Rattle.gx_index_laws.specs.Whole.{IsWhole};
 ghost use Rattle.gx_index_laws.specs.Happening.{with_record, with_work, slotted, with_restored};
-ghost use Rattle.gx_index_laws.specs.Measures.{claims_pair, work_left};
+ghost use Rattle.gx_index_laws.specs.Measures.{HasRoomFor, IsAtWork, IsUndoing, LeavesLess, begins_anew, claims_pair};
+ghost use Rattle.gx_index_laws.specs.Measures.{goes_to, work_left};
 ghost use Rattle.gx_index_laws.specs.Upkeep.{Upkeep, IsWithin, upkeep_left, Chore, IsChore};
 
 /// What a session's call has left is below 2^39, on a device of at most 65,536 pages, with at most 100 entries a node.
@@ -35,112 +35,67 @@ pub fn what_a_call_has_left_is_bounded<B>()
 
 /// A look has less left with each page that it reads, and where it turns into a descent or a seek.
 pub fn a_look_comes_to_an_end<B>()
-    ensures reads { (c : Class B) → IsLawful c → (old : State B) → IsWhole c old
-        → (s : ℕ) (locks : Locks B) (notes : List (Note B)) (call : Call B)
-        → slot_at s old.slots ≡ Working locks notes (Some call)
-        → (item : TraversalItem) (stack : List TraversalItem) (found then_found : List (Pair B)) (leads : B → Bool)
-        → old.work s ≡ Looks (item ∷ stack) found
-        → work_left c (with_work s (Looks (stacked (tree_now c old) leads item stack) then_found) old) s
-        < work_left c old s }
-    ensures descends { (c : Class B) → IsLawful c → (old : State B) → IsWhole c old
-        → (s : ℕ) (locks : Locks B) (notes : List (Note B)) (call : Call B)
-        → slot_at s old.slots ≡ Working locks notes (Some call)
-        → (stack : List TraversalItem) (found : List (Pair B)) (e : Entry B) (parent : ℕ) (item : TraversalItem)
-        → old.work s ≡ Looks stack found → Used (tree_now c old) item.page
-        → work_left c (with_work s (Descends e parent item) old) s < work_left c old s }
-    ensures seeks { (c : Class B) → IsLawful c → (old : State B) → IsWhole c old
-        → (s : ℕ) (locks : Locks B) (notes : List (Note B)) (call : Call B)
-        → slot_at s old.slots ≡ Working locks notes (Some call)
-        → (stack : List TraversalItem) (found : List (Pair B)) (e : Entry B) (leaf : ℕ)
-        → old.work s ≡ Looks stack found → work_left c (with_work s (Seeks e leaf) old) s < work_left c old s }
+    ensures reads { (c : Class B) (old : State B) (s : ℕ) (item : TraversalItem) (stack : List TraversalItem)
+        (found then_found : List (Pair B)) (leads : B → Bool) → IsAtWork c old s (Looks (item ∷ stack) found)
+        → LeavesLess c s old (with_work s (Looks (stacked (tree_now c old) leads item stack) then_found) old) }
+    ensures descends { (c : Class B) (old : State B) (s : ℕ) (stack : List TraversalItem) (found : List (Pair B))
+        (e : Entry B) (parent : ℕ) (item : TraversalItem) → IsAtWork c old s (Looks stack found)
+        → Used (tree_now c old) item.page → LeavesLess c s old (with_work s (Descends e parent item) old) }
+    ensures seeks { (c : Class B) (old : State B) (s : ℕ) (stack : List TraversalItem) (found : List (Pair B))
+        (e : Entry B) (leaf : ℕ) → IsAtWork c old s (Looks stack found)
+        → LeavesLess c s old (with_work s (Seeks e leaf) old) }
 {}
 
 /// A descent has less left where it begins again because it must, where it goes down from a page that isn't full, and
 /// with each of its records: a widening as it goes down, a sweep of its page that takes something,
 /// a split after which it begins again.
 pub fn a_descent_comes_to_an_end<B>()
-    ensures restarts { (c : Class B) → IsLawful c → (old : State B) → IsWhole c old
-        → (s : ℕ) (locks : Locks B) (notes : List (Note B)) (call : Call B)
-        → slot_at s old.slots ≡ Working locks notes (Some call) → (e : Entry B) (parent : ℕ) (item : TraversalItem)
-        → old.work s ≡ Descends e parent item
-        → must_restart c.rules (tree_now c old) parent item ≡ true
-        → work_left c (with_work s (Descends e 0 (from_root (tree_now c old))) old) s < work_left c old s }
-    ensures goes_down { (c : Class B) → IsLawful c → (old : State B) → IsWhole c old
-        → (s : ℕ) (locks : Locks B) (notes : List (Note B)) (call : Call B)
-        → slot_at s old.slots ≡ Working locks notes (Some call) → (e : Entry B) (parent : ℕ) (item : TraversalItem)
-        → old.work s ≡ Descends e parent item
-        → (x : ℕ) → size ((tree_now c old).node item.page) < c.rules.most
-        → 0 < times x (child_pages ((tree_now c old).node item.page))
-        → work_left c (with_work s (Descends e item.page (record { page = x; seen = (tree_now c old).counter })) old) s
-        < work_left c old s }
-    ensures widens { (c : Class B) → IsLawful c → (old : State B) → IsWhole c old
-        → (s : ℕ) (locks : Locks B) (notes : List (Note B)) (call : Call B)
-        → slot_at s old.slots ≡ Working locks notes (Some call) → (e : Entry B) (parent : ℕ) (item : TraversalItem)
-        → old.work s ≡ Descends e parent item
-        → (r : Record (Entry B) (Page B)) (x : ℕ) (coming key : B)
+    ensures restarts { (c : Class B) (old : State B) (s : ℕ) (e : Entry B) (parent : ℕ) (item : TraversalItem)
+        → IsAtWork c old s (Descends e parent item) → must_restart c.rules (tree_now c old) parent item ≡ true
+        → LeavesLess c s old (begins_anew c s e old) }
+    ensures goes_down { (c : Class B) (old : State B) (s : ℕ) (e : Entry B) (parent : ℕ) (item : TraversalItem)
+        → IsAtWork c old s (Descends e parent item) → (x : ℕ) → HasRoomFor c (tree_now c old) item.page x
+        → LeavesLess c s old (goes_to c s e item x old) }
+    ensures widens { (c : Class B) (old : State B) (s : ℕ) (e : Entry B) (parent : ℕ) (item : TraversalItem)
+        → IsAtWork c old s (Descends e parent item) → (r : Record (Entry B) (Page B)) (x : ℕ) (coming key : B)
         → IsWidening c.rules (tree_now c old) (tree_now c (with_record r old)) item.page x coming key
-        → size ((tree_now c old).node item.page) < c.rules.most
-        → 0 < times x (child_pages ((tree_now c old).node item.page))
-        → work_left c (with_work s (Descends e item.page (record {
-          page = x;
-          seen = (tree_now c (with_record r old)).counter;
-        })) (with_record r old)) s
-        < work_left c old s }
-    ensures sweeps { (c : Class B) → IsLawful c → (old : State B) → IsWhole c old
-        → (s : ℕ) (locks : Locks B) (notes : List (Note B)) (call : Call B)
-        → slot_at s old.slots ≡ Working locks notes (Some call) → (e : Entry B) (parent : ℕ) (item : TraversalItem)
-        → old.work s ≡ Descends e parent item
-        → (r : Record (Entry B) (Page B))
+        → HasRoomFor c (tree_now c old) item.page x → LeavesLess c s old (goes_to c s e item x (with_record r old)) }
+    ensures sweeps { (c : Class B) (old : State B) (s : ℕ) (e : Entry B) (parent : ℕ) (item : TraversalItem)
+        → IsAtWork c old s (Descends e parent item) → (r : Record (Entry B) (Page B))
         → IsSweep (tree_now c old) (tree_now c (with_record r old)) item.page (claims_pair c old.slots)
         → 0 < how_many (is_sweepable (claims_pair c old.slots)) ((tree_now c old).node item.page).pairs
-        → work_left c (with_record r old) s < work_left c old s }
-    ensures splits { (c : Class B) → IsLawful c → (old : State B) → IsWhole c old
-        → (s : ℕ) (locks : Locks B) (notes : List (Note B)) (call : Call B)
-        → slot_at s old.slots ≡ Working locks notes (Some call) → (e : Entry B) (parent : ℕ) (item : TraversalItem)
-        → old.work s ≡ Descends e parent item
+        → LeavesLess c s old (with_record r old) }
+    ensures splits { (c : Class B) (old : State B) (s : ℕ) (e : Entry B) (parent : ℕ) (item : TraversalItem)
+        → IsAtWork c old s (Descends e parent item)
         → (r : Record (Entry B) (Page B)) (n p : ℕ) (sides : List Bool) (left right : B)
         → IsSplit c.rules (tree_now c old) (tree_now c (with_record r old)) n p sides left right
-        → (tree_now c (with_record r old)).used ≤ c.pages
-        → work_left c (with_work s (Descends e 0 (from_root (tree_now c (with_record r old)))) (with_record r old)) s
-        < work_left c old s }
-    ensures splits_root { (c : Class B) → IsLawful c → (old : State B) → IsWhole c old
-        → (s : ℕ) (locks : Locks B) (notes : List (Note B)) (call : Call B)
-        → slot_at s old.slots ≡ Working locks notes (Some call) → (e : Entry B) (parent : ℕ) (item : TraversalItem)
-        → old.work s ≡ Descends e parent item
+        → (tree_now c (with_record r old)).used ≤ c.pages → LeavesLess c s old (begins_anew c s e (with_record r old)) }
+    ensures splits_root { (c : Class B) (old : State B) (s : ℕ) (e : Entry B) (parent : ℕ) (item : TraversalItem)
+        → IsAtWork c old s (Descends e parent item)
         → (r : Record (Entry B) (Page B)) (sides : List Bool) (left right : B)
         → IsRootSplit c.rules (tree_now c old) (tree_now c (with_record r old)) sides left right
-        → (tree_now c (with_record r old)).used ≤ c.pages
-        → work_left c (with_work s (Descends e 0 (from_root (tree_now c (with_record r old)))) (with_record r old)) s
-        < work_left c old s }
+        → (tree_now c (with_record r old)).used ≤ c.pages → LeavesLess c s old (begins_anew c s e (with_record r old)) }
 {}
 
 /// A seek of an open call has less left where its pair isn't in its leaf, and it goes to the right.
 pub fn a_seek_comes_to_an_end<B>()
-    ensures { (c : Class B) → IsLawful c → (old : State B) → IsWhole c old
-        → (s : ℕ) (locks : Locks B) (notes : List (Note B)) (call : Call B)
-        → slot_at s old.slots ≡ Working locks notes (Some call) → (e : Entry B) (leaf : ℕ) → old.work s ≡ Seeks e leaf
+    ensures { (c : Class B) (old : State B) (s : ℕ) (e : Entry B) (leaf : ℕ) → IsAtWork c old s (Seeks e leaf)
         → how_many (is_of c e) ((tree_now c old).node leaf).pairs ≡ 0
-        → work_left c (with_work s (Seeks e ((tree_now c old).node leaf).right) old) s < work_left c old s }
+        → LeavesLess c s old (with_work s (Seeks e ((tree_now c old).node leaf).right) old) }
 {}
 
 /// An abort has less left where a seek begins, where it goes to the right, and with each entry that is restored for the
 /// first time. A commit has something left until it is sealed, and nothing then.
 pub fn transactions_come_to_an_end<B>()
-    ensures begins { (c : Class B) → IsLawful c → (old : State B) → IsWhole c old
-        → (s : ℕ) (locks : Locks B) (notes : List (Note B))
-        → slot_at s old.slots ≡ Undoing locks notes → (e : Entry B) (leaf : ℕ) → old.work s ≡ Rests
-        → work_left c (with_work s (Seeks e leaf) old) s < work_left c old s }
-    ensures right { (c : Class B) → IsLawful c → (old : State B) → IsWhole c old
-        → (s : ℕ) (locks : Locks B) (notes : List (Note B))
-        → slot_at s old.slots ≡ Undoing locks notes → (e : Entry B) (leaf : ℕ) → old.work s ≡ Seeks e leaf
+    ensures begins { (c : Class B) (old : State B) (s : ℕ) (notes : List (Note B)) (e : Entry B) (leaf : ℕ)
+        → IsUndoing c old s notes → old.work s ≡ Rests → LeavesLess c s old (with_work s (Seeks e leaf) old) }
+    ensures right { (c : Class B) (old : State B) (s : ℕ) (notes : List (Note B)) (e : Entry B) (leaf : ℕ)
+        → IsUndoing c old s notes → old.work s ≡ Seeks e leaf
         → how_many (is_of c e) ((tree_now c old).node leaf).pairs ≡ 0
-        → work_left c (with_work s (Seeks e ((tree_now c old).node leaf).right) old) s < work_left c old s }
-    ensures restores { (c : Class B) → IsLawful c → (old : State B) → IsWhole c old
-        → (s : ℕ) (locks : Locks B) (notes : List (Note B))
-        → slot_at s old.slots ≡ Undoing locks notes → (r : Record (Entry B) (Page B)) (e : Entry B) (was : Bool)
-        → noted c.keys e notes ≡ Some was
-        → has c.keys e (old.restored s) ≡ false
-        → work_left c (with_restored s e (with_record r old)) s < work_left c old s }
+        → LeavesLess c s old (with_work s (Seeks e ((tree_now c old).node leaf).right) old) }
+    ensures restores { (c : Class B) (old : State B) (s : ℕ) (notes : List (Note B)) → IsUndoing c old s notes
+        → (r : Record (Entry B) (Page B)) (e : Entry B) (was : Bool) → noted c.keys e notes ≡ Some was
+        → has c.keys e (old.restored s) ≡ false → LeavesLess c s old (with_restored s e (with_record r old)) }
     ensures unsealed { (c : Class B) → IsLawful c → (old : State B) → IsWhole c old
         → (s : ℕ) (locks : Locks B) (notes : List (Note B))
         → slot_at s old.slots ≡ Working locks notes (Some CommitCall) → 0 < work_left c old s }

@@ -10,7 +10,7 @@ use std::io::{self, Write};
 use std::process::Abort;
 
 // How many sectors an index of 16 pages takes.
-const SECTORS: usize = 4296;
+const SECTORS: usize = 16_776;
 
 // A device that counts its reads.
 #[derive(Drop)]
@@ -166,7 +166,7 @@ fn reads<T: Abort + AllocGlobal>(
 #[test]
 fn frames_are_as_many_as_asked_for(rt: HostRuntime) {
     let rows = got(&rt, rows(rt.alloc()).ok());
-    let mut disk = got(&rt, MemDisk::new(rt.alloc(), 4168 + 8 * 64).ok());
+    let mut disk = got(&rt, MemDisk::new(rt.alloc(), 16_648 + 8 * 64).ok());
     let formatted = format(rt.alloc(), &mut disk, 64, 4);
     holds(&rt, formatted.is(0, b"formatted pages 64 fanout 4\n"));
     let (disk, _) = reads(&rt, disk, 16, rows.as_slice());

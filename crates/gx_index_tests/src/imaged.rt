@@ -13,7 +13,7 @@ use std::process::Abort;
 // The gate and the first sector of the body behind the first of extent A.
 const GATE: u64 = 9;
 
-const BODY: u64 = 104;
+const BODY: u64 = 200;
 
 // A part of a body: these bytes, or so many zeros.
 #[derive(Clone, Copy)]
@@ -132,7 +132,7 @@ fn body(alloc: Global) -> Result<Vec<u8>, AllocError> {
 fn imaged(alloc: Global) -> Option<MemDisk> {
     let mut disk = formatted(alloc)?;
     let bytes = body(alloc).ok()?;
-    if bytes.len() != 32768 || disk.sectors() < 4296 {
+    if bytes.len() != 32768 || disk.sectors() < 16_776 {
         return None;
     }
     disk.write(BODY, bytes.as_slice()).ok()?;

@@ -104,7 +104,7 @@ fn flush(engine: &mut Working, plain: &mut Plain) -> Option<()> {
 // Commits one row in place of another, the first under the number 4, until a checkpoint begins with the write of a
 // page. Returns the last number.
 fn commit_on(engine: &mut Working, plain: &mut Plain) -> Option<u64> {
-    for row in 7..31u8 {
+    for row in 7..103u8 {
         replace(engine, plain, row)?;
         flush(engine, plain)?;
         engine.dirty()?;
@@ -267,6 +267,9 @@ fn lives(alloc: Global, torn: Torn, first: u8, cuts: [u64; 2]) -> Option<()> {
 // So a crash that takes the selector's write back leaves a log of many batches, and one that leaves it just their head.
 #[test]
 fn a_life_is_one_run(rt: HostRuntime) {
-    holds(&rt, lives(rt.alloc(), Torn::Old, 0x5A, [60, 80]).is_some());
-    holds(&rt, lives(rt.alloc(), Torn::New, 0, [20, 40]).is_some());
+    holds(
+        &rt,
+        lives(rt.alloc(), Torn::Old, 0x5A, [204, 248]).is_some(),
+    );
+    holds(&rt, lives(rt.alloc(), Torn::New, 0, [20, 136]).is_some());
 }

@@ -20,7 +20,7 @@ const FRAMES: usize = 16;
 
 // The first sector of a page.
 fn first_sector(page: u32) -> u64 {
-    4160 + 8 * u64::from(page)
+    16_640 + 8 * u64::from(page)
 }
 
 // Counts a read from this sector on, if that is a page's.

@@ -9,7 +9,7 @@ use gx_restart::Index;
 use std::process::Abort;
 
 // The first sectors of the two bodies behind the first of extent B, which an opening's checkpoint selects.
-const BODIES: [u64; 2] = [2184, 2248];
+const BODIES: [u64; 2] = [8520, 8584];
 
 // A new root's bound is wider and its leaf has its first pair: two images, and the commit. Then the second pair alone.
 const LENGTHS: [u32; 2] = [0x204a, 0x36];

@@ -11,7 +11,7 @@ use std::alloc::Global;
 use std::process::Abort;
 
 // How many sectors an index of 16 pages takes.
-const SECTORS: usize = 4296;
+const SECTORS: usize = 16_776;
 
 // A new device of a class of keys.
 fn formatted<K: KeyClass>(alloc: Global) -> Option<MemDisk> {
@@ -22,16 +22,16 @@ fn formatted<K: KeyClass>(alloc: Global) -> Option<MemDisk> {
     if status == 0 { Some(disk) } else { None }
 }
 
-// A new device of boxes of the plane, whose parameters then name this class.
-fn renamed(alloc: Global, class: u8) -> Option<MemDisk> {
+// A new device of boxes of the plane, of which the eighth byte of this sector is then another.
+fn changed(alloc: Global, sector: u64, value: u8) -> Option<MemDisk> {
     let mut disk = formatted::<Box2Class>(alloc)?;
-    if disk.sectors() < 2 {
+    if disk.sectors() <= sector {
         return None;
     }
-    let mut sector = [0; 512];
-    disk.read(1, &mut sector).ok()?;
-    sector[7] = class;
-    disk.write(1, &sector).ok()?;
+    let mut bytes = [0; 512];
+    disk.read(sector, &mut bytes).ok()?;
+    bytes[7] = value;
+    disk.write(sector, &bytes).ok()?;
     Some(disk)
 }
 
@@ -45,6 +45,8 @@ enum Made {
     Space,
     // of boxes of the plane, but by its parameters of this class
     Renamed(u8),
+    // of boxes of the plane, but by its magic of version 1
+    Old,
 }
 
 fn make(alloc: Global, made: Made) -> Option<MemDisk> {
@@ -53,12 +55,13 @@ fn make(alloc: Global, made: Made) -> Option<MemDisk> {
         Made::Plane => formatted::<Box2Class>(alloc),
         Made::Lines => formatted::<IntervalClass>(alloc),
         Made::Space => formatted::<Box3Class>(alloc),
-        Made::Renamed(class) => renamed(alloc, class),
+        Made::Renamed(class) => changed(alloc, 1, class),
+        Made::Old => changed(alloc, 0, b'1'),
     }
 }
 
 // Devices, and the class of each.
-static CLASSES: [(Made, Result<u16, Refusal>); 8] = [
+static CLASSES: [(Made, Result<u16, Refusal>); 9] = [
     (Made::Blank(4231), Err(Refusal::TooSmall)),
     (Made::Blank(4232), Err(Refusal::NotFormatted)),
     (Made::Plane, Ok(1)),
@@ -67,6 +70,7 @@ static CLASSES: [(Made, Result<u16, Refusal>); 8] = [
     (Made::Renamed(0), Err(Refusal::BadParameter)),
     (Made::Renamed(4), Err(Refusal::BadParameter)),
     (Made::Renamed(255), Err(Refusal::BadParameter)),
+    (Made::Old, Err(Refusal::OldVersion)),
 ];
 
 #[test]
@@ -128,7 +132,9 @@ const NO_CLASS: Wanted = (1, b"refused 18 bad parameter\n");
 
 const NOT_FORMATTED: Wanted = (1, b"refused 14 not formatted\n");
 
-static COMMANDS: [Case; 6] = [
+const OLD_VERSION: Wanted = (1, b"refused 21 old version\n");
+
+static COMMANDS: [Case; 7] = [
     (
         Made::Space,
         OF_SPACE,
@@ -169,7 +175,7 @@ static COMMANDS: [Case; 6] = [
         ),
         (0, b"ok commits 1 entries 1 used 2\n"),
     ),
-    // an index of intervals, one of a class that there isn't, and none
+    // an index of intervals, one of a class that there isn't, none, and one of version 1
     (Made::Renamed(2), OF_SPACE, NO_CLASS, NO_CLASS, NO_CLASS),
     (Made::Renamed(4), OF_SPACE, NO_CLASS, NO_CLASS, NO_CLASS),
     (
@@ -179,6 +185,7 @@ static COMMANDS: [Case; 6] = [
         NOT_FORMATTED,
         NOT_FORMATTED,
     ),
+    (Made::Old, OF_SPACE, OLD_VERSION, OLD_VERSION, OLD_VERSION),
 ];
 
 // Fails unless each command ends so.

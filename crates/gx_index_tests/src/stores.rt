@@ -1,9 +1,10 @@
 //! A store over a fresh index: a pair is refused without room for its record, then added and found.
 ghost use Rattle.std.specs.Prelude.{◌≡◌, ◌≤◌, ◌+◌, ◌*◌, IfOk};
+ghost use Rattle.gx_disk.specs.declared.layout.TheConstants.{PAGES_AT, PAGE_SECTORS};
 
 use crate::asserts::holds;
 use gx_class::{Box2Class, IntervalClass, KeyClass, Probing};
-use gx_disk::{MemDisk, SectorDisk};
+use gx_disk::{MIN_SECTORS, MemDisk, SectorDisk};
 use gx_format::{format, sectors_for};
 use gx_machine::{Entry, Query};
 use gx_pool::{FRAMES, Pool};
@@ -22,7 +23,7 @@ fn start<D: SectorDisk + Drop, K: KeyClass>(
     pages: u32,
 ) -> Result<PageStore<D, K>, AllocError>
     requires frames { frames ≤ FRAMES }
-    requires pages { (used ≤ pages) × (pages ≤ 65536) × (4168 + 8 * pages ≤ (D.state disk).sectors) }
+    requires pages { (used ≤ pages) × (pages ≤ 65536) × (PAGES_AT + PAGE_SECTORS * pages ≤ (D.state disk).sectors) }
     ensures store { IfOk result (λ store. (store.used ≡ used) × (store.pages ≡ pages) × (store.disk ≡ disk)) }
 {
     a_store_starts::<D, K>();
@@ -54,7 +55,7 @@ fn found<D: SectorDisk, K: Probing>(
 
 /// What looks find before and after a pair is added, and whether it was refused without room.
 fn added<K: Probing>(rt: &HostRuntime) -> Result<(Option<usize>, bool, Option<usize>), Fail> {
-    let mut disk = MemDisk::new(rt.alloc(), 4232)?;
+    let mut disk = MemDisk::new(rt.alloc(), MIN_SECTORS as usize)?;
     format::<_, K>(rt.alloc(), &mut disk, 8, 4)?;
     if disk.sectors() < sectors_for(8) {
         return Ok((None, false, None));

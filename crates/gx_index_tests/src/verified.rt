@@ -95,12 +95,12 @@ fn with_byte(alloc: Global, sector: u64, at: usize, value: u8) -> Option<MemDisk
 
 // A device with eight sectors more than its index takes, which hold no page.
 fn longer(alloc: Global) -> Option<MemDisk> {
-    let mut disk = MemDisk::new(alloc, 4304).ok()?;
+    let mut disk = MemDisk::new(alloc, 16_784).ok()?;
     format::<MemDisk, Box2Class>(alloc, &mut disk, 16, 4).ok()?;
-    if disk.sectors() != 4304 {
+    if disk.sectors() != 16_784 {
         return None;
     }
-    disk.write(4296, &[7u8; 4096]).ok()?;
+    disk.write(16_776, &[7u8; 4096]).ok()?;
     Some(disk)
 }
 
@@ -112,6 +112,7 @@ fn refusals(rt: HostRuntime) {
         (Made::Blank(4231), 64, Err(Refusal::TooSmall)),
         (Made::Formatted, 15, Err(Refusal::BadParameter)),
         (Made::Changed(0, 0, 0), 64, Err(Refusal::NotFormatted)),
+        (Made::Changed(0, 7, b'1'), 64, Err(Refusal::OldVersion)),
         (Made::Changed(1, 7, 9), 64, Err(Refusal::BadParameter)),
         (Made::Changed(1, 3, 17), 64, Err(Refusal::TooSmall)),
         (Made::Changed(body, 0, 255), 64, Err(Refusal::Damaged)),

@@ -22,6 +22,7 @@ use Rattle.gx_events.specs.declared.outcome.Outcome.{Outcome}
 use Rattle.gx_events.specs.Happens.{Happens}
 use Rattle.gx_format.specs.Formatting.{sectors_of}
 use Rattle.gx_format.specs.Fresh.{HasMagic}
+use Rattle.gx_glog.specs.declared.extent.TheConstants.{PLACES}
 use Rattle.gx_found_log.specs.Found.{HasUndamaged}
 use Rattle.gx_glog.specs.Cuts.{bodies_in, open_bodies}
 use Rattle.gx_glog.specs.Layout.{open_run, selected_of}
@@ -130,6 +131,39 @@ module _ {C B D : Type 0} (shape : Members B) (proper : B → Bool) (said : List
     sets = left_of_engine m e s;
   }
 
+  -- what stands for the set that a log keeps has that set
+  module _ (start : ℕ → Page B) (told : List (Record (Entry B) (Page B))) (is_log : IsLog k told) (area : ℕ → Page B) (records : List (Record (Entry B) (Page B)))
+      (s : StandsForKept k (found start told) area records) where
+    same_number : number_of k records ≡ number_of k told
+    same_number = (let low = s.at_least in let high = s.at_most in let last = found_latest k start told in let first : durable_number k (found start told) ≡ number_of k told = refl in omega (arith, low, high, last, first))
+
+    same_set : (e : Entry B) → stands_for k start told e ≡ stands_for k area records e
+    same_set e =
+        sym (found_set k start told (known_lawful c lawful.keys) is_log e) ∙ ap (λ n. kept k (found start told) n e) (sym same_number) ∙ sym (s.same_set e)
+
+    kept_alike : (m : Machine B) → IsKeptBy c m start told → IsKeptBy c m area records
+    kept_alike m was = record {
+      at_least = subst (λ n. m.oldest ≤ n) (sym same_number) was.at_least;
+      at_most = subst (λ n. n ≤ newest m) (sym same_number) was.at_most;
+      set = set_of_a_test_that_agrees c.keys lawful.keys (stands_for k start told) (stands_for k area records) (set_of (number_of k records) m) same_set
+          (subst (λ n. IsSetOf c.keys (stands_for k start told) (set_of n m)) (sym same_number) was.set);
+    }
+
+  -- an image that stands for the set of a log that was found has that set of a machine
+  pub found_with : (m : Machine B) (seen image : List ℕ) (log : HasUndamaged k r seen) → durable.Stands k r (found (area_of r p.pages seen) (records_of log.bodies)) image
+      → IsKeptBy c m (area_of r p.pages seen) (records_of log.bodies) → Has m image
+  found_with m seen image log stands was = record {
+    head = stands.head;
+    stands = record {
+      bodies = stands.bodies;
+      told = stands.told;
+      undamaged = stands.undamaged;
+      kept = kept_alike (area_of r p.pages seen) (records_of log.bodies) (bodies_log k log.bodies log.undamaged) (area_of r p.pages image) (records_of stands.bodies) stands.stands m was;
+    };
+    sizes = stands.sizes;
+    good = record { good = stands.stands.good; fit = stands.fit };
+  }
+
   module _ (m : Machine B) (d : Device) (sets : Sets m d) where
     pub own : Has m d.seen
     own = sets.sets d.seen (record { size = refl; settled = λ s is. refl })
@@ -137,7 +171,7 @@ module _ {C B D : Type 0} (shape : Members B) (proper : B → Bool) (said : List
     -- the log of what is seen has the bodies of the image that it is
     same_bodies : (log : HasUndamaged k r d.seen) → own.stands.bodies ≡ log.bodies
     unfolding open_bodies
-    same_bodies log = bodies_one_way r (bodies_in d.seen (selected_of d.seen) (open_run d.seen (selected_of d.seen) 0 32)) own.stands.bodies log.bodies own.stands.told log.told
+    same_bodies log = bodies_one_way r (bodies_in d.seen (selected_of d.seen) (open_run d.seen (selected_of d.seen) 0 PLACES)) own.stands.bodies log.bodies own.stands.told log.told
 
     -- so the pages are good for it, and it stands for a set of the machine
     pub good_log : (log : HasUndamaged k r d.seen) → AreGood k r (area_of r p.pages d.seen) (records_of log.bodies)
@@ -151,47 +185,8 @@ module _ {C B D : Type 0} (shape : Members B) (proper : B → Bool) (said : List
     kept_log log =
         subst (λ (bodies : List (List (Record (Entry B) (Page B)))). IsKeptBy c m (area_of r p.pages d.seen) (records_of bodies)) (same_bodies log) own.stands.kept
 
-    -- what stands for the set that the log keeps has that set
-    module _ (log : HasUndamaged k r d.seen) (area : ℕ → Page B) (records : List (Record (Entry B) (Page B)))
-        (s : StandsForKept k (found (area_of r p.pages d.seen) (records_of log.bodies)) area records) where
-      abbrev start : ℕ → Page B
-      start = area_of r p.pages d.seen
-
-      abbrev told : List (Record (Entry B) (Page B))
-      told = records_of log.bodies
-
-      is_log : IsLog k told
-      is_log = bodies_log k log.bodies log.undamaged
-
-      same_number : number_of k records ≡ number_of k told
-      same_number = (let low = s.at_least in let high = s.at_most in let last = found_latest k start told in let first : durable_number k (found start told) ≡ number_of k told = refl in omega (arith, low, high, last, first))
-
-      same_set : (e : Entry B) → stands_for k start told e ≡ stands_for k area records e
-      same_set e =
-          sym (found_set k start told (known_lawful c lawful.keys) is_log e) ∙ ap (λ n. kept k (found start told) n e) (sym same_number) ∙ sym (s.same_set e)
-
-      kept_by : IsKeptBy c m area records
-      kept_by =
-          let was = kept_log log in
-          record {
-            at_least = subst (λ n. m.oldest ≤ n) (sym same_number) was.at_least;
-            at_most = subst (λ n. n ≤ newest m) (sym same_number) was.at_most;
-            set = set_of_a_test_that_agrees c.keys lawful.keys (stands_for k start told) (stands_for k area records) (set_of (number_of k records) m) same_set
-                (subst (λ n. IsSetOf c.keys (stands_for k start told) (set_of n m)) (sym same_number) was.set);
-          }
-
     pub found_has : (image : List ℕ) → StandsForFound shape proper said (format_of class) p d.seen image → Has m image
-    found_has image f = record {
-      head = f.stands.head;
-      stands = record {
-        bodies = f.stands.bodies;
-        told = f.stands.told;
-        undamaged = f.stands.undamaged;
-        kept = kept_by f.log (area_of r p.pages image) (records_of f.stands.bodies) f.stands.stands;
-      };
-      sizes = f.stands.sizes;
-      good = record { good = f.stands.stands.good; fit = f.stands.fit };
-    }
+    found_has image f = found_with m d.seen image f.log f.stands (kept_log f.log)
 
     -- the device says what it was formatted for
     pub magic : HasMagic d.seen

@@ -28,6 +28,7 @@ use Rattle.gx_opening.specs.Laid.{IsLaid}
 use Rattle.gx_opening.specs.Sound.{AreSound}
 use Rattle.gx_opening.specs.Standing.{IsFormatted, IsUnlaid, IsUnsound, known_for, limits_of, reading}
 use Rattle.gx_opening.proofs.Found.{good_sound}
+use Rattle.gx_opening.proofs.Heads.{one_magic}
 use Rattle.gx_opening.proofs.Stood.{one_saying}
 use Rattle.gx_page.specs.Reading.{read_of}
 use Rattle.gx_pool.specs.Area.{IsPassing}
@@ -139,7 +140,8 @@ module _ {C B D : Type 0} (shape : Members B) (proper : B → Bool) (said : List
   module _ (code : ℕ) (formatted : IsFormatted shape proper said f code d p) where
     -- what the device says is in range, and the device has its sectors
     not_settled : (why : Refusal) → MaySettle code d.sectors d.seen (Err why) → HasFailed why
-    not_settled refusal.NotFormatted none = absurd (none formatted.magic)
+    not_settled refusal.OldVersion old = absurd (one_magic d.seen formatted.magic old)
+    not_settled refusal.NotFormatted none = absurd (none.0 formatted.magic)
     not_settled refusal.BadParameter (magic, (q, (says, none))) = absurd (none (subst (IsAllowed code) (one_saying d.seen p q formatted.says says) formatted.allowed))
     not_settled refusal.TooSmall (magic, (q, (says, (allowed, few)))) =
         let enough : sectors_of q.pages ≤ d.sectors = subst (λ (x : Parameters). sectors_of x.pages ≤ d.sectors) (one_saying d.seen p q formatted.says says) formatted.large in

@@ -6,3 +6,4 @@ pub mod OneRun
 pub mod Later
 pub mod Told
 pub mod Commands
+pub mod Migrated

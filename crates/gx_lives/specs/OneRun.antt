@@ -1,4 +1,4 @@
--- The headline as one statement: what an index that was formatted lives through is one run of the set machine.
+-- The headline as one statement: what an index lives through is one run of the set machine.
 use Rattle.std.specs.Prelude.{ℕ, ◌≡◌, ◌≤◌, ◌⊎◌, true, List, [], ◌∷◌, Ok}
 use Rattle.gx_class.specs.Traits.{Traits}
 use Rattle.gx_class.specs.declared.class.KeyClass.{Ghosts}
@@ -34,17 +34,17 @@ abbrev pub IsAcknowledged : {B : Type 0} → ℕ → List (Turn B) → Type 0
 IsAcknowledged number [] = ⊥
 IsAcknowledged number (turn ∷ turns) = ((s : ℕ) × (turn ≡ life.Happens (Move s) (Replied (Committed number)))) ⊎ IsAcknowledged number turns
 
--- Turns that led to a stage are one run of the set machine, from nothing committed.
-pub record IsOneRun {B D : Type 0} (shape : Members B) (traits : Traits B) (state : D → Device) (p : Parameters) (turns : List (Turn B))
+-- Turns that led to a stage are one run of the set machine, from this one.
+pub record IsRunFrom {B D : Type 0} (shape : Members B) (traits : Traits B) (state : D → Device) (p : Parameters) (start : Machine B) (turns : List (Turn B))
     (now : Stage B D) : Type 0 where
   -- a step for each ask and each reply, for commits that are sealed and durable, and a crash for each opening that ended well
   pub steps : List (Step B)
   pub told : Tells turns steps
   pub machine : Machine B
-  pub runs : IsRun (keys_of shape) fresh_machine steps machine
+  pub runs : IsRun (keys_of shape) start steps machine
   -- it is serial, and each search in it finds exactly what matches in its view
-  pub serial : AreSerial (keys_of shape) fresh_machine steps
-  pub finds : FindExactly (keys_of shape) fresh_machine steps
+  pub serial : AreSerial (keys_of shape) start steps
+  pub finds : FindExactly (keys_of shape) start steps
   -- each commit that got its reply is among those that every kept set has
   pub covers : (number : ℕ) → IsAcknowledged number turns → number ≤ machine.oldest
   -- the stage is seen as that machine
@@ -53,3 +53,7 @@ pub record IsOneRun {B D : Type 0} (shape : Members B) (traits : Traits B) (stat
   pub left : (image : List ℕ) → MayBeLeft shape traits state now image → HasSet shape traits state p machine image
   -- an opening is refused only if a call failed or memory was refused
   pub opens : (disk new : D) (why : Refusal) → now ≡ Lies disk → IsRefusedAs shape traits state disk new why → HasFailed why
+
+-- from nothing committed
+abbrev pub IsOneRun : {B D : Type 0} → Members B → Traits B → (D → Device) → Parameters → List (Turn B) → Stage B D → Type 0
+IsOneRun shape traits state p turns now = IsRunFrom shape traits state p fresh_machine turns now

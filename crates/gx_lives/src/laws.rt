@@ -5,8 +5,9 @@ ghost use Rattle.gx_events.specs.declared.event.Event.TheVariants.{Move};
 ghost use Rattle.gx_events.specs.declared.outcome.Outcome.TheVariants.{Replied};
 ghost use Rattle.gx_glog.specs.declared.parameters.Parameters.{Parameters};
 ghost use Rattle.gx_machine.specs.declared.reply.Reply.TheVariants.{Committed};
+ghost use Rattle.gx_machine.specs.Invariants.{AllIdle, KeptInOrder};
 ghost use Rattle.gx_machine.specs.Keys.{Keys, keys_of};
-ghost use Rattle.gx_machine.specs.Machine.{Machine, fresh_machine, newest, set_of};
+ghost use Rattle.gx_machine.specs.Machine.{Machine, newest, set_of};
 ghost use Rattle.gx_machine.specs.Runs.{Step, IsRun};
 ghost use Rattle.gx_restart.specs.Beginning.{HasFailed};
 ghost use Rattle.gx_restart.specs.Setting.{IsRefusedAs};
@@ -15,7 +16,7 @@ ghost use Rattle.gx_lives.specs.Bearing.{AreOf, Bears, HasSet, IsOf};
 ghost use Rattle.gx_lives.specs.Later.{FindsOpened};
 ghost use Rattle.gx_lives.specs.Lives.{GoesOn, Lies, Lives, MayBeLeft, Stage, Turn, Works};
 ghost use Rattle.gx_lives.specs.Lives as life;
-ghost use Rattle.gx_lives.specs.OneRun.{IsNew, IsOneRun};
+ghost use Rattle.gx_lives.specs.OneRun.{IsNew, IsOneRun, IsRunFrom};
 ghost use Rattle.gx_lives.specs.Serially.{AreSerial, FindExactly};
 ghost use Rattle.gx_lives.specs.Told.{Tells};
 
@@ -73,6 +74,24 @@ pub fn an_opening_finds_no_damage<D: SectorDisk, K: ReadKeys>()
     is_class(K::CLASS);
 }
 
+/// A life from a device that bears a machine, whose sessions are idle and whose kept sets are in order, is one run from
+/// that machine.
+pub fn a_life_is_one_run<D: SectorDisk, K: ReadKeys>()
+    ensures { (p : Parameters) → IsAllowed K.CLASS p → (start : Machine K.Key)
+        → AllIdle start → KeptInOrder (keys_of K.Key.Shape) start
+        → (disk : D) → Bears K.Key.Shape K.ReadKeys D.state p start (Lies disk)
+        → (turns : List (Turn K.Key)) (now : Stage K.Key D)
+        → Lives K.Key.Shape K.ReadKeys D.state (Lies disk) turns now
+        → IsRunFrom K.Key.Shape K.ReadKeys D.state p start turns now }
+{
+    every_life_is_the_machines::<D, K>();
+    every_life_is_a_run::<K::Key>();
+    a_crash_leaves_a_set_of_the_machine::<D, K>();
+    an_opening_finds_no_damage::<D, K>();
+    a_run_that_begins_idle_is_serial::<K::Key>();
+    gx_machine::laws::acknowledged_commits_survive::<K::Key>();
+}
+
 /// The headline. An index is formatted on an honest device, which succeeds, and then lives through any list of events,
 /// crashes at any moment, and openings. This life is one run of the set machine, from nothing committed: a step for
 /// each ask and each reply, and one crash for each opening that ended well. This run is serial, by the numbers of its
@@ -90,12 +109,8 @@ pub fn an_index_lives_as_one_run<D: SectorDisk, K: ReadKeys>()
     gx_format::laws::phases::<D>();
     leaves::<K>();
     inners::<K>();
-    every_life_is_the_machines::<D, K>();
-    every_life_is_a_run::<K::Key>();
-    a_crash_leaves_a_set_of_the_machine::<D, K>();
-    an_opening_finds_no_damage::<D, K>();
-    a_run_from_nothing_is_serial::<K::Key>();
-    gx_machine::laws::acknowledged_commits_survive::<K::Key>();
+    gx_machine::laws::kept_sets_stay_in_order::<K::Key>();
+    a_life_is_one_run::<D, K>();
 }
 
 /// A search of a later life finds what was committed. An index lives from its format to a device, and that is opened.
@@ -119,12 +134,14 @@ pub fn a_later_search_finds_what_was_opened<D: SectorDisk, K: ReadKeys>()
     gx_machine::laws::only_open_commits_are_sealed::<K::Key>();
 }
 
-/// A run from nothing committed is serial, and each search that gets a reply finds exactly what matches in its view.
-pub fn a_run_from_nothing_is_serial<B: Shape>()
-    ensures serial { (new : Machine B) (steps : List (Step B)) → IsRun (keys_of B.Shape) fresh_machine steps new
-        → AreSerial (keys_of B.Shape) fresh_machine steps }
-    ensures finds { (new : Machine B) (steps : List (Step B)) → IsRun (keys_of B.Shape) fresh_machine steps new
-        → FindExactly (keys_of B.Shape) fresh_machine steps }
+/// A run that begins with idle sessions, and with kept sets that are in order, is serial, and each search that gets a
+/// reply finds exactly what matches in its view.
+pub fn a_run_that_begins_idle_is_serial<B: Shape>()
+    ensures serial { (start new : Machine B) (steps : List (Step B))
+        → AllIdle start → KeptInOrder (keys_of B.Shape) start
+        → IsRun (keys_of B.Shape) start steps new → AreSerial (keys_of B.Shape) start steps }
+    ensures finds { (start new : Machine B) (steps : List (Step B)) → KeptInOrder (keys_of B.Shape) start
+        → IsRun (keys_of B.Shape) start steps new → FindExactly (keys_of B.Shape) start steps }
 {
     gx_machine::laws::keys_are_lawful::<B>();
     gx_machine::laws::every_run_is_serial::<B>();

@@ -4,6 +4,7 @@
 pub mod callers;
 pub mod commands;
 pub mod laws;
+pub mod migrated;
 mod turns;
 
-pub use turns::{bring_page, examine, format, open, step, verify};
+pub use turns::{bring_page, examine, format, migrate, open, step, verify};

@@ -1,6 +1,7 @@
 //! The calls that are turns of a life: each makes the call of its name, and its contract says which turn that is.
 ghost use Rattle.std.specs.Prelude.{◌≡◌, ◌≤◌, ◌<◌, true, Err, OnOk, IfErr, IfOk, MatchResult};
-ghost use Rattle.gx_disk.specs.declared.layout.TheConstants.{MIN_SECTORS};
+ghost use Rattle.gx_commands.specs.Migrating.{Migrates};
+ghost use Rattle.gx_disk.specs.declared.layout.TheConstants.{LEAST_SECTORS};
 ghost use Rattle.gx_engine.specs.Made.{Makes};
 ghost use Rattle.gx_format.specs.Formatting.{Formats};
 ghost use Rattle.gx_format.specs.Fresh.{fresh_root};
@@ -17,9 +18,11 @@ ghost use Rattle.gx_opening.specs.Setting.{ExaminesAs, IsFormattedAs};
 ghost use Rattle.gx_lives.specs.Bearing.{Bears};
 ghost use Rattle.gx_lives.specs.Lives.{GoesOn, Lies, Works};
 ghost use Rattle.gx_lives.specs.Lives as life;
+ghost use Rattle.gx_lives.specs.Migrated.{BearsMigrated};
 ghost use Rattle.gx_lives.specs.OneRun.{IsNew};
 
 use crate::laws::an_opening_finds_no_damage;
+use crate::migrated::a_migration_begins_a_life;
 use gx_class::{Probing, ReadKeys};
 use gx_disk::SectorDisk;
 use gx_engine::laws::a_class_is_lawful;
@@ -64,6 +67,24 @@ pub fn format<D: SectorDisk, K: ReadKeys>(
     gx_format::format::<D, K>(alloc, disk, pages, most)
 }
 
+/// Migrates an index of the first version (`gx_migrate::migrate`, with its refusals). If both devices are honest, a
+/// life may begin then: the new one bears the machine that has the set of the old one alone, under the number that is
+/// returned.
+pub fn migrate<D: SectorDisk, E: SectorDisk, K: ReadKeys>(
+    alloc: Global,
+    old: &mut D,
+    new: &mut E,
+    frames: usize,
+) -> Result<(u64, u32), Refusal>
+    ensures migrates { Migrates K.Key.Shape K.ReadKeys D.state E.state frames
+        old.old old.new new.old new.new result }
+    ensures begins { (D.state old.old).honest ≡ true → (E.state new.old).honest ≡ true
+        → IfOk result (BearsMigrated K.Key.Shape K.ReadKeys E.state (D.state old.old) new.new) }
+{
+    a_migration_begins_a_life::<D, E, K>();
+    gx_migrate::migrate::<D, E, K>(alloc, old, new, frames)
+}
+
 /// An event of an engine (`Engine::step`): a turn of its life.
 pub fn step<D: SectorDisk, K: ReadKeys + Probing>(
     engine: &mut Engine<D, K>,
@@ -84,11 +105,11 @@ pub fn open<D: SectorDisk, K: ReadKeys + Probing>(
 ) -> Result<Engine<D, K>, NotOpened<D>>
     ensures frames { ((16 ≤ frames) × (frames ≤ FRAMES) → ⊥)
         → result ≡ Err (record { why = Refusal.BadParameter; disk = disk }) }
-    ensures small { 16 ≤ frames → frames ≤ FRAMES → (D.state disk).sectors < MIN_SECTORS
+    ensures small { 16 ≤ frames → frames ≤ FRAMES → (D.state disk).sectors < LEAST_SECTORS
         → result ≡ Err (record { why = Refusal.TooSmall; disk = disk }) }
     ensures faults { CountsOpening D.state (D.state disk).faults result }
     ensures refused { (D.state disk).honest ≡ true → 16 ≤ frames → frames ≤ FRAMES
-        → MIN_SECTORS ≤ (D.state disk).sectors
+        → LEAST_SECTORS ≤ (D.state disk).sectors
         → IfErr result (λ n. IsRefusedAs K.Key.Shape K.ReadKeys D.state disk n.disk n.why) }
     ensures began { IfOk result (BeganWith (Makes K.Key.Shape K.ReadKeys D.state) frames) }
     ensures undamaged { (p : Parameters) → IsAllowed K.CLASS p → (m : Machine K.Key)
@@ -135,7 +156,7 @@ pub fn examine<D: SectorDisk, K: ReadKeys>(
     alloc: Global,
     disk: D,
 ) -> (D, Result<Option<Damage>, Refusal>)
-    ensures examined { (D.state disk).honest ≡ true → MIN_SECTORS ≤ (D.state disk).sectors
+    ensures examined { (D.state disk).honest ≡ true → LEAST_SECTORS ≤ (D.state disk).sectors
         → ExaminesAs K.Key.Shape K.ReadKeys D.state disk result.0 result.1 }
     ensures turn { (D.state disk).honest ≡ true
         → GoesOn K.Key.Shape K.ReadKeys D.state (Lies disk) life.Reads (Lies result.0) }

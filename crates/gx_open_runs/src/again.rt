@@ -1,32 +1,19 @@
 //! Opens a device again after a crash, and compares what it has.
-ghost use Rattle.std.specs.Prelude.{◌≡◌, ◌%◌, length, IfOk};
-
 use crate::fault::RunFault;
 use crate::sets::set_of;
 use gx_class::Box2Class;
-use gx_disk::{MemDisk, SectorDisk};
+use gx_disk::MemDisk;
 use gx_restart::{Index, open};
 use std::alloc::Global;
 
-// So many whole sectors of zeros.
-fn zeros(alloc: Global, sectors: u64) -> Result<Vec<u8>, RunFault>
-    ensures { IfOk result (λ bytes. length bytes.items % 512 ≡ 0) }
-{
-    let size = usize::try_from(sectors).unwrap_or(0).saturating_mul(512) / 512 * 512;
-    let bytes = (vec![in alloc; 0; size])?;
-    Ok(bytes)
-}
-
 /// A device with the bytes of another, of which nothing is pending.
-pub(crate) fn copy_of(alloc: Global, disk: &mut MemDisk) -> Result<MemDisk, RunFault> {
-    let mut bytes = zeros(alloc, disk.sectors())?;
-    if bytes.is_empty() || (bytes.len() / 512) as u64 > disk.sectors() {
+pub(crate) fn copy_of(alloc: Global, disk: &MemDisk) -> Result<MemDisk, RunFault> {
+    let mut bytes = Vec::new(alloc);
+    bytes.extend_from_slice(disk.bytes())?;
+    if bytes.len() % 512 != 0 {
         return Err(RunFault::Memory);
     }
-    match disk.read(0, &mut bytes) {
-        Ok(()) => Ok(MemDisk::from_bytes(alloc, bytes)),
-        Err(_) => Err(RunFault::Memory),
-    }
+    Ok(MemDisk::from_bytes(alloc, bytes))
 }
 
 /// Opens a device, which must have the set of its number, and the number must be from the first to the last. Returns

@@ -11,8 +11,8 @@
 //! - `again FRAMES CALL DONE LEFT FIRST STRIDE`: the script stops at this call, made where DONE is 1, with this crash
 //! (`old`, `new`, `mixed`, `torn`), and then so does the opening behind it, at each call. The number that is found
 //! stays.
-//! - `fails FRAMES`, `fails_again FRAMES CALL DONE LEFT`: likewise each call fails, once or for ever, made and not, and
-//! no crash comes.
+//! - `fails FRAMES FIRST STRIDE`, `fails_again FRAMES CALL DONE LEFT FIRST STRIDE`: likewise each call fails, once or
+//! for ever, made and not, and no crash comes.
 //! - `twice FRAMES`: the script is run to its end, and the opening behind it stops at each write and sync, and the next
 //! one too.
 //! - `line FRAMES LINE`: the device stops at each call that this line of the script makes, from 1 on. The numbers are
@@ -92,7 +92,7 @@ fn found(
     let (first, last) = (acknowledged_in(&ran.replies), ran.sealed);
     let mut disk = ran.disk;
     left.crash(&mut disk);
-    let copy = copy_of(alloc, &mut disk)?;
+    let copy = copy_of(alloc, &disk)?;
     let number = stands(alloc, copy, frames, &expected.sets, first, last)?;
     Ok(Start::Found(disk, number))
 }
@@ -161,11 +161,11 @@ fn make_runs(
         }
         "fails" => {
             let mut runs = of_script(alloc, setting)?;
-            runs.upward(alloc, Calls::ALL, &Way::fails())
+            runs.upward(alloc, calls(words)?, &Way::fails())
         }
         "fails_again" => {
             let mut runs = of_opening(alloc, setting, words)?;
-            runs.upward(alloc, Calls::ALL, &Way::fails())
+            runs.upward(alloc, calls(words)?, &Way::fails())
         }
         _ => Err(RunFault::BadLine),
     }

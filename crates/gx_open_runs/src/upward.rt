@@ -30,14 +30,6 @@ pub(crate) struct Calls {
     pub(crate) stride: u64,
 }
 
-impl Calls {
-    /// Each call.
-    pub(crate) const ALL: Calls = Calls {
-        first: 0,
-        stride: 1,
-    };
-}
-
 /// How the runs of a line ended.
 #[derive(Clone, Copy, Default)]
 pub(crate) struct Endings {

@@ -1,9 +1,9 @@
 -- What a device is formatted for, as what is read of its first two sectors.
-use Rattle.std.proofs.Common.{◌≡◌, ◌∙◌, sym, ap, refl, ℕ, ◌+◌, ◌≤◌, ◌++◌, List, length, take, drop, length-append, arith}
+use Rattle.std.proofs.Common.{◌≡◌, ◌∙◌, sym, ap, refl, ℕ, ◌+◌, ◌≤◌, ◌++◌, List, get_or, length, take, drop, length-append, arith}
 use Rattle.std.proofs.lemmas.List.{take_at, drop_at, length-take}
 use Rattle.gx_disk.specs.Sectors.{sector_of}
 use Rattle.gx_durable.specs.Head.{head_in}
-use Rattle.gx_format.specs.Fresh.{HasMagic, magic_bytes}
+use Rattle.gx_format.specs.Fresh.{HasMagic, HasOldMagic, magic_bytes}
 use Rattle.gx_glog.specs.Parameters.{Fit, parameters_bytes}
 use Rattle.gx_glog.specs.declared.parameters.Parameters.{Parameters}
 use Rattle.gx_opening.specs.Formatted.{Says, head_of}
@@ -14,6 +14,10 @@ head_read image p magic told = ap (λ (bytes : List ℕ). bytes ++ take 8 (secto
 
 pub formatted_head : (image : List ℕ) (p : Parameters) → HasMagic image → Says image p → head_in image ≡ head_of p
 formatted_head image p magic says = head_read image p magic says.bytes
+
+-- no device has both magics
+pub one_magic : (image : List ℕ) → HasMagic image → HasOldMagic image → ⊥
+one_magic image magic old = (let last : 0x32 ≡ 0x31 = ap (λ (bytes : List ℕ). get_or bytes 7 0) (sym magic ∙ old) in omega (arith, last))
 
 -- no more bytes are taken than asked for
 taken : (n : ℕ) (xs : List ℕ) → length (take n xs) ≤ n

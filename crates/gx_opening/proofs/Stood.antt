@@ -1,6 +1,6 @@
 -- An index that was found on a device, from its calls.
 use Rattle.std.proofs.Common.{◌≡◌, inl, inr, ℕ, Bool, true, List, Result, Ok, Err, ◌≤◌, refl, sym, subst, ap, ◌∙◌, ⊎_elim, arith}
-use Rattle.gx_disk.specs.declared.layout.TheConstants.{MIN_SECTORS}
+use Rattle.gx_disk.specs.declared.layout.TheConstants.{LEAST_SECTORS}
 use Rattle.gx_disk.specs.Device.{Device, MayLeave, Rests, SamePending}
 use Rattle.gx_disk.specs.Moments.{Leaves}
 use Rattle.gx_disk.proofs.Leaving.{call_leaves, leaves_joined, leaves_weaker, rested_image}
@@ -101,6 +101,7 @@ told_cause T before now refusal.TooSmall behind is = absurd is
 told_cause T before now refusal.BadParameter behind is = absurd is
 told_cause T before now refusal.NoCall behind is = absurd is
 told_cause T before now refusal.HistoryFull behind is = absurd is
+told_cause T before now refusal.OldVersion behind is = absurd is
 
 -- so it is a cause
 pub one_cause : (why : Refusal) → IsFaultOrDamage why → IsCause why
@@ -113,7 +114,7 @@ never_damaged class sectors seen why may is = subst (λ (w : Refusal). MaySettle
 
 module _ {B : Type 0} (shape : Members B) (is_key : B → Bool) (said : List ℕ → B) (f : Format B) (class : ℕ) (a b : Device) where
   -- what was read behind a settling
-  pub formatted_so : (p : Parameters) → MIN_SECTORS ≤ a.sectors → Settles class a b (Ok p) → IsFormatted shape is_key said f class a p
+  pub formatted_so : (p : Parameters) → LEAST_SECTORS ≤ a.sectors → Settles class a b (Ok p) → IsFormatted shape is_key said f class a p
   formatted_so p large settles =
       let t = settles.told large in
       record { magic = t.0; says = t.1.0; allowed = t.1.1.0; large = t.1.1.1 }

@@ -24,7 +24,7 @@ use Rattle.gx_machine.specs.Keys.{Members}
 use Rattle.gx_node.specs.Reading.{Format, is_node}
 use Rattle.gx_durable.specs.Spelled.{Reading}
 use Rattle.gx_format.specs.Formatting.{sectors_of}
-use Rattle.gx_disk.specs.declared.layout.TheConstants.{MIN_SECTORS}
+use Rattle.gx_disk.specs.declared.layout.TheConstants.{LEAST_SECTORS}
 use Rattle.gx_opening.specs.Formatted.{IsAllowed, MaySettle}
 use Rattle.gx_opening.proofs.Stood.{one_saying}
 use Rattle.gx_opening.specs.Sound.{AreSound, CanAllBeRead, IsShownSound, shown_tree}
@@ -47,6 +47,7 @@ use Rattle.gx_node.specs.Writes.{IsSeek}
 use Rattle.gx_opening.specs.declared.damage.Damage.{Damage}
 use Rattle.gx_opening.specs.declared.damage.Damage.TheVariants.{Log, TooManyPages, Unreadable, Broken}
 use Rattle.gx_opening.specs.Shown.{Examines, Finds, FindsDamage, FoundShows, HoldsDamaged, HasFittingLog, HoldsLog, HoldsSound, IndexFinds, IndexShows, IsBroken, IsLack, IsLeftOut, IsSoundIndex, IsUnexamined, PagesShow, Shows, Starts, TreeShows, log_told_of, tree_told_of}
+use Rattle.gx_opening.proofs.Heads.{one_magic}
 use Rattle.gx_opening.proofs.Others.{log_of_others}
 use Rattle.gx_opening.proofs.Sounding.{can_be_read}
 
@@ -177,7 +178,8 @@ module _ {B : Type 0} (shape : Members B) (is_key : B → Bool) (said : List ℕ
 -- a device that is damaged
 module _ {B : Type 0} (shape : Members B) (is_key : B → Bool) (said : List ℕ → B) (f : Format B) (class : ℕ) (d : Device) (damaged : HoldsDamaged shape is_key said f class d) where
   not_settled : (why : Refusal) → MaySettle class d.sectors d.seen (Err why) → why ≡ refusal.Device
-  not_settled refusal.NotFormatted never = absurd (never damaged.formatted.magic)
+  not_settled refusal.OldVersion old = absurd (one_magic d.seen damaged.formatted.magic old)
+  not_settled refusal.NotFormatted never = absurd (never.0 damaged.formatted.magic)
   not_settled refusal.BadParameter is =
       absurd (is.1.1.1 (subst (λ (q : Parameters). IsAllowed class q) (one_saying d.seen damaged.parameters is.1.0 damaged.formatted.says is.1.1.0) damaged.formatted.allowed))
   not_settled refusal.TooSmall is =
@@ -198,5 +200,5 @@ module _ {B : Type 0} (shape : Members B) (is_key : B → Bool) (said : List ℕ
       (λ why. (why ≡ refusal.Device) ⊎ ((why ≡ refusal.Memory) × (same ⊎ HoldsLog shape is_key said f class d))) result never_sound (λ damage shows. shows)
       (λ why. ⊎_elim (λ settles. inl (not_settled why settles)) (λ memory. inr memory)) examines
 
-  pub has_least : MIN_SECTORS ≤ d.sectors
+  pub has_least : LEAST_SECTORS ≤ d.sectors
   has_least = let large = damaged.formatted.large in let least = damaged.formatted.allowed.range.least_pages in omega (arith, large, least)

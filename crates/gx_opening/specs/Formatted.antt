@@ -1,14 +1,14 @@
 -- What a device is formatted for, as it is read once it is settled.
-use Rattle.std.specs.Prelude.{◌≡◌, ℕ, ◌+◌, ◌<◌, ◌≤◌, List, ◌++◌, take, Result, Ok, Err, OnOk}
+use Rattle.std.specs.Prelude.{◌≡◌, ◌⊎◌, ℕ, ◌+◌, ◌<◌, ◌≤◌, List, ◌++◌, take, Result, Ok, Err, OnOk}
 use Rattle.gx_geom.specs.declared.refusal.Refusal.{Refusal}
-use Rattle.gx_geom.specs.declared.refusal.Refusal.TheVariants.{BadParameter, TooSmall, NotFormatted, Device}
-use Rattle.gx_disk.specs.declared.layout.TheConstants.{MIN_SECTORS}
+use Rattle.gx_geom.specs.declared.refusal.Refusal.TheVariants.{BadParameter, TooSmall, NotFormatted, OldVersion, Device}
+use Rattle.gx_disk.specs.declared.layout.TheConstants.{LEAST_SECTORS}
 use Rattle.gx_disk.specs.Device as disk
 use Rattle.gx_disk.specs.Device.{MayLeave, IsSettled, Rests}
 use Rattle.gx_disk.specs.Moments.{Leaves}
 use Rattle.gx_disk.specs.Sectors.{sector_of}
 use Rattle.gx_format.specs.Formatting.{AreInRange, sectors_of}
-use Rattle.gx_format.specs.Fresh.{HasMagic, magic_bytes}
+use Rattle.gx_format.specs.Fresh.{HasMagic, HasOldMagic, IsUnnamed, magic_bytes}
 use Rattle.gx_glog.specs.Parameters.{parameters_bytes, Fit}
 use Rattle.gx_glog.specs.declared.parameters.Parameters.{Parameters}
 use Rattle.gx_store.specs.Faults.{refusal_fails}
@@ -40,9 +40,14 @@ WhyNotAllowed class sectors p refusal = ⊥
 -- what is read of an image: what it says behind the magic
 abbrev pub AreRead : List ℕ → Result Parameters Refusal → Type 0
 AreRead image (Ok p) = HasMagic image × Says image p
-AreRead image (Err NotFormatted) = HasMagic image → ⊥
+AreRead image (Err OldVersion) = HasOldMagic image
+AreRead image (Err NotFormatted) = IsUnnamed image
 AreRead image (Err Device) = Unit {0}
 AreRead image (Err refusal) = ⊥
+
+-- why it isn't read
+abbrev pub IsUntold : Refusal → Type 0
+IsUntold why = (why ≡ Device) ⊎ ((why ≡ OldVersion) ⊎ (why ≡ NotFormatted))
 
 -- no call has failed if the result is Ok, and else as many as its refusal says
 abbrev pub FaultsAre : {T : Type 0} → (before now : ℕ) → Result T Refusal → Type 0
@@ -63,10 +68,11 @@ pub record OnlyRests (old new : disk.Device) : Type 0 where
   pub rests : Rests old new
   pub leaves : Leaves (MayLeave old) old new
 
--- what is read of a device that has the sectors of the smallest index, in the order of its tests
+-- what is read of a device that has `LEAST_SECTORS` sectors, in the order of its tests
 abbrev pub MaySettle : (class sectors : ℕ) → List ℕ → Result Parameters Refusal → Type 0
 MaySettle class sectors seen (Ok p) = HasMagic seen × (Says seen p × (IsAllowed class p × IsLarge sectors p))
-MaySettle class sectors seen (Err NotFormatted) = HasMagic seen → ⊥
+MaySettle class sectors seen (Err OldVersion) = HasOldMagic seen
+MaySettle class sectors seen (Err NotFormatted) = IsUnnamed seen
 MaySettle class sectors seen (Err BadParameter) = HasMagic seen × ((p : Parameters) × (Says seen p × (IsAllowed class p → ⊥)))
 MaySettle class sectors seen (Err TooSmall) = HasMagic seen × ((p : Parameters) × (Says seen p × (IsAllowed class p × (sectors < sectors_of p.pages))))
 MaySettle class sectors seen (Err Device) = Unit {0}
@@ -75,5 +81,5 @@ MaySettle class sectors seen (Err refusal) = ⊥
 -- What an honest device is read to be formatted for: once it is settled nothing reads otherwise.
 pub record Settles (class : ℕ) (old new : disk.Device) (result : Result Parameters Refusal) : Type 0 where
   pub only : OnlyRests old new
-  pub told : MIN_SECTORS ≤ old.sectors → MaySettle class old.sectors old.seen result
+  pub told : LEAST_SECTORS ≤ old.sectors → MaySettle class old.sectors old.seen result
   pub settled : OnOk result (IsSettled new)

@@ -1,7 +1,7 @@
 -- In which order an opening's calls are made: a sync, and then what is written.
 use Rattle.std.specs.Prelude.{◌≡◌, ◌⊎◌, ◌+◌, ◌≤◌}
 use Rattle.gx_geom.specs.declared.refusal.Refusal.{Refusal}
-use Rattle.gx_geom.specs.declared.refusal.Refusal.TheVariants.{BadParameter, NotFormatted, TooSmall}
+use Rattle.gx_geom.specs.declared.refusal.Refusal.TheVariants.{BadParameter, NotFormatted, OldVersion, TooSmall}
 use Rattle.gx_disk.specs.Device.{Device, IsSettled}
 use Rattle.gx_opening.specs.Formatted.{OnlyRests}
 
@@ -31,4 +31,4 @@ module _ {D : Type 0} (state : D → Device) (goes : Device → Device → Type 
 
 -- a device isn't one of the class, by what it is formatted for and by how many sectors it has
 abbrev pub IsUnfit : Refusal → Type 0
-IsUnfit why = (why ≡ NotFormatted) ⊎ ((why ≡ BadParameter) ⊎ (why ≡ TooSmall))
+IsUnfit why = (why ≡ OldVersion) ⊎ ((why ≡ NotFormatted) ⊎ ((why ≡ BadParameter) ⊎ (why ≡ TooSmall)))

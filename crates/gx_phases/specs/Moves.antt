@@ -87,6 +87,14 @@ with_work work (phase.Open call before) = (before, phase.Open call work)
 with_work work (phase.Undoing restored before) = (before, phase.Undoing restored work)
 with_work work (phase.Waiting number) = (work, phase.Waiting number)
 
+-- an open call and an undo keep work
+abbrev pub has_work : {B W : Type 0} → Phase B W → Bool
+has_work phase.Free = false
+has_work phase.Working = false
+has_work (phase.Open call work) = true
+has_work (phase.Undoing restored work) = true
+has_work (phase.Waiting number) = false
+
 -- the number of a session's transaction
 abbrev pub transaction_of : {B W : Type 0} → ℕ → State B W → ℕ
 transaction_of s state = slice_index_or state.transactions (s - 1) 0

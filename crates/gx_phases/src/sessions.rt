@@ -1,4 +1,5 @@
 //! All sessions.
+ghost use Rattle.std.specs.Borrow.{sem};
 ghost use Rattle.std.specs.Prelude.{◌≡◌, ◌<◌, ◌≤◌, ◌+◌, ◌-◌, Bool, true, IfOk, IfSome, List, replicate};
 ghost use Rattle.gx_machine.specs.declared.limits.TheConstants.{SESSIONS};
 ghost use Rattle.gx_machine.specs.Machine.{is_session};
@@ -75,14 +76,14 @@ impl<B: Shape, W: Drop> Sessions<B, W> {
     ghost use Rattle.gx_txn.specs.Tables.{held_by, claimed_in, locks_for, IsKept as HeldIsKept};
     ghost use Rattle.gx_phases.specs.States.{fresh_state, engine_of, phase_at, with_phase_of, IsKept};
     ghost use Rattle.gx_phases.specs.Moves.{is_open, asks_commit, HasWrite, is_undoing, waits_for};
-    ghost use Rattle.gx_phases.specs.Moves.{with_work, transaction_of, covered, next_of, Acknowledged};
+    ghost use Rattle.gx_phases.specs.Lending.{lends_work_of};
+    ghost use Rattle.gx_phases.specs.Moves.{has_work, with_work, transaction_of, covered, next_of, Acknowledged};
     ghost use Rattle.gx_phases.specs.Moves.{RestoredOne, TakesUp, may_lose, answered_state, written_state};
     ghost use Rattle.gx_phases.specs.Moves.{sealed_state, ended_state, synced_state, failed_state};
     ghost use Rattle.gx_phases.specs.Asked.{Begun, IsAsked, asked_event, begins, is_full};
 
-    /// Makes sessions without a transaction. The last commit has the number `latest`, commits are durable up to
-    /// `durable`, and the next transaction gets the number `next`. It allocates all places for claims, notes and
-    /// predicates.
+    /// Makes sessions without a transaction. The last commit's number is `latest`, commits are durable up to `durable`,
+    /// and the next transaction gets the number `next`. It allocates all places for claims, notes and predicates.
     pub fn new(alloc: Global, latest: u64, durable: u64, next: u64) -> Result<Self, AllocError>
         requires sealed { durable ≤ latest }
         ensures { IfOk result (λ sessions. sessions ≡ fresh_state W latest durable next) }
@@ -222,8 +223,7 @@ impl<B: Shape, W: Drop> Sessions<B, W> {
         self.table.notes(session)
     }
 
-    /// Gives an open call or an undo this work, and returns the work that it had. A session with neither returns this
-    /// work.
+    /// Gives an open call or an undo this work, and returns what it had. A session with neither returns this work.
     pub fn replace_work(&mut self, session: u8, work: W) -> W
         requires { is_session session ≡ true }
         ensures given { result ≡ (with_work work (phase_at (session - 1) self.old.phases)).0 }
@@ -231,6 +231,17 @@ impl<B: Shape, W: Drop> Sessions<B, W> {
             (with_work work (phase_at (session - 1) self.old.phases)).1 self.old }
     {
         steps::replace_work(&mut self.phases, session, work)
+    }
+
+    /// Lends the work of a session's open call or undo, where it is kept.
+    pub fn work_mut(&mut self, session: u8) -> &mut W
+        requires session { is_session session ≡ true }
+        requires works { has_work (phase_at (session - 1) self.old.phases) ≡ true }
+        ensures* writes_back { sem 𝓛 (lends_work_of B.row W.row B.Shape session self.entry result) }
+        ensures work { result.now ≡ (with_work result.now (phase_at (session - 1) self.old.phases)).0 }
+    {
+        let phase = &mut self.phases[asks::place_of(session)];
+        phase.work_mut()
     }
 
     /// Closes a session's open call, which gets its reply. Its locks stay.

@@ -10,6 +10,8 @@ pub enum Damage {
     Short,
     /// The first sector doesn't begin with the magic.
     Magic,
+    /// It begins with the magic of version 1.
+    OldMagic,
     /// Pages, entries in a node or the class are out of range, or the class isn't the one asked for.
     Parameters,
     /// The first gate of the selected extent is closed.

@@ -10,8 +10,11 @@ use crate::tree::test_tree;
 use crate::{Damage, Entry};
 use std::alloc::Global;
 
-/// The sectors of the least device.
+/// The sectors of the least device of any version.
 const LEAST: usize = 4232;
+
+/// The sectors ahead of the pages.
+const AHEAD: usize = 16_648;
 
 /// What the second sector says.
 #[derive(Clone, Copy)]
@@ -52,7 +55,10 @@ fn wrong_head(image: &[u8], parameters: Option<Parameters>, class: u16) -> Optio
     if image.len() < sector(LEAST) {
         return Some(rules::SHORT);
     }
-    if span(image, 0, 8) != Some(b"GISTRT01".as_slice()) {
+    if span(image, 0, 8) == Some(b"GISTRT01".as_slice()) {
+        return Some(rules::OLD_MAGIC);
+    }
+    if span(image, 0, 8) != Some(b"GISTRT02".as_slice()) {
         return Some(rules::MAGIC);
     }
     let Some(
@@ -68,7 +74,7 @@ fn wrong_head(image: &[u8], parameters: Option<Parameters>, class: u16) -> Optio
     if pages < 8 || pages > 65_536 || most < 4 || most > 100 || found != class {
         return Some(rules::PARAMETERS);
     }
-    if image.len() < sector(pages as usize * 8 + 4168) {
+    if image.len() < sector(pages as usize * 8 + AHEAD) {
         return Some(rules::SHORT);
     }
     None
@@ -77,7 +83,7 @@ fn wrong_head(image: &[u8], parameters: Option<Parameters>, class: u16) -> Optio
 /// The log of the selected extent.
 fn log_of(alloc: Global, image: &[u8], parameters: Parameters) -> Result<Log, Damage> {
     let (extent, first) = match image.get(1024) {
-        Some(0x5A) => ("B", 2088),
+        Some(0x5A) => ("B", 8328),
         _ => ("A", 8),
     };
     let mut log = Log::new(alloc, parameters, extent);
@@ -89,7 +95,7 @@ fn log_of(alloc: Global, image: &[u8], parameters: Parameters) -> Result<Log, Da
 fn node_at(alloc: Global, image: &[u8], log: &Log, number: u32) -> Result<Node, Damage> {
     let at = log
         .place(number)
-        .unwrap_or(sector(number as usize * 8 + 4160));
+        .unwrap_or(sector(number as usize * 8 + AHEAD - 8));
     let page = page_at(image, at)?;
     if own_number(page)? != number {
         return Err(Damage::OwnNumber);

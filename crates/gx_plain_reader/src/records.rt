@@ -321,6 +321,9 @@ fn take_body(alloc: Global, log: &mut Log, image: &[u8], at: usize) -> Result<()
     Ok(())
 }
 
+/// How many places an extent has: so many gates, of a sector each, and behind them as many bodies, of 64 each.
+const PLACES: usize = 128;
+
 /// The records behind the leading open gates of an extent that begins at this sector, up to one that may not be there.
 pub(crate) fn take_extent(
     alloc: Global,
@@ -328,13 +331,13 @@ pub(crate) fn take_extent(
     image: &[u8],
     first: usize,
 ) -> Result<(), Damage> {
-    for place in 0..32_usize {
+    for place in 0..PLACES {
         log.body = place;
         let gate = sector(first.saturating_add(place));
         if image.get(gate).copied() != Some(0xA7) {
             return log.test(place > 0, rules::FIRST_GATE);
         }
-        let body = sector(first.saturating_add(32 + 64 * place));
+        let body = sector(first.saturating_add(PLACES + 64 * place));
         take_body(alloc, log, image, body)?;
         if !log.found.is_none() {
             break;

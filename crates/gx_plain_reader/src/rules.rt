@@ -8,6 +8,8 @@ pub(crate) struct Rule(pub(crate) Damage, pub(crate) &'static str);
 // Of the sectors ahead of the log, of which no sentence is printed.
 pub(crate) const MAGIC: Rule = Rule(Damage::Magic, "");
 
+pub(crate) const OLD_MAGIC: Rule = Rule(Damage::OldMagic, "");
+
 pub(crate) const PARAMETERS: Rule = Rule(Damage::Parameters, "");
 
 pub(crate) const SHORT: Rule = Rule(Damage::Short, "");

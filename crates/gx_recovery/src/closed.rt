@@ -9,8 +9,8 @@ use std::alloc::{AllocError, Global};
 use std::marker::Model;
 
 /// How many commits and ends an extent may hold:
-/// each is 9 bytes at least, of 32 bodies with 32,764 bytes of records each.
-pub const CLOSINGS: usize = 116_494;
+/// each is 9 bytes at least, of 128 bodies with 32,764 bytes of records each.
+pub const CLOSINGS: usize = 465_976;
 
 /// The numbers of closed transactions, rising, with room for all that an extent may close.
 #[derive(Drop)]

@@ -4,6 +4,7 @@ use Rattle.std.specs.Prelude.{if◌then◌else◌, IfErr, IfOk, Result, Ok, Err}
 use Rattle.std.proofs.Math.Path.{fun_ext}
 use Rattle.std.proofs.lemmas.List.{drop-drop, drop-take, take-take}
 use Rattle.gx_disk.specs.declared.layout.TheConstants.{MIN_SECTORS, PAGES_AT}
+use Rattle.gx_glog.specs.declared.extent.TheConstants.{PLACES}
 use Rattle.gx_geom.specs.declared.refusal.Refusal.{Refusal}
 use Rattle.gx_geom.specs.declared.refusal.Refusal.TheVariants as refusal
 use Rattle.gx_disk.specs.Device.{Device}
@@ -68,14 +69,14 @@ module _ (n : ℕ) (xs ys : List ℕ) (enough : PAGES_AT ≤ n) (same : ReadAlik
   pub selected_alike : selected_of xs ≡ selected_of ys
   selected_alike = selector_same xs ys (same 2 (omega (arith, enough)))
 
-  gates_alike : (x : Extent) (k : ℕ) → k < 32 → is_open xs x k ≡ is_open ys x k
+  gates_alike : (x : Extent) (k : ℕ) → k < PLACES → is_open xs x k ≡ is_open ys x k
   gates_alike x k less = gate_same x k xs ys (same _ (let at = placed x in omega (arith, enough, less, at.bodies, at.to)))
 
-  bodies_alike : (x : Extent) (k : ℕ) → k < 32 → body_of xs x k ≡ body_of ys x k
+  bodies_alike : (x : Extent) (k : ℕ) → k < PLACES → body_of xs x k ≡ body_of ys x k
   bodies_alike x k less =
       body_same x k xs ys (λ s within. same s (let at = placed x in let below = within.below in omega (arith, enough, less, at.to, below)))
 
-  run_alike : (x : Extent) (places k : ℕ) → k + places ≤ 32 → open_run xs x k places ≡ open_run ys x k places
+  run_alike : (x : Extent) (places k : ℕ) → k + places ≤ PLACES → open_run xs x k places ≡ open_run ys x k places
   unfolding open_run
   run_alike x zero k fits = refl
   run_alike x (suc places) k fits =
@@ -83,7 +84,7 @@ module _ (n : ℕ) (xs ys : List ℕ) (enough : PAGES_AT ≤ n) (same : ReadAlik
       ∙ ap (λ m. if is_open ys x k then suc m else 0) (run_alike x places (k + 1) (omega (arith, fits)))
 
   pub opened_alike : opened xs ≡ opened ys
-  opened_alike = ap (λ x. open_run xs x 0 32) selected_alike ∙ run_alike (selected_of ys) 32 0 (omega arith)
+  opened_alike = ap (λ x. open_run xs x 0 PLACES) selected_alike ∙ run_alike (selected_of ys) PLACES 0 (omega arith)
 
   few_by : (bytes : List ℕ) (x : Extent) (places k : ℕ) → open_run bytes x k places ≤ places
   unfolding open_run
@@ -95,12 +96,12 @@ module _ (n : ℕ) (xs ys : List ℕ) (enough : PAGES_AT ≤ n) (same : ReadAlik
   -- each body of the log, and all of them
   pub log_body : (j : ℕ) → j < opened ys → body_of xs (selected_of xs) j ≡ body_of ys (selected_of ys) j
   log_body j less =
-      let few = few_by ys (selected_of ys) 32 0 in
+      let few = few_by ys (selected_of ys) PLACES 0 in
       ap (λ x. body_of xs x j) selected_alike ∙ bodies_alike (selected_of ys) j (omega (arith, few, less))
 
   pub log_bodies : bodies_in xs (selected_of xs) (opened xs) ≡ bodies_in ys (selected_of ys) (opened ys)
   log_bodies =
-      let few = few_by ys (selected_of ys) 32 0 in
+      let few = few_by ys (selected_of ys) PLACES 0 in
       ap (λ x. bodies_in xs x (opened xs)) selected_alike ∙ ap (λ m. bodies_in xs (selected_of ys) m) opened_alike
       ∙ bodies_same (selected_of ys) (opened ys) xs ys (λ j less. bodies_alike (selected_of ys) j (omega (arith, few, less)))
 
@@ -208,7 +209,8 @@ module _ {B : Type 0} (shape : Members B) (is_key : B → Bool) (said : List ℕ
   too_small p (inr some) less = absurd (omega (arith, some, less))
 
   settles_there : (why : Refusal) → MaySettle class e.sectors e.seen (Err why) → MaySettle class d.sectors d.seen (Err why)
-  settles_there refusal.NotFormatted never = λ magic. never (magic_there ∙ magic)
+  settles_there refusal.OldVersion old = sym magic_there ∙ old
+  settles_there refusal.NotFormatted never = (λ magic. never.0 (magic_there ∙ magic), λ old. never.1 (magic_there ∙ old))
   settles_there refusal.BadParameter is = (sym magic_there ∙ is.0, (is.1.0, (says_there is.1.0 is.1.1.0, is.1.1.1)))
   settles_there refusal.TooSmall is =
       let p = is.1.0 in
@@ -299,6 +301,7 @@ module _ {B D : Type 0} (shape : Members B) (is_key : B → Bool) (said : List �
   caused_so why (inr (inr damaged)) damage = subst (λ x. Unverified (refusal_of_copy x)) (sym damaged) (inr (inl (refl, damage damaged)))
 
   settles_so : (why : Refusal) → MaySettle class d.sectors d.seen (Err why) → Unverified (refusal_of_copy why)
+  settles_so refusal.OldVersion is = inl is
   settles_so refusal.NotFormatted is = inl is
   settles_so refusal.BadParameter is = inl is
   settles_so refusal.TooSmall is = inl is

@@ -2,7 +2,7 @@
 use Rattle.std.proofs.Common.{◌≡◌, ◌⊎◌, inl, inr, ℕ, zero, suc, ◌<◌, ◌≤◌, Bool, List, [], ◌∷◌, length, map, replicate, refl, ap, sym, ◌∙◌, subst, arith}
 use Rattle.std.specs.Prelude.{IfErr, IfOk, MatchResult, Result, Ok, Err}
 use Rattle.std.specs.List.{slice_index_or}
-use Rattle.gx_disk.specs.declared.layout.TheConstants.{MIN_SECTORS}
+use Rattle.gx_disk.specs.declared.layout.TheConstants.{LEAST_SECTORS}
 use Rattle.gx_geom.specs.declared.refusal.Refusal.{Refusal}
 use Rattle.gx_geom.specs.declared.refusal.Refusal.TheVariants as refusal
 use Rattle.gx_class.specs.declared.class.KeyClass.{Ghosts}
@@ -195,13 +195,13 @@ tested_refused shape proper said class state number old new why (inr (inl unlaid
 tested_refused shape proper said class state number old new why (inr (inr (inl unsound))) = inr (inr (inl unsound))
 tested_refused shape proper said class state number old new why (inr (inr (inr room))) = inr (inr (inr (inr room)))
 
--- what was found, and that the device has the sectors of the smallest index
+-- what was found, and that the device has `LEAST_SECTORS` sectors
 module _ {B : Type 0} (shape : Members B) (proper : B → Bool) (said : List ℕ → B) (f : Format B) (number : ℕ) (d m : Device) (result : Result (Standing B) Refusal) (s : Standing B)
     (is : result ≡ Ok s) where
   pub stands_of : (unmoved : Type 0) → IsTested shape proper said f number unmoved d m result → Stands shape proper said f number d m s
   stands_of unmoved tested = subst (λ (x : Result (Standing B) Refusal). IsTested shape proper said f number unmoved d m x) is tested
 
-  pub enough_of : IfOk result (λ x. IsAllowed number x.parameters × IsLarge d.sectors x.parameters) → MIN_SECTORS ≤ d.sectors
+  pub enough_of : IfOk result (λ x. IsAllowed number x.parameters × IsLarge d.sectors x.parameters) → LEAST_SECTORS ≤ d.sectors
   enough_of allowed =
       let there = subst (λ (x : Result (Standing B) Refusal). IfOk x (λ y. IsAllowed number y.parameters × IsLarge d.sectors y.parameters)) is allowed in
       let least = there.0.range.least_pages in

@@ -483,6 +483,7 @@ module _ {B D : Type 0} (state : D → Device) (old new : Parts B D) where
   refused_told refusal.TooSmall told = told
   refused_told refusal.BadParameter told = told
   refused_told refusal.HistoryFull told = told
+  refused_told refusal.OldVersion told = told
   refused_told refusal.Memory told = told
   refused_told (refusal.Busy s) told = told
 

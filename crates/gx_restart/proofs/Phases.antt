@@ -1,6 +1,7 @@
 -- What an event of an opening leaves of the sessions and of the device.
 use Rattle.std.proofs.Common.{◌≡◌, inl, inr, ℕ, zero, suc, ◌+◌, ◌-◌, ◌<◌, ◌≤◌, Bool, true, false, ◌||◌, Option, None, Some, List, [], ◌∷◌, refl, ap, sym, ◌∙◌, subst, arith}
 use Rattle.std.specs.Prelude.{nat_le, Result, Ok, Err, slice_set}
+use Rattle.gx_index_laws.specs.declared.TheConstants.{CHECKPOINT_AT}
 use Rattle.gx_geom.specs.declared.refusal.Refusal.{Refusal}
 use Rattle.gx_geom.specs.declared.refusal.Refusal.TheVariants as refusal
 use Rattle.gx_machine.specs.declared.entry.Entry.{Entry}
@@ -191,7 +192,7 @@ module _ {B D : Type 0} (state : D → Device) where
   off_device old new true given comes = runs_device (record old { checkpoint = Running }) new given comes
 
   from_device : (old new : Parts B D) (was : Checkpoint) (given : Outcome B) → StepsFrom (at old) (at new) old new was given → HasGoneOn (at old) (at new)
-  from_device old new Off given comes = off_device old new (nat_le 24 old.volume.log.used) given comes
+  from_device old new Off given comes = off_device old new (nat_le CHECKPOINT_AT old.volume.log.used) given comes
   from_device old new Running given comes = runs_device old new given comes
   from_device old new Turning given comes = counted 1 (at old) (at new) comes.result comes.counts
 
@@ -271,7 +272,7 @@ module _ {B D : Type 0} (state : D → Device) where
   off_end old new true given comes = runs_end (record old { checkpoint = Running }) new given comes
 
   from_end : (old new : Parts B D) (was : Checkpoint) (given : Outcome B) → StepsFrom (at old) (at new) old new was given → FlushEnds old new given
-  from_end old new Off given comes = off_end old new (nat_le 24 old.volume.log.used) given comes
+  from_end old new Off given comes = off_end old new (nat_le CHECKPOINT_AT old.volume.log.used) given comes
   from_end old new Running given comes = runs_end old new given comes
   from_end old new Turning given comes = turn_ends old new given comes.result comes.counts comes.comes
 
@@ -368,7 +369,7 @@ module _ {B D : Type 0} (state : D → Device) where
         subst (λ (o : Outcome B). Moves s old new o) (sym comes.0)
         (stays_same old new undoes comes.1, (ap (λ (x : Parts B D). x.sessions.failed) comes.1, busy_same (s - 1) old new (ap (λ (x : Parts B D). x.sessions.phases) comes.1)))
     undo_by false None s old new given is works undoes busy comes =
-        end_moves s old new given undoes (record { off = off_by old.checkpoint (nat_le 24 old.volume.log.used) is; works = works }) comes
+        end_moves s old new given undoes (record { off = off_by old.checkpoint (nat_le CHECKPOINT_AT old.volume.log.used) is; works = works }) comes
     undo_by false (Some restored) s old new given is works undoes busy comes =
         restore_moves s restored comes.0 (next_leaf s old.sessions comes.0) old new given undoes busy comes.2
 

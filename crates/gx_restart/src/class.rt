@@ -2,7 +2,7 @@
 ghost use Rattle.std.specs.Prelude.{◌↔◌, IsTrue};
 ghost use Rattle.gx_restart.specs.Class.{IsClass, ReadsClass};
 
-use gx_disk::{MIN_SECTORS, SectorDisk};
+use gx_disk::{LEAST_SECTORS, SectorDisk};
 use gx_geom::Refusal;
 use gx_opening::told_parameters;
 
@@ -19,13 +19,13 @@ fn is_class(number: u16) -> bool
 /// Reads the class of keys that a device is formatted for: 1, boxes of the plane; 2, intervals; 3, boxes of space. It
 /// tests nothing else of the index, and makes no write and no sync.
 ///
-/// Refused for the first of these that holds: the device has fewer sectors than the smallest index takes (`TooSmall`;
-/// no call is made before this test), a read fails (`Device`, and only then), the magic is missing (`NotFormatted`),
-/// the class is none of these (`BadParameter`).
+/// Refused for the first of these that holds: the device has fewer than 4,232 sectors (`TooSmall`; no call is made
+/// before this test), a read fails (`Device`, and only then), the magic is that of version 1 (`OldVersion`) or missing
+/// (`NotFormatted`), the class is none of these (`BadParameter`).
 pub fn class_of<D: SectorDisk>(disk: &mut D) -> Result<u16, Refusal>
     ensures { ReadsClass D.state disk.old disk.new result }
 {
-    if disk.sectors() < MIN_SECTORS {
+    if disk.sectors() < LEAST_SECTORS {
         return Err(Refusal::TooSmall);
     }
     let parameters = told_parameters(disk)?;

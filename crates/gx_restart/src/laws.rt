@@ -95,8 +95,8 @@ pub fn a_settled_index_is_durable<D: SectorDisk, K: ReadKeys>()
 {}
 
 /// The limits of an index as numbers: a pool has 4,096 frames at most, and a checkpoint begins once the selected extent
-/// has 24 batches.
+/// has 96 batches.
 pub fn limits()
     ensures frames { FRAMES ≡ 4096 }
-    ensures checkpoint { CHECKPOINT_AT ≡ 24 }
+    ensures checkpoint { CHECKPOINT_AT ≡ 96 }
 {}

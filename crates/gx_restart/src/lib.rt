@@ -3,6 +3,7 @@
 #![tactic(auto)]
 
 mod class;
+mod drain;
 mod dump;
 mod fault;
 mod index;

@@ -1,6 +1,6 @@
 //! Opens a device: finds its index, starts an engine over it, and undoes the transactions that a crash cut off.
 ghost use Rattle.std.specs.Prelude.{◌≡◌, ◌≤◌, ◌<◌, ◌+◌, ◌*◌, ℕ, List, false, true, Err, IfErr, IfOk, MatchResult};
-ghost use Rattle.gx_disk.specs.declared.layout.TheConstants.{MIN_SECTORS, PAGES_AT, PAGE_SECTORS};
+ghost use Rattle.gx_disk.specs.declared.layout.TheConstants.{LEAST_SECTORS, PAGES_AT, PAGE_SECTORS};
 ghost use Rattle.gx_engine.specs.Made.{Makes};
 ghost use Rattle.gx_glog.specs.declared.parameters.Parameters.{Parameters};
 ghost use Rattle.gx_opening.specs.Formatted.{IsAllowed};
@@ -99,7 +99,7 @@ fn open_with<D: SectorDisk, K: ReadKeys + Probing>(
     frames: usize,
 ) -> Result<Engine<D, K>, NotOpened<D>>
     requires frames { (16 ≤ frames) × (frames ≤ 4096) }
-    ensures small { (D.state disk).sectors < MIN_SECTORS
+    ensures small { (D.state disk).sectors < LEAST_SECTORS
         → result ≡ Err (record { why = Refusal.TooSmall; disk = disk }) }
     ensures device { MatchResult result (λ engine. IsSameDevice (D.state disk) (D.state engine.volume.shelf.disk))
         (λ n. IsSameDevice (D.state disk) (D.state n.disk)) }
@@ -110,10 +110,10 @@ fn open_with<D: SectorDisk, K: ReadKeys + Probing>(
         (λ engine. OpensSafelyAs K.Key.Shape K.ReadKeys (D.state disk) (D.state engine.volume.shelf.disk))
         (λ n. OpensSafelyAs K.Key.Shape K.ReadKeys (D.state disk) (D.state n.disk)) }
     ensures order { OpensInOrder K.Key.Shape K.ReadKeys D.state disk result }
-    ensures opened { (D.state disk).honest ≡ true → MIN_SECTORS ≤ (D.state disk).sectors
+    ensures opened { (D.state disk).honest ≡ true → LEAST_SECTORS ≤ (D.state disk).sectors
         → IfOk result (λ engine. IsOpenedAs K.Key.Shape K.ReadKeys (D.state disk)
         (D.state engine.volume.shelf.disk) engine) }
-    ensures refused { (D.state disk).honest ≡ true → MIN_SECTORS ≤ (D.state disk).sectors
+    ensures refused { (D.state disk).honest ≡ true → LEAST_SECTORS ≤ (D.state disk).sectors
         → IfErr result (λ n. IsRefusedAs K.Key.Shape K.ReadKeys D.state disk n.disk n.why) }
     ensures damaged { (D.state disk).honest ≡ true
         → IfErr result (λ n. LeftDamaged K.Key.Shape K.ReadKeys (D.state n.disk) n.why) }
@@ -133,19 +133,20 @@ fn open_with<D: SectorDisk, K: ReadKeys + Probing>(
 /// stacks and results of searches.
 ///
 /// Refused, with the device as the calls left it, for the first of these that holds: there are fewer frames than 16 or
-/// more than 4,096 (`BadParameter`), the device has fewer sectors than the smallest index takes (`TooSmall`; no call is
-/// made before these two tests), the magic is missing (`NotFormatted`), the numbers are out of range or of another
-/// class (`BadParameter`), the device has fewer sectors than that index takes (`TooSmall`), its log is damaged, or its
-/// pages can't be read, aren't a legal tree, or don't have what open transactions touched in its place (`Damaged`);
-/// also if a call fails (`Device`, and only then), or memory is refused (`Memory`). If one transaction's undo doesn't
-/// end within 2^56 events, as can happen on a device that isn't honest, the opening is given up with `Damaged`.
+/// more than 4,096 (`BadParameter`), the device has fewer than 4,232 sectors (`TooSmall`; no call is made before these
+/// two tests), the magic is that of version 1 (`OldVersion`) or missing (`NotFormatted`), the numbers are out of range
+/// or of another class (`BadParameter`), the device has fewer sectors than that index takes (`TooSmall`), its log is
+/// damaged, or its pages can't be read, aren't a legal tree, or don't have what open transactions touched in its place
+/// (`Damaged`); also if a call fails (`Device`, and only then), or memory is refused (`Memory`). If one transaction's
+/// undo doesn't end within 2^56 events, as can happen on a device that isn't honest, the opening is given up with
+/// `Damaged`.
 ///
 /// On an honest device, at each moment, also if the opening is refused, a crash may leave what it could leave at the
 /// start, or an image with the log that was found and after it the same pages; if these are good for the log, that
 /// image stands for the set that the log keeps, under its number. The engine then holds an index with that one set. A
-/// sync comes before the first write. If the opening is refused with `NotFormatted`, `BadParameter` or `TooSmall`,
-/// nothing is written. If it is refused with `Damaged`, only pages that the log gives are written, and no other sector:
-/// the device stays damaged, so that `gx_opening::examine` finds the damage.
+/// sync comes before the first write. If the opening is refused with `OldVersion`, `NotFormatted`, `BadParameter` or
+/// `TooSmall`, nothing is written. If it is refused with `Damaged`, only pages that the log gives are written, and no
+/// other sector: the device stays damaged, so that `gx_opening::examine` finds the damage.
 pub fn open<D: SectorDisk, K: ReadKeys + Probing>(
     alloc: Global,
     disk: D,
@@ -153,7 +154,7 @@ pub fn open<D: SectorDisk, K: ReadKeys + Probing>(
 ) -> Result<Engine<D, K>, NotOpened<D>>
     ensures frames { ((16 ≤ frames) × (frames ≤ 4096) → ⊥)
         → result ≡ Err (record { why = Refusal.BadParameter; disk = disk }) }
-    ensures small { 16 ≤ frames → frames ≤ 4096 → (D.state disk).sectors < MIN_SECTORS
+    ensures small { 16 ≤ frames → frames ≤ 4096 → (D.state disk).sectors < LEAST_SECTORS
         → result ≡ Err (record { why = Refusal.TooSmall; disk = disk }) }
     ensures device { MatchResult result (λ engine. IsSameDevice (D.state disk) (D.state engine.volume.shelf.disk))
         (λ n. IsSameDevice (D.state disk) (D.state n.disk)) }
@@ -170,7 +171,8 @@ pub fn open<D: SectorDisk, K: ReadKeys + Probing>(
     ensures opened { (D.state disk).honest ≡ true
         → IfOk result (λ engine. IsOpenedAs K.Key.Shape K.ReadKeys (D.state disk)
         (D.state engine.volume.shelf.disk) engine) }
-    ensures refused { (D.state disk).honest ≡ true → 16 ≤ frames → frames ≤ 4096 → MIN_SECTORS ≤ (D.state disk).sectors
+    ensures refused { (D.state disk).honest ≡ true → 16 ≤ frames → frames ≤ 4096
+        → LEAST_SECTORS ≤ (D.state disk).sectors
         → IfErr result (λ n. IsRefusedAs K.Key.Shape K.ReadKeys D.state disk n.disk n.why) }
     ensures damaged { (D.state disk).honest ≡ true
         → IfErr result (λ n. LeftDamaged K.Key.Shape K.ReadKeys (D.state n.disk) n.why) }

@@ -18,7 +18,7 @@ use crate::opening::{LEAST_FRAMES, MOST_FRAMES};
 use copy::copied;
 use entries::count_entries;
 use gx_class::{Probing, ReadKeys};
-use gx_disk::{MIN_SECTORS, MemDisk, SectorDisk};
+use gx_disk::{LEAST_SECTORS, MIN_SECTORS, MemDisk, SectorDisk};
 use gx_engine::laws::a_class_is_lawful;
 use gx_engine::{Engine, NotOpened};
 use gx_geom::Refusal;
@@ -121,7 +121,7 @@ pub fn verify_or_copy<D: SectorDisk, K: ReadKeys + Probing>(
 ) -> Result<Report, NotVerified>
     ensures frames { ((16 ≤ frames) × (frames ≤ 4096) → ⊥)
         → (why_of result ≡ Err Refusal.BadParameter) × (disk.new ≡ disk.old) }
-    ensures small { 16 ≤ frames → frames ≤ 4096 → (D.state disk.old).sectors < MIN_SECTORS
+    ensures small { 16 ≤ frames → frames ≤ 4096 → (D.state disk.old).sectors < LEAST_SECTORS
         → (why_of result ≡ Err Refusal.TooSmall) × (disk.new ≡ disk.old) }
     ensures counted { Counted 0 (D.state disk.old) (D.state disk.new) (why_of result) }
     ensures looks { (D.state disk.old).honest ≡ true → Looks (D.state disk.old) (D.state disk.new) }
@@ -129,7 +129,7 @@ pub fn verify_or_copy<D: SectorDisk, K: ReadKeys + Probing>(
         → IfOk (why_of result)
         (IsVerifiedAs K.Key.Shape K.ReadKeys (D.state disk.old)) }
     ensures refused { (D.state disk.old).honest ≡ true → 16 ≤ frames → frames ≤ 4096
-        → MIN_SECTORS ≤ (D.state disk.old).sectors
+        → LEAST_SECTORS ≤ (D.state disk.old).sectors
         → IfErr (why_of result)
         (IsUnverifiedAs K.Key.Shape K.ReadKeys (D.state disk.old)) }
     ensures damaged { (D.state disk.old).honest ≡ true → IfErr result (λ n. n.why ≡ Refusal.Damaged → IfSome n.copy
@@ -144,7 +144,7 @@ pub fn verify_or_copy<D: SectorDisk, K: ReadKeys + Probing>(
             copy: None,
         });
     }
-    if disk.sectors() < MIN_SECTORS {
+    if disk.sectors() < LEAST_SECTORS {
         return Err(NotVerified {
             why: Refusal::TooSmall,
             copy: None,
@@ -164,16 +164,16 @@ pub fn verify_or_copy<D: SectorDisk, K: ReadKeys + Probing>(
 
 /// Verifies a device: returns the refusal that its opening with so many frames would meet, or what it would hold: the
 /// number of the last commit, how many entries that commit's set has, and the greatest page in use. It doesn't count
-/// what open transactions wrote. It opens a copy in memory of the sectors of the index, 528,456 at most, so it makes no
+/// what open transactions wrote. It opens a copy in memory of the sectors of the index, 540,936 at most, so it makes no
 /// write and no sync of the device.
 ///
 /// Refused for the first of these that holds: there are fewer frames than 16 or more than 4,096 (`BadParameter`), the
-/// device has fewer sectors than the smallest index takes (`TooSmall`; no call is made before these two tests), the
-/// magic is missing (`NotFormatted`), the numbers are out of range or of another class (`BadParameter`), the device has
-/// fewer sectors than that index takes (`TooSmall`), its log is damaged, or its pages can't be read, aren't a legal
-/// tree, or don't have what open transactions touched in its place (`Damaged`). `Device` if a read fails, and only
-/// then. `Memory` if there is none for the copy or for its opening, which only a device that is formatted for an index
-/// of the class may meet.
+/// device has fewer than 4,232 sectors (`TooSmall`; no call is made before these two tests), the magic is
+/// that of version 1 (`OldVersion`) or missing (`NotFormatted`), the numbers are out of range or of another class
+/// (`BadParameter`), the device has fewer sectors than that index takes (`TooSmall`), its log is damaged, or its pages
+/// can't be read, aren't a legal tree, or don't have what open transactions touched in its place (`Damaged`). `Device`
+/// if a read fails, and only then. `Memory` if there is none for the copy or for its opening, which only a device that
+/// is formatted for an index of the class may meet.
 pub fn verify<D: SectorDisk, K: ReadKeys + Probing>(
     alloc: Global,
     disk: &mut D,
@@ -181,14 +181,14 @@ pub fn verify<D: SectorDisk, K: ReadKeys + Probing>(
 ) -> Result<Report, Refusal>
     ensures frames { ((16 ≤ frames) × (frames ≤ 4096) → ⊥)
         → (result ≡ Err Refusal.BadParameter) × (disk.new ≡ disk.old) }
-    ensures small { 16 ≤ frames → frames ≤ 4096 → (D.state disk.old).sectors < MIN_SECTORS
+    ensures small { 16 ≤ frames → frames ≤ 4096 → (D.state disk.old).sectors < LEAST_SECTORS
         → (result ≡ Err Refusal.TooSmall) × (disk.new ≡ disk.old) }
     ensures counted { Counted 0 (D.state disk.old) (D.state disk.new) result }
     ensures looks { (D.state disk.old).honest ≡ true → Looks (D.state disk.old) (D.state disk.new) }
     ensures verified { (D.state disk.old).honest ≡ true
         → IfOk result (IsVerifiedAs K.Key.Shape K.ReadKeys (D.state disk.old)) }
     ensures refused { (D.state disk.old).honest ≡ true → 16 ≤ frames → frames ≤ 4096
-        → MIN_SECTORS ≤ (D.state disk.old).sectors
+        → LEAST_SECTORS ≤ (D.state disk.old).sectors
         → IfErr result (IsUnverifiedAs K.Key.Shape K.ReadKeys (D.state disk.old)) }
 {
     match verify_or_copy::<D, K>(alloc, disk, frames) {

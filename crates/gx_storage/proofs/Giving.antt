@@ -20,12 +20,11 @@ use Rattle.gx_recovery.specs.Logged.{Logged, all_records}
 use Rattle.gx_recovery.proofs.Folds.{analysis-snoc}
 use Rattle.gx_recovery.proofs.Tests.{true_or_false, clash, or_none_first, or_none_second}
 use Rattle.gx_index_laws.specs.Classes.{Page}
-use Rattle.gx_glog.specs.State.{Log}
 use Rattle.gx_durable.specs.Spelled.{Reading, images_read, record_read}
 use Rattle.gx_durable.specs.Stored.{images_of, stored}
 use Rattle.gx_durable.specs.Classes.{reading_of}
 use Rattle.gx_store.specs.Since.{GoesOn, IsAsItWas}
-use Rattle.gx_store.specs.State.{Shelf, IsHeld}
+use Rattle.gx_store.specs.State.{Shelf}
 use Rattle.gx_node.specs.Store.{Store}
 use Rattle.gx_tree.specs.Descending.{StepsDown, WayAt, is_widened}
 use Rattle.gx_tree.specs.declared.descent.Way.{Way}
@@ -36,11 +35,12 @@ use Rattle.gx_node.specs.Reach.{TraversalItem}
 use Rattle.gx_store.specs.Standing.{standing, store_of}
 use Rattle.gx_store.proofs.Changing.{there}
 use Rattle.gx_store.proofs.Shown.{stands_kept}
-use Rattle.gx_storage.specs.Changes.{IsLast, IsLogged, begun, has_room, page_given}
+use Rattle.gx_storage.specs.Changes.{IsLogged, begun, has_room, page_given}
 use Rattle.gx_storage.specs.Changing.{HasToWiden, unwidened}
-use Rattle.gx_storage.specs.Imaged.{all_imaged, with_imaged}
+use Rattle.gx_storage.specs.Giving.{IsGiven}
+use Rattle.gx_storage.specs.Journal.{IsLast}
 use Rattle.gx_storage.specs.Keeps.{Keeps, StaysWith}
-use Rattle.gx_storage.specs.State.{Volume}
+use Rattle.gx_storage.specs.State.{Journal, Volume, journal_of, volume}
 use Rattle.gx_storage.proofs.Imaging.{given_last}
 use Rattle.gx_storage.proofs.Recording.{AreNodes, stays_with, stored_kept}
 use Rattle.gx_storage.proofs.Writing.{Stepped}
@@ -101,13 +101,13 @@ module _ {B D : Type 0} (k : Known (Entry B) (Page B)) (said : List ℕ → B) (
     (l : IsLawful k) (keeps : Keeps k (reading_of said f) f passes d v bodies s) (on : GoesOn passes d e (record v.shelf { batch = batch; has_room = room }) t)
     (least : batch ≡ v.log.used) (right : AreNodes f passes t) where
   -- some pages, which a record gives with the present numbers
-  pub pages_stay_with : (known : Limits → Known (Entry B) (Page B)) (limits : Limits) → known limits ≡ k → (changes : List (ℕ × Contents)) (log : Log) (most : ℕ) (imaged : List Bool) → imaged ≡ all_imaged (images_of changes) v.imaged → AreThere t.frames t.used changes
-      → IsLast known (reading_of said f) (Pages t.counter t.used (images_of changes)) v.log log
+  pub pages_stay_with : (known : Limits → Known (Entry B) (Page B)) (limits : Limits) → known limits ≡ k → (changes : List (ℕ × Contents)) (j : Journal) (most : ℕ) → AreThere t.frames t.used changes
+      → IsLast known (reading_of said f) (Pages t.counter t.used (images_of changes)) (journal_of v) j
       → ((q : ℕ) → list_any (λ i. i.page == q) (images_read (reading_of said f) (images_of changes)) ≡ false → IsAsItWas d e v.shelf.frames t.frames q)
-      → StaysWith k (reading_of said f) f passes d e (record { log = log; shelf = t; most = most; imaged = imaged }) bodies s (record_read (reading_of said f) (Pages t.counter t.used (images_of changes)))
-  pages_stay_with known limits is changes log most imaged bits there last others =
+      → StaysWith k (reading_of said f) f passes d e (volume j t most) bodies s (record_read (reading_of said f) (Pages t.counter t.used (images_of changes)))
+  pages_stay_with known limits is changes j most there last others =
       let on_device : t.used ≤ k.pages = (let fits = right.taken in omega (arith, fits, keeps.pages, on.pages)) in
-      stays_with k said f passes d e v batch room t bodies s l keeps on least right (Pages t.counter t.used (images_of changes)) log most imaged bits
+      stays_with k said f passes d e v batch room t bodies s l keeps on least right (Pages t.counter t.used (images_of changes)) j.log most j.imaged last.imaged
       (rw (← is) (last.up limits)) last.stamped last.placed tt others
       (λ q this. given_last (all_records s) (record_read (reading_of said f) (Pages t.counter t.used (images_of changes))) q this)
       (λ q given. images_stored (reading_of said f) k.pages t.frames e.seen t.used on_device changes q (stored (reading_of said f) k.pages v.shelf.frames d.seen) there (λ none. absurd (clash _ given none)))
@@ -119,24 +119,25 @@ module _ {B D : Type 0} (k : Known (Entry B) (Page B)) (said : List ℕ → B) (
 -- ---- one page with its record
 
 module _ {B D : Type 0} (known : Limits → Known (Entry B) (Page B)) (said : List ℕ → B) (f : Format B) (passes : ℕ → Contents → Bool) (state : D → Device) (v : Volume D) (size : ℕ) (t : Shelf D)
-    (page : ℕ) (log : Log) (imaged : List Bool) (bits : imaged ≡ with_imaged page v.imaged) (did : Stepped passes state v size t page) (held : IsHeld t page) (right : AreNodes f passes t) where
-  there_now : (c : Contents) → c ≡ standing t.frames (state t.disk).seen page → IsWellFormed c → IsThere t.frames t.used (page, c)
-  there_now c is well =
+    (page : ℕ) (j : Journal) (did : Stepped passes state v size t page) (given : IsGiven (state t.disk).seen t page) (right : AreNodes f passes t) where
+  there_now : IsThere t.frames t.used (page, standing t.frames (state t.disk).seen page)
+  there_now =
+      let held = given.held in
       let one = there (kept t.frames page) held.kept in
-      record { j = one.0; is = one.1; same = sym (is ∙ stands_kept t.frames (state t.disk).seen page one.0 held.stays one.1); well = well; low = held.from; high = held.to }
+      record { j = one.0; is = one.1; same = sym (stands_kept t.frames (state t.disk).seen page one.0 held.stays one.1); well = given.well; low = held.from; high = held.to }
 
-  pub logged_page : IsLast known (reading_of said f) (page_given page (state t.disk).seen t) v.log log → IsWellFormed (standing t.frames (state t.disk).seen page)
-      → IsLogged known (reading_of said f) f passes size (state v.shelf.disk) (state t.disk) v (record { log = log; shelf = t; most = v.most; imaged = imaged }) (page_given page (state t.disk).seen t)
-  logged_page last well = record {
+  pub logged_page : IsLast known (reading_of said f) (page_given page (state t.disk).seen t) (journal_of v) j
+      → IsLogged known (reading_of said f) f passes size (state v.shelf.disk) (state t.disk) v (volume j t v.most) (page_given page (state t.disk).seen t)
+  logged_page last = record {
     logs = last.logs;
     keeps = λ l bodies s lawful keeps.
         pages_stay_with (known l) said f passes (state v.shelf.disk) (state t.disk) v v.log.used (has_room v.log size) t bodies s lawful keeps did.goes_on (omega arith) right
-        known l refl ((page, standing t.frames (state t.disk).seen page) ∷ []) log v.most imaged bits (there_now (standing t.frames (state t.disk).seen page) refl well, tt) last
+        known l refl ((page, standing t.frames (state t.disk).seen page) ∷ []) j v.most (there_now, tt) last
         (λ q other. did.others q (or_none_first (page == q) false other));
     goes_on = did.goes_on;
     others = λ q other. did.others q (or_none_first (page == q) false other);
     most = refl;
-    imaged = bits;
+    imaged = last.imaged;
   }
 
 -- what a step of a descent that widened nothing leaves

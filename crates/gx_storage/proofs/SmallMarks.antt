@@ -45,22 +45,23 @@ use Rattle.gx_recovery.specs.Given.{change_fits, given}
 use Rattle.gx_recovery.specs.Logged.{Logged, all_records}
 use Rattle.gx_recovery.proofs.States.{coming_good}
 use Rattle.gx_index_laws.specs.Classes.{Page}
-use Rattle.gx_glog.specs.State.{Log}
 use Rattle.gx_durable.specs.Small.{SetMark}
 use Rattle.gx_durable.specs.Spelled.{record_read}
 use Rattle.gx_durable.specs.Stored.{bytes_by}
 use Rattle.gx_durable.specs.Classes.{change_of, known_at, page_of, reading_of}
-use Rattle.gx_store.specs.Standing.{standing, standing_node, store_of}
-use Rattle.gx_store.specs.State.{IsHeld, IsSteady, Shelf}
+use Rattle.gx_store.specs.Standing.{standing_node, store_of}
+use Rattle.gx_store.specs.State.{IsSteady, Shelf}
 use Rattle.gx_store.proofs.Changing.{there}
 use Rattle.gx_store.proofs.Listed.{nodes_long}
 use Rattle.gx_store.proofs.Shown.{stands_kept}
-use Rattle.gx_storage.specs.Changes.{IsLast, IsLogged, has_room, image_at}
-use Rattle.gx_storage.specs.Imaged.{imaged_with, is_imaged}
+use Rattle.gx_storage.specs.Changes.{IsLogged, has_room, image_at}
+use Rattle.gx_storage.specs.Giving.{IsGiven}
+use Rattle.gx_storage.specs.Imaged.{is_imaged}
+use Rattle.gx_storage.specs.Journal.{IsLast}
 use Rattle.gx_storage.specs.Keeps.{Keeps, tree_after}
 use Rattle.gx_storage.specs.Marks.{IsOfEntry}
 use Rattle.gx_storage.specs.Small.{mark_said}
-use Rattle.gx_storage.specs.State.{Volume}
+use Rattle.gx_storage.specs.State.{Journal, Volume, journal_of, volume}
 use Rattle.gx_storage.proofs.Recording.{AreNodes}
 use Rattle.gx_storage.proofs.Shown.{keeps_shows}
 use Rattle.gx_storage.proofs.SmallFits.{small_fits}
@@ -193,15 +194,14 @@ module _ {B : Type 0} (IsKey : B → Type 0) (spelling : B → List ℕ) (f : Fo
 
 module _ {B D : Type 0} (shape : Members B) (proper : B → Bool) (said : List ℕ → B) (f : Format B) (passes : ℕ → Contents → Bool) (state : D → Device) (v : Volume D) (size : ℕ) (t : Shelf D)
     (IsKey : B → Type 0) (spelling : B → List ℕ) (most : ℕ) (reads : ReadsMarks IsKey spelling f shape most) (was : AreNodes f passes v.shelf) (right : AreNodes f passes t)
-    (page : ℕ) (log : Log) (imaged : List Bool) (did : Stepped passes state v size t page) (held : IsHeld t page) (tx : ℕ) (entry : Entry B) (of_class : IsKey entry.key)
+    (page : ℕ) (j : Journal) (did : Stepped passes state v size t page) (given : IsGiven (state t.disk).seen t page) (tx : ℕ) (entry : Entry B) (of_class : IsKey entry.key)
     (wants : Pair B → Bool) (wanted : IsOfEntry IsKey shape entry wants) (slot : ℕ) (before marked : Bool)
-    (made : IsSteady (state v.shelf.disk) v.shelf.frames → SetsMark wants (store_of f (state v.shelf.disk).seen v.shelf) (store_of f (state t.disk).seen t) page marked (Here slot before))
-    (well : IsWellFormed (standing t.frames (state t.disk).seen page)) where
-  pub logged_mark : is_imaged v.imaged page ≡ true → imaged ≡ v.imaged → t.pages ≡ v.shelf.pages
-      → IsLast (known_at shape proper) (reading_of said f) (Bit tx entry.row (spelling entry.key) before marked page) v.log log
-      → IsLogged (known_at shape proper) (reading_of said f) f passes size (state v.shelf.disk) (state t.disk) v (record { log = log; shelf = t; most = v.most; imaged = imaged })
+    (made : IsSteady (state v.shelf.disk) v.shelf.frames → SetsMark wants (store_of f (state v.shelf.disk).seen v.shelf) (store_of f (state t.disk).seen t) page marked (Here slot before)) where
+  pub logged_mark : is_imaged v.imaged page ≡ true → t.pages ≡ v.shelf.pages
+      → IsLast (known_at shape proper) (reading_of said f) (Bit tx entry.row (spelling entry.key) before marked page) (journal_of v) j
+      → IsLogged (known_at shape proper) (reading_of said f) f passes size (state v.shelf.disk) (state t.disk) v (volume j t v.most)
       (Bit tx entry.row (spelling entry.key) before marked page)
-  logged_mark bit bits pages last = record {
+  logged_mark bit pages last = record {
     logs = last.logs;
     keeps = λ l bodies s lawful keeps.
         (let d = state v.shelf.disk in
@@ -211,9 +211,10 @@ module _ {B D : Type 0} (shape : Members B) (proper : B → Bool) (said : List �
         let x = step.0.1.0 in
         let only = step.1 x step.0.1.1 in
         let used = tree_used f e.seen d.seen v.shelf t only.used in
+        let held = given.held in
         let one = there (kept t.frames page) held.kept in
         let stands = stands_kept t.frames e.seen page one.0 held.stays one.1 in
-        let formed : IsWellFormed one.0.page = subst {A = Contents} IsWellFormed stands well in
+        let formed : IsWellFormed one.0.page = subst {A = Contents} IsWellFormed stands given.well in
         let high : page ≤ v.shelf.used = omega (arith, held.to, used) in
         let a = read_of (bytes_by (kept v.shelf.frames page) (bytes_of d.seen page)) in
         let b = one.0.page in
@@ -237,30 +238,22 @@ module _ {B D : Type 0} (shape : Members B) (proper : B → Bool) (said : List �
         (passed.0 ∙ sym then.number) (sym (leaf_node f b level_new) ∙ sym is_new ∙ all.2) in
         small_stays_with k said f passes d e v v.log.used (has_room v.log size) t bodies s lawful keeps did.goes_on (omega arith) was right
         (Bit tx entry.row (spelling entry.key) before marked page) page (mark_made f entry.row (spelling entry.key) marked) (mark_is_of_page k said f tx entry.row (spelling entry.key) before marked page)
-        held.from high one.0 one.1 formed now log v.most imaged bits bit (last.up l) last.stamped last.placed last.key did.others used only.counter);
+        held.from high one.0 one.1 formed now j.log v.most j.imaged last.imaged bit (last.up l) last.stamped last.placed last.key did.others used only.counter);
     goes_on = did.goes_on;
     others = λ q other. did.others q other;
     most = refl;
-    imaged = bits;
+    imaged = last.imaged;
   }
 
   -- so it is by the leaf's bit
-  marked_by : (small : Bool) → is_imaged v.imaged page ≡ small → imaged ≡ imaged_with (mark_said spelling small tx entry.row entry.key before marked page (state t.disk).seen t) v.imaged
-      → IsLast (known_at shape proper) (reading_of said f) (mark_said spelling small tx entry.row entry.key before marked page (state t.disk).seen t) v.log log
-      → IsLogged (known_at shape proper) (reading_of said f) f passes size (state v.shelf.disk) (state t.disk) v (record { log = log; shelf = t; most = v.most; imaged = imaged })
+  pub logged_marked : (small : Bool) → is_imaged v.imaged page ≡ small
+      → IsLast (known_at shape proper) (reading_of said f) (mark_said spelling small tx entry.row entry.key before marked page (state t.disk).seen t) (journal_of v) j
+      → IsLogged (known_at shape proper) (reading_of said f) f passes size (state v.shelf.disk) (state t.disk) v (volume j t v.most)
       (mark_said spelling small tx entry.row entry.key before marked page (state t.disk).seen t)
-  marked_by true bit bits last = logged_mark bit bits did.goes_on.pages last
-  marked_by false bit bits last =
-      logged_write (known_at shape proper) said f passes state v size t tx entry.row (spelling entry.key) before marked page log imaged bits did held right
-      (λ steady. (let step = made steady in let only = step.1 step.0.1.0 step.0.1.1 in (tree_used f (state t.disk).seen (state v.shelf.disk).seen v.shelf t only.used, only.counter))) last well
-
-  pub logged_marked : (small : Bool) → small ≡ is_imaged v.imaged page → imaged ≡ imaged_with (mark_said spelling small tx entry.row entry.key before marked page (state t.disk).seen t) v.imaged
-      → IsLast (known_at shape proper) (reading_of said f) (mark_said spelling small tx entry.row entry.key before marked page (state t.disk).seen t) v.log log
-      → IsLogged (known_at shape proper) (reading_of said f) f passes size (state v.shelf.disk) (state t.disk) v (record { log = log; shelf = t; most = v.most; imaged = imaged })
-      (mark_said spelling (is_imaged v.imaged page) tx entry.row entry.key before marked page (state t.disk).seen t)
-  logged_marked small is bits last =
-      subst {A = Bool} (λ b. IsLogged (known_at shape proper) (reading_of said f) f passes size (state v.shelf.disk) (state t.disk) v (record { log = log; shelf = t; most = v.most; imaged = imaged })
-      (mark_said spelling b tx entry.row entry.key before marked page (state t.disk).seen t)) is (marked_by small (sym is) bits last)
+  logged_marked true bit last = logged_mark bit did.goes_on.pages last
+  logged_marked false bit last =
+      logged_write (known_at shape proper) said f passes state v size t tx entry.row (spelling entry.key) before marked page j did given right
+      (λ steady. (let step = made steady in let only = step.1 step.0.1.0 step.0.1.1 in (tree_used f (state t.disk).seen (state v.shelf.disk).seen v.shelf t only.used, only.counter))) last
 
 -- ---- what it says of its leaf
 

@@ -33,15 +33,17 @@ use Rattle.gx_durable.specs.Stored.{bytes_by, stored}
 use Rattle.gx_durable.proofs.Moving.{given_more}
 use Rattle.gx_durable.specs.Classes.{change_of, page_of, page_with, reading_of}
 use Rattle.gx_store.specs.Since.{GoesOn, IsAsItWas}
-use Rattle.gx_store.specs.Standing.{standing, store_of}
-use Rattle.gx_store.specs.State.{IsHeld, IsSteady, Shelf}
+use Rattle.gx_store.specs.Standing.{store_of}
+use Rattle.gx_store.specs.State.{IsSteady, Shelf}
 use Rattle.gx_store.proofs.Changing.{there}
 use Rattle.gx_store.proofs.Shown.{stands_kept}
-use Rattle.gx_storage.specs.Changes.{IsLast, IsLogged, has_room}
+use Rattle.gx_storage.specs.Changes.{IsLogged, has_room}
+use Rattle.gx_storage.specs.Giving.{IsGiven}
 use Rattle.gx_storage.specs.Imaged.{imaged_with, is_imaged}
+use Rattle.gx_storage.specs.Journal.{IsLast}
 use Rattle.gx_storage.specs.Keeps.{Keeps, StaysWith}
 use Rattle.gx_storage.specs.Small.{add_said}
-use Rattle.gx_storage.specs.State.{Volume}
+use Rattle.gx_storage.specs.State.{Journal, Volume, journal_of, volume}
 use Rattle.gx_storage.proofs.Recording.{AreNodes, stays_with, stored_in_use, stored_kept}
 use Rattle.gx_storage.proofs.SmallLeaf.{node_held, node_then, pair_behind, passing_then}
 use Rattle.gx_storage.proofs.Writing.{Stepped, logged_write, tree_used}
@@ -121,21 +123,22 @@ module _ {B D : Type 0} (k : Known (Entry B) (Page B)) (said : List ℕ → B) (
 
 module _ {B D : Type 0} (known : Limits → Known (Entry B) (Page B)) (said : List ℕ → B) (f : Format B) (passes : ℕ → Contents → Bool) (state : D → Device) (v : Volume D) (size : ℕ) (t : Shelf D)
     (IsKey : B → Type 0) (spelling : B → List ℕ) (hold : LeavesHold IsKey spelling f) (was : AreNodes f passes v.shelf) (right : AreNodes f passes t)
-    (page : ℕ) (log : Log) (imaged : List Bool) (did : Stepped passes state v size t page) (held : IsHeld t page) (bit : is_imaged v.imaged page ≡ true) where
-  pub logged_add : (tx most : ℕ) (entry : Entry B) → imaged ≡ v.imaged → t.pages ≡ v.shelf.pages
+    (page : ℕ) (j : Journal) (did : Stepped passes state v size t page) (given : IsGiven (state t.disk).seen t page) (bit : is_imaged v.imaged page ≡ true) where
+  pub logged_add : (tx most : ℕ) (entry : Entry B) → t.pages ≡ v.shelf.pages
       → (IsSteady (state v.shelf.disk) v.shelf.frames → Appends most (tree_of (store_of f (state v.shelf.disk).seen v.shelf)) (tree_of (store_of f (state t.disk).seen t)) page entry)
-      → IsLast known (reading_of said f) (Add tx entry.row (spelling entry.key) page) v.log log → IsWellFormed (standing t.frames (state t.disk).seen page)
-      → IsLogged known (reading_of said f) f passes size (state v.shelf.disk) (state t.disk) v (record { log = log; shelf = t; most = v.most; imaged = imaged }) (Add tx entry.row (spelling entry.key) page)
-  logged_add tx most entry bits pages made last well = record {
+      → IsLast known (reading_of said f) (Add tx entry.row (spelling entry.key) page) (journal_of v) j
+      → IsLogged known (reading_of said f) f passes size (state v.shelf.disk) (state t.disk) v (volume j t v.most) (Add tx entry.row (spelling entry.key) page)
+  logged_add tx most entry pages made last = record {
     logs = last.logs;
     keeps = λ l bodies s lawful keeps.
         (let d = state v.shelf.disk in
         let e = state t.disk in
         let step = made keeps.steady in
         let used = tree_used f e.seen d.seen v.shelf t step.changes.used in
+        let held = given.held in
         let one = there (kept t.frames page) held.kept in
         let stands = stands_kept t.frames e.seen page one.0 held.stays one.1 in
-        let formed : IsWellFormed one.0.page = subst {A = Contents} IsWellFormed stands well in
+        let formed : IsWellFormed one.0.page = subst {A = Contents} IsWellFormed stands given.well in
         let high : page ≤ v.shelf.used = omega (arith, held.to, used) in
         let before = passing_then (known l) said f passes d v bodies s keeps was page held.from high in
         let passed = right.passed page one.0 one.1 in
@@ -146,32 +149,23 @@ module _ {B D : Type 0} (known : Limits → Known (Entry B) (Page B)) (said : Li
         (node_then (known l) said f passes d v bodies s keeps was page held.from high) (node_held f e.seen t page one.0 held one.1) step.leaf step.changes.changed in
         small_stays_with (known l) said f passes d e v v.log.used (has_room v.log size) t bodies s lawful keeps did.goes_on (omega arith) was right
         (Add tx entry.row (spelling entry.key) page) page (pair_made entry.row (spelling entry.key)) (add_is_of_page (known l) said f tx entry.row (spelling entry.key) page)
-        held.from high one.0 one.1 formed now log v.most imaged bits bit (last.up l) last.stamped last.placed last.key did.others used step.changes.counter);
+        held.from high one.0 one.1 formed now j.log v.most j.imaged last.imaged bit (last.up l) last.stamped last.placed last.key did.others used step.changes.counter);
     goes_on = did.goes_on;
     others = λ q other. did.others q other;
     most = refl;
-    imaged = bits;
+    imaged = last.imaged;
   }
 
 -- so it is by the leaf's bit
 module _ {B D : Type 0} (known : Limits → Known (Entry B) (Page B)) (said : List ℕ → B) (f : Format B) (passes : ℕ → Contents → Bool) (state : D → Device) (v : Volume D) (size : ℕ) (t : Shelf D)
     (IsKey : B → Type 0) (spelling : B → List ℕ) (hold : LeavesHold IsKey spelling f) (was : AreNodes f passes v.shelf) (right : AreNodes f passes t)
-    (page : ℕ) (log : Log) (imaged : List Bool) (did : Stepped passes state v size t page) (held : IsHeld t page) (tx most : ℕ) (entry : Entry B)
-    (made : IsSteady (state v.shelf.disk) v.shelf.frames → Appends most (tree_of (store_of f (state v.shelf.disk).seen v.shelf)) (tree_of (store_of f (state t.disk).seen t)) page entry)
-    (well : IsWellFormed (standing t.frames (state t.disk).seen page)) where
-  added_by : (small : Bool) → is_imaged v.imaged page ≡ small → imaged ≡ imaged_with (add_said spelling small tx entry.row entry.key page (state t.disk).seen t) v.imaged
-      → IsLast known (reading_of said f) (add_said spelling small tx entry.row entry.key page (state t.disk).seen t) v.log log
-      → IsLogged known (reading_of said f) f passes size (state v.shelf.disk) (state t.disk) v (record { log = log; shelf = t; most = v.most; imaged = imaged })
+    (page : ℕ) (j : Journal) (did : Stepped passes state v size t page) (given : IsGiven (state t.disk).seen t page) (tx most : ℕ) (entry : Entry B)
+    (made : IsSteady (state v.shelf.disk) v.shelf.frames → Appends most (tree_of (store_of f (state v.shelf.disk).seen v.shelf)) (tree_of (store_of f (state t.disk).seen t)) page entry) where
+  pub logged_added : (small : Bool) → is_imaged v.imaged page ≡ small
+      → IsLast known (reading_of said f) (add_said spelling small tx entry.row entry.key page (state t.disk).seen t) (journal_of v) j
+      → IsLogged known (reading_of said f) f passes size (state v.shelf.disk) (state t.disk) v (volume j t v.most)
       (add_said spelling small tx entry.row entry.key page (state t.disk).seen t)
-  added_by true bit bits last = logged_add known said f passes state v size t IsKey spelling hold was right page log imaged did held bit tx most entry bits did.goes_on.pages made last well
-  added_by false bit bits last =
-      logged_write known said f passes state v size t tx entry.row (spelling entry.key) true false page log imaged bits did held right
-      (λ steady. (let step = made steady in (tree_used f (state t.disk).seen (state v.shelf.disk).seen v.shelf t step.changes.used, step.changes.counter))) last well
-
-  pub logged_added : (small : Bool) → small ≡ is_imaged v.imaged page → imaged ≡ imaged_with (add_said spelling small tx entry.row entry.key page (state t.disk).seen t) v.imaged
-      → IsLast known (reading_of said f) (add_said spelling small tx entry.row entry.key page (state t.disk).seen t) v.log log
-      → IsLogged known (reading_of said f) f passes size (state v.shelf.disk) (state t.disk) v (record { log = log; shelf = t; most = v.most; imaged = imaged })
-      (add_said spelling (is_imaged v.imaged page) tx entry.row entry.key page (state t.disk).seen t)
-  logged_added small is bits last =
-      subst {A = Bool} (λ b. IsLogged known (reading_of said f) f passes size (state v.shelf.disk) (state t.disk) v (record { log = log; shelf = t; most = v.most; imaged = imaged })
-      (add_said spelling b tx entry.row entry.key page (state t.disk).seen t)) is (added_by small (sym is) bits last)
+  logged_added true bit last = logged_add known said f passes state v size t IsKey spelling hold was right page j did given bit tx most entry did.goes_on.pages made last
+  logged_added false bit last =
+      logged_write known said f passes state v size t tx entry.row (spelling entry.key) true false page j did given right
+      (λ steady. (let step = made steady in (tree_used f (state t.disk).seen (state v.shelf.disk).seen v.shelf t step.changes.used, step.changes.counter))) last

@@ -35,27 +35,28 @@ use Rattle.gx_recovery.specs.Logged.{Logged, all_records}
 use Rattle.gx_recovery.specs.Records.{Record}
 use Rattle.gx_recovery.specs.Known.{Known, Limits}
 use Rattle.gx_index_laws.specs.Classes.{Page}
-use Rattle.gx_glog.specs.State.{Log}
 use Rattle.gx_durable.specs.Small.{RemoveSlots}
 use Rattle.gx_durable.specs.Spelled.{Reading, record_read}
 use Rattle.gx_durable.specs.Stored.{bytes_by}
 use Rattle.gx_durable.specs.Classes.{change_of, reading_of}
 use Rattle.gx_store.specs.Faults as faults
-use Rattle.gx_store.specs.Since.{GoesOn, IsSince}
+use Rattle.gx_store.specs.Since.{GoesOn}
 use Rattle.gx_store.specs.declared.fault.StoreFault.{StoreFault}
 use Rattle.gx_store.specs.declared.fault.StoreFault.TheVariants.{NoRoom}
-use Rattle.gx_store.specs.Standing.{standing, standing_node, store_of}
-use Rattle.gx_store.specs.State.{IsHeld, IsSteady, Shelf}
+use Rattle.gx_store.specs.Standing.{standing_node, store_of}
+use Rattle.gx_store.specs.State.{IsSteady, Shelf}
 use Rattle.gx_store.proofs.Changing.{there}
 use Rattle.gx_store.proofs.Going.{why_later}
 use Rattle.gx_store.proofs.Listed.{nodes_long}
 use Rattle.gx_store.proofs.Shown.{stands_kept}
-use Rattle.gx_storage.specs.Changes.{IsLast, IsLogged, IsLoggedIf, IsUnlogged, begun, begun_at, has_room}
-use Rattle.gx_storage.specs.Imaged.{imaged_with, is_imaged}
+use Rattle.gx_storage.specs.Changes.{IsLogged, IsLoggedIf, IsUnlogged, begun, begun_at, has_room}
+use Rattle.gx_storage.specs.Giving.{IsGiven}
+use Rattle.gx_storage.specs.Imaged.{is_imaged}
+use Rattle.gx_storage.specs.Journal.{IsLast}
 use Rattle.gx_storage.specs.Keeps.{Keeps}
 use Rattle.gx_storage.specs.Small.{sweep_room, sweep_said}
-use Rattle.gx_storage.specs.State.{Volume}
-use Rattle.gx_storage.specs.Sweeping.{SweepIsLogged, SweepIsRefused, swept_slots}
+use Rattle.gx_storage.specs.State.{Journal, Volume, journal_of, volume}
+use Rattle.gx_storage.specs.Sweeping.{SweepIsLogged, SweepIsRefused, begun_sweep, swept_slots}
 use Rattle.gx_storage.proofs.Giving.{logged_page}
 use Rattle.gx_storage.proofs.Recording.{AreNodes}
 use Rattle.gx_storage.proofs.SmallFits.{small_fits}
@@ -120,26 +121,24 @@ module _ {B : Type 0} (IsKey : B → Type 0) (spelling : B → List ℕ) (f : Fo
 
 module _ {B D : Type 0} (known : Limits → Known (Entry B) (Page B)) (said : List ℕ → B) (f : Format B) (passes : ℕ → Contents → Bool) (state : D → Device) (v : Volume D) (size : ℕ) (t : Shelf D)
     (IsKey : B → Type 0) (spelling : B → List ℕ) (hold : LeavesHold IsKey spelling f) (was : AreNodes f passes v.shelf) (right : AreNodes f passes t)
-    (page : ℕ) (log : Log) (imaged : List Bool) (did : Stepped passes state v size t page) (held : IsHeld t page) (sides : List Bool)
+    (page : ℕ) (j : Journal) (did : Stepped passes state v size t page) (given_now : IsGiven (state t.disk).seen t page) (sides : List Bool)
     (made : IsSteady (state v.shelf.disk) v.shelf.frames → GoBySides sides (tree_of (store_of f (state v.shelf.disk).seen v.shelf)) (tree_of (store_of f (state t.disk).seen t)) page) where
   abbrev its_slots : List ℕ
   its_slots = slots_from 0 sides
 
-  abbrev then : Volume D
-  then = record { log = log; shelf = t; most = v.most; imaged = imaged }
-
-  logged_small : is_imaged v.imaged page ≡ true → IsWellFormed (standing t.frames (state t.disk).seen page) → imaged ≡ v.imaged → t.pages ≡ v.shelf.pages
-      → IsLast known (reading_of said f) (Sweep page its_slots) v.log log → IsLogged known (reading_of said f) f passes size (state v.shelf.disk) (state t.disk) v then (Sweep page its_slots)
-  logged_small bit well bits pages last = record {
+  logged_small : is_imaged v.imaged page ≡ true → t.pages ≡ v.shelf.pages → IsLast known (reading_of said f) (Sweep page its_slots) (journal_of v) j
+      → IsLogged known (reading_of said f) f passes size (state v.shelf.disk) (state t.disk) v (volume j t v.most) (Sweep page its_slots)
+  logged_small bit pages last = record {
     logs = last.logs;
     keeps = λ l bodies s lawful keeps.
         (let d = state v.shelf.disk in
         let e = state t.disk in
         let step = made keeps.steady in
         let used = tree_used f e.seen d.seen v.shelf t step.changes.used in
+        let held = given_now.held in
         let one = there (kept t.frames page) held.kept in
         let stands = stands_kept t.frames e.seen page one.0 held.stays one.1 in
-        let formed : IsWellFormed one.0.page = subst {A = Contents} IsWellFormed stands well in
+        let formed : IsWellFormed one.0.page = subst {A = Contents} IsWellFormed stands given_now.well in
         let high : page ≤ v.shelf.used = omega (arith, held.to, used) in
         let before = passing_then (known l) said f passes d v bodies s keeps was page held.from high in
         let passed = right.passed page one.0 one.1 in
@@ -150,35 +149,18 @@ module _ {B D : Type 0} (known : Limits → Known (Entry B) (Page B)) (said : Li
         (node_then (known l) said f passes d v bodies s keeps was page held.from high) (node_held f e.seen t page one.0 held one.1) step.leaf step.as_many step.changes.changed in
         small_stays_with (known l) said f passes d e v v.log.used (has_room v.log size) t bodies s lawful keeps did.goes_on (omega arith) was right
         (Sweep page its_slots) page (slots_made its_slots) (sweep_is_of_page (known l) said f page its_slots)
-        held.from high one.0 one.1 formed now log v.most imaged bits bit (last.up l) last.stamped last.placed last.key did.others used step.changes.counter);
+        held.from high one.0 one.1 formed now j.log v.most j.imaged last.imaged bit (last.up l) last.stamped last.placed last.key did.others used step.changes.counter);
     goes_on = did.goes_on;
     others = λ q other. did.others q other;
     most = refl;
-    imaged = bits;
+    imaged = last.imaged;
   }
 
   -- by the leaf's bit
-  logged_by : (small : Bool) → is_imaged v.imaged page ≡ small → IsWellFormed (standing t.frames (state t.disk).seen page)
-      → imaged ≡ imaged_with (sweep_said small page its_slots (state t.disk).seen t) v.imaged → IsLast known (reading_of said f) (sweep_said small page its_slots (state t.disk).seen t) v.log log
-      → IsLogged known (reading_of said f) f passes size (state v.shelf.disk) (state t.disk) v then (sweep_said small page its_slots (state t.disk).seen t)
-  logged_by true bit well bits last = logged_small bit well bits did.goes_on.pages last
-  logged_by false bit well bits last = logged_page known said f passes state v size t page log imaged bits did held right last well
-
-  logged_here : (small : Bool) → small ≡ is_imaged v.imaged page → IsWellFormed (standing t.frames (state t.disk).seen page)
-      → imaged ≡ imaged_with (sweep_said small page its_slots (state t.disk).seen t) v.imaged → IsLast known (reading_of said f) (sweep_said small page its_slots (state t.disk).seen t) v.log log
-      → IsLogged known (reading_of said f) f passes size (state v.shelf.disk) (state t.disk) v then (sweep_said (is_imaged v.imaged page) page its_slots (state t.disk).seen t)
-  logged_here small is well bits last =
-      subst {A = Bool} (λ b. IsLogged known (reading_of said f) f passes size (state v.shelf.disk) (state t.disk) v then (sweep_said b page its_slots (state t.disk).seen t)) is
-      (logged_by small (sym is) well bits last)
-
-  -- the record is of the page that was planned
-  pub logged_swept : (planned : ℕ) → planned ≡ page → (small : Bool) → small ≡ is_imaged v.imaged page → IsWellFormed (standing t.frames (state t.disk).seen planned)
-      → imaged ≡ imaged_with (sweep_said small planned its_slots (state t.disk).seen t) v.imaged → IsLast known (reading_of said f) (sweep_said small planned its_slots (state t.disk).seen t) v.log log
-      → IsLogged known (reading_of said f) f passes size (state v.shelf.disk) (state t.disk) v then (sweep_said (is_imaged v.imaged page) page its_slots (state t.disk).seen t)
-  logged_swept planned here small is well bits last =
-      logged_here small is (subst {A = ℕ} (λ a. IsWellFormed (standing t.frames (state t.disk).seen a)) here well)
-      (subst {A = ℕ} (λ a. imaged ≡ imaged_with (sweep_said small a its_slots (state t.disk).seen t) v.imaged) here bits)
-      (subst {A = ℕ} (λ a. IsLast known (reading_of said f) (sweep_said small a its_slots (state t.disk).seen t) v.log log) here last)
+  pub logged_swept : (small : Bool) → is_imaged v.imaged page ≡ small → IsLast known (reading_of said f) (sweep_said small page its_slots (state t.disk).seen t) (journal_of v) j
+      → IsLogged known (reading_of said f) f passes size (state v.shelf.disk) (state t.disk) v (volume j t v.most) (sweep_said small page its_slots (state t.disk).seen t)
+  logged_swept true bit last = logged_small bit did.goes_on.pages last
+  logged_swept false bit last = logged_page known said f passes state v size t page j did given_now right last
 
 -- ---- what the log gives of the leaf
 
@@ -280,20 +262,7 @@ pub later_why : {D : Type 0} (passes : ℕ → Contents → Bool) (state : D →
 later_why passes state v size read t Damaged on why = tt
 later_why passes state v size read t (Pages fault) on why = why_later passes (state v.shelf.disk) (state read.disk) (state t.disk) (begun v size) read t fault on why
 
--- ---- the event's room, by the leaf's bit
-
--- an event began with the room for so many slots
-pub begun_size : {D : Type 0} (log : Log) (s u : Shelf D) (small : Bool) (size count many : ℕ) → u ≡ begun_at log size s → size ≡ sweep_room small count → count ≡ many
-    → u ≡ begun_at log (sweep_room small many) s
-begun_size log s u small size count many is sized counted = is ∙ ap (λ n. begun_at log n s) (sized ∙ ap (sweep_room small) counted)
-
-module _ {D : Type 0} (passes : ℕ → Contents → Bool) (state : D → Device) (v : Volume D) (t : Shelf D) (small bit : Bool) (said : small ≡ bit) (count : ℕ) where
-  pub since_by : ((q : ℕ) → IsSince passes (state v.shelf.disk) (state t.disk) (begun v (sweep_room small count)) t q)
-      → (q : ℕ) → IsSince passes (state v.shelf.disk) (state t.disk) (begun v (sweep_room bit count)) t q
-  since_by since q = subst {A = Bool} (λ b. IsSince passes (state v.shelf.disk) (state t.disk) (begun v (sweep_room b count)) t q) said (since q)
-
-  pub why_by : (fault : StepFault StoreFault)
-      → owner.IsWhy (λ x. faults.IsWhy passes (state v.shelf.disk) (state t.disk) (begun v (sweep_room small count)) t x) fault
-      → owner.IsWhy (λ x. faults.IsWhy passes (state v.shelf.disk) (state t.disk) (begun v (sweep_room bit count)) t x) fault
-  why_by fault why =
-      subst {A = Bool} (λ b. owner.IsWhy (λ x. faults.IsWhy passes (state v.shelf.disk) (state t.disk) (begun v (sweep_room b count)) t x) fault) said why
+-- an event began with the room for just these slots
+pub begun_slots : {D : Type 0} (j : Journal) (page : ℕ) (s u : Shelf D) (size count : ℕ) (slots : List ℕ) → u ≡ begun_at j.log size s → size ≡ sweep_room (is_imaged j.imaged page) count → count ≡ length slots
+    → u ≡ begun_sweep j page slots s
+begun_slots j page s u size count slots is sized counted = is ∙ ap (λ n. begun_at j.log n s) (sized ∙ ap (sweep_room (is_imaged j.imaged page)) counted)

@@ -25,21 +25,22 @@ use Rattle.gx_recovery.specs.Known.{Known, Limits}
 use Rattle.gx_recovery.specs.Logged.{Logged, all_records}
 use Rattle.gx_recovery.specs.Records.{Record}
 use Rattle.gx_index_laws.specs.Classes.{Page}
-use Rattle.gx_glog.specs.State.{Log}
 use Rattle.gx_durable.specs.Small.{SetKey}
 use Rattle.gx_durable.specs.Spelled.{record_read}
 use Rattle.gx_durable.specs.Stored.{bytes_by}
 use Rattle.gx_durable.specs.Classes.{change_of, reading_of}
-use Rattle.gx_store.specs.Standing.{standing, store_of}
-use Rattle.gx_store.specs.State.{IsHeld, IsSteady, Shelf}
+use Rattle.gx_store.specs.Standing.{store_of}
+use Rattle.gx_store.specs.State.{IsSteady, Shelf}
 use Rattle.gx_store.proofs.Changing.{there}
 use Rattle.gx_store.proofs.Shown.{stands_kept}
-use Rattle.gx_storage.specs.Changes.{IsLast, IsLogged, has_room}
+use Rattle.gx_storage.specs.Changes.{IsLogged, has_room}
 use Rattle.gx_storage.specs.Changing.{IfWidened}
-use Rattle.gx_storage.specs.Imaged.{imaged_with, is_imaged}
+use Rattle.gx_storage.specs.Giving.{IsGiven}
+use Rattle.gx_storage.specs.Imaged.{is_imaged}
+use Rattle.gx_storage.specs.Journal.{IsLast}
 use Rattle.gx_storage.specs.Keeps.{Keeps}
 use Rattle.gx_storage.specs.Small.{widen_said}
-use Rattle.gx_storage.specs.State.{Volume}
+use Rattle.gx_storage.specs.State.{Journal, Volume, journal_of, volume}
 use Rattle.gx_storage.proofs.Giving.{logged_page}
 use Rattle.gx_storage.proofs.Recording.{AreNodes}
 use Rattle.gx_storage.proofs.SmallFits.{small_fits}
@@ -61,10 +62,10 @@ module _ {B D : Type 0} (known : Limits → Known (Entry B) (Page B)) (said : Li
     (cost : B → B → ℕ × ℕ) (joined : B → B → B) (most : ℕ) (item : TraversalItem) (coming : B) (next : TraversalItem) (slot : ℕ) (key : B)
     (made : IsSteady (state v.shelf.disk) v.shelf.frames
     → StepsDown cost joined most (store_of f (state v.shelf.disk).seen v.shelf) (store_of f (state t.disk).seen t) item coming (did.Widened next slot key))
-    (log : Log) (imaged : List Bool) (step : Stepped passes state v size t item.page) (held : IsHeld t item.page) (well : IsWellFormed (standing t.frames (state t.disk).seen item.page)) where
-  logged_widen : is_imaged v.imaged item.page ≡ true → imaged ≡ v.imaged → IsLast known (reading_of said f) (Widen item.page slot (spelling key)) v.log log
-      → IsLogged known (reading_of said f) f passes size (state v.shelf.disk) (state t.disk) v (record { log = log; shelf = t; most = v.most; imaged = imaged }) (Widen item.page slot (spelling key))
-  logged_widen bit bits last = record {
+    (j : Journal) (step : Stepped passes state v size t item.page) (given_now : IsGiven (state t.disk).seen t item.page) where
+  logged_widen : is_imaged v.imaged item.page ≡ true → IsLast known (reading_of said f) (Widen item.page slot (spelling key)) (journal_of v) j
+      → IsLogged known (reading_of said f) f passes size (state v.shelf.disk) (state t.disk) v (volume j t v.most) (Widen item.page slot (spelling key))
+  logged_widen bit last = record {
     logs = last.logs;
     keeps = λ l bodies s lawful keeps.
         (let d = state v.shelf.disk in
@@ -75,9 +76,10 @@ module _ {B D : Type 0} (known : Limits → Known (Entry B) (Page B)) (said : Li
         let child : Child B = record { key = down.0.1.0; page = next.page } in
         let changes = down.2 child choice.at in
         let used = tree_used f e.seen d.seen v.shelf t changes.used in
+        let held = given_now.held in
         let one = there (kept t.frames page) held.kept in
         let stands = stands_kept t.frames e.seen page one.0 held.stays one.1 in
-        let formed : IsWellFormed one.0.page = subst {A = Contents} IsWellFormed stands well in
+        let formed : IsWellFormed one.0.page = subst {A = Contents} IsWellFormed stands given_now.well in
         let high : page ≤ v.shelf.used = omega (arith, held.to, used) in
         let before = passing_then (known l) said f passes d v bodies s keeps was page held.from high in
         let passed = right.passed page one.0 one.1 in
@@ -89,28 +91,20 @@ module _ {B D : Type 0} (known : Limits → Known (Entry B) (Page B)) (said : Li
         (node_held f e.seen t page one.0 held one.1) changes.changed in
         small_stays_with (known l) said f passes d e v v.log.used (has_room v.log size) t bodies s lawful keeps step.goes_on (omega arith) was right
         (Widen page slot (spelling key)) page (bound_made f slot (spelling key)) (widen_is_of_page (known l) said f page slot (spelling key))
-        held.from high one.0 one.1 formed now log v.most imaged bits bit (last.up l) last.stamped last.placed last.key step.others used changes.counter);
+        held.from high one.0 one.1 formed now j.log v.most j.imaged last.imaged bit (last.up l) last.stamped last.placed last.key step.others used changes.counter);
     goes_on = step.goes_on;
     others = λ q other. step.others q other;
     most = refl;
-    imaged = bits;
+    imaged = last.imaged;
   }
 
   -- so it is by the page's bit
-  widened_by : (small : Bool) → is_imaged v.imaged item.page ≡ small → imaged ≡ imaged_with (widen_said spelling small item.page slot key (state t.disk).seen t) v.imaged
-      → IsLast known (reading_of said f) (widen_said spelling small item.page slot key (state t.disk).seen t) v.log log
-      → IsLogged known (reading_of said f) f passes size (state v.shelf.disk) (state t.disk) v (record { log = log; shelf = t; most = v.most; imaged = imaged })
+  pub logged_widened : (small : Bool) → is_imaged v.imaged item.page ≡ small
+      → IsLast known (reading_of said f) (widen_said spelling small item.page slot key (state t.disk).seen t) (journal_of v) j
+      → IsLogged known (reading_of said f) f passes size (state v.shelf.disk) (state t.disk) v (volume j t v.most)
       (widen_said spelling small item.page slot key (state t.disk).seen t)
-  widened_by true bit bits last = logged_widen bit bits last
-  widened_by false bit bits last = logged_page known said f passes state v size t item.page log imaged bits step held right last well
-
-  pub logged_widened : (small : Bool) → small ≡ is_imaged v.imaged item.page → imaged ≡ imaged_with (widen_said spelling small item.page slot key (state t.disk).seen t) v.imaged
-      → IsLast known (reading_of said f) (widen_said spelling small item.page slot key (state t.disk).seen t) v.log log
-      → IsLogged known (reading_of said f) f passes size (state v.shelf.disk) (state t.disk) v (record { log = log; shelf = t; most = v.most; imaged = imaged })
-      (widen_said spelling (is_imaged v.imaged item.page) item.page slot key (state t.disk).seen t)
-  logged_widened small is bits last =
-      subst {A = Bool} (λ b. IsLogged known (reading_of said f) f passes size (state v.shelf.disk) (state t.disk) v (record { log = log; shelf = t; most = v.most; imaged = imaged })
-      (widen_said spelling b item.page slot key (state t.disk).seen t)) is (widened_by small (sym is) bits last)
+  logged_widened true bit last = logged_widen bit last
+  logged_widened false bit last = logged_page known said f passes state v size t item.page j step given_now right last
 
 -- what the log gives of an inner node's page takes the bytes of a key as the bound in a slot
 module _ {B D : Type 0} (k : Known (Entry B) (Page B)) (said : List ℕ → B) (f : Format B) (passes : ℕ → Contents → Bool) (d : Device) (v : Volume D)

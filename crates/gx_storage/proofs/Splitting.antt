@@ -23,7 +23,6 @@ use Rattle.gx_tree.specs.declared.split_root.RootSplit.{RootSplit}
 use Rattle.gx_recovery.specs.Known.{Known, Limits}
 use Rattle.gx_recovery.proofs.Tests.{true_or_false, or_none_first, or_none_second}
 use Rattle.gx_index_laws.specs.Classes.{Page}
-use Rattle.gx_glog.specs.State.{Log}
 use Rattle.gx_durable.specs.Spelled.{images_read}
 use Rattle.gx_durable.specs.Stored.{images_of}
 use Rattle.gx_durable.specs.Classes.{reading_of}
@@ -33,11 +32,11 @@ use Rattle.gx_store.specs.State.{Shelf, IsHeld, IsSteady}
 use Rattle.gx_store.proofs.Changing.{there}
 use Rattle.gx_store.proofs.Listed.{nodes_long}
 use Rattle.gx_store.proofs.Shown.{stands_kept}
-use Rattle.gx_storage.specs.Changes.{IsLast, IsLogged, begun, has_room}
-use Rattle.gx_storage.specs.Imaged.{imaged_with}
+use Rattle.gx_storage.specs.Changes.{IsLogged, begun, has_room}
 use Rattle.gx_storage.specs.Numbers.{HasOwnNumber}
 use Rattle.gx_storage.specs.Giving.{IsGiven, contents_at, pages_given, placed, rising}
-use Rattle.gx_storage.specs.State.{Volume}
+use Rattle.gx_storage.specs.Journal.{IsLast}
+use Rattle.gx_storage.specs.State.{Journal, Volume, journal_of, volume}
 use Rattle.gx_storage.proofs.Giving.{AreThere, pages_stay_with}
 use Rattle.gx_storage.proofs.Recording.{AreNodes}
 use Rattle.gx_storage.proofs.OnlyReads.{since_begun}
@@ -158,28 +157,28 @@ module _ {B D : Type 0} (known : Limits → Known (Entry B) (Page B)) (said : Li
   among_given q [] = refl
   among_given q (page ∷ pages) = ap (λ b. (page == q) || b) (among_given q pages)
 
-  pub logged_pages : (pages : List ℕ) (log : Log) (imaged : List Bool) → imaged ≡ imaged_with (pages_given pages (state t.disk).seen t) v.imaged → SteppedBut passes state v size t pages → Each (IsGiven (state t.disk).seen t) pages → AreNodes f passes t
-      → IsLast known (reading_of said f) (pages_given pages (state t.disk).seen t) v.log log
-      → IsLogged known (reading_of said f) f passes size (state v.shelf.disk) (state t.disk) v (record { log = log; shelf = t; most = v.most; imaged = imaged }) (pages_given pages (state t.disk).seen t)
-  logged_pages pages log imaged bits did given right last = record {
+  pub logged_pages : (pages : List ℕ) (j : Journal) → SteppedBut passes state v size t pages → Each (IsGiven (state t.disk).seen t) pages → AreNodes f passes t
+      → IsLast known (reading_of said f) (pages_given pages (state t.disk).seen t) (journal_of v) j
+      → IsLogged known (reading_of said f) f passes size (state v.shelf.disk) (state t.disk) v (volume j t v.most) (pages_given pages (state t.disk).seen t)
+  logged_pages pages j did given right last = record {
     logs = last.logs;
     keeps = λ l bodies s lawful keeps.
         pages_stay_with (known l) said f passes (state v.shelf.disk) (state t.disk) v v.log.used (has_room v.log size) t bodies s lawful keeps did.goes_on (omega arith) right
-        known l refl (contents_at (state t.disk).seen t pages) log v.most imaged bits (all_there pages given) last
+        known l refl (contents_at (state t.disk).seen t pages) j v.most (all_there pages given) last
         (λ q other. did.others q (sym (among_given q pages) ∙ other));
     goes_on = did.goes_on;
     others = λ q other. did.others q (sym (among_given q pages) ∙ other);
     most = refl;
-    imaged = bits;
+    imaged = last.imaged;
   }
 
   -- the same of the pages in another spelling
-  pub logged_these : (these pages : List ℕ) (log : Log) (imaged : List Bool) → these ≡ pages → imaged ≡ imaged_with (pages_given these (state t.disk).seen t) v.imaged → SteppedBut passes state v size t pages → Each (IsGiven (state t.disk).seen t) these → AreNodes f passes t
-      → IsLast known (reading_of said f) (pages_given these (state t.disk).seen t) v.log log
-      → IsLogged known (reading_of said f) f passes size (state v.shelf.disk) (state t.disk) v (record { log = log; shelf = t; most = v.most; imaged = imaged }) (pages_given pages (state t.disk).seen t)
-  logged_these these pages log imaged same bits did given right last =
-      logged_pages pages log imaged (subst {A = List ℕ} (λ x. imaged ≡ imaged_with (pages_given x (state t.disk).seen t) v.imaged) same bits) did (subst {A = List ℕ} (λ x. Each (IsGiven (state t.disk).seen t) x) same given) right
-      (subst {A = List ℕ} (λ x. IsLast known (reading_of said f) (pages_given x (state t.disk).seen t) v.log log) same last)
+  pub logged_these : (these pages : List ℕ) (j : Journal) → these ≡ pages → SteppedBut passes state v size t pages → Each (IsGiven (state t.disk).seen t) these → AreNodes f passes t
+      → IsLast known (reading_of said f) (pages_given these (state t.disk).seen t) (journal_of v) j
+      → IsLogged known (reading_of said f) f passes size (state v.shelf.disk) (state t.disk) v (volume j t v.most) (pages_given pages (state t.disk).seen t)
+  logged_these these pages j same did given right last =
+      logged_pages pages j did (subst {A = List ℕ} (λ x. Each (IsGiven (state t.disk).seen t) x) same given) right
+      (subst {A = List ℕ} (λ x. IsLast known (reading_of said f) (pages_given x (state t.disk).seen t) (journal_of v) j) same last)
 
 -- three pages in a record are in range
 pub three_in_range : (counter used : ℕ) (x y z : ℕ × List ℕ) → counter < 2 ^ 64 → used < 2 ^ 32 → x.0 < y.0 → y.0 < z.0 → IsPage x → IsPage y → IsPage z

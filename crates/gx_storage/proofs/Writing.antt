@@ -35,11 +35,13 @@ use Rattle.gx_store.specs.State.{Shelf, IsHeld, IsSteady}
 use Rattle.gx_store.proofs.Changing.{there}
 use Rattle.gx_store.proofs.Listed.{node_there, nodes_long}
 use Rattle.gx_store.proofs.Shown.{lent, stands_kept}
-use Rattle.gx_storage.specs.Changes.{IsLast, IsLogged, IsUnlogged, begun, has_room}
-use Rattle.gx_storage.specs.Imaged.{with_imaged}
+use Rattle.gx_storage.specs.Changes.{IsLogged, IsUnlogged, begun, has_room}
+use Rattle.gx_storage.specs.Giving.{IsGiven}
+use Rattle.gx_storage.specs.Imaged.{imaged_with}
+use Rattle.gx_storage.specs.Journal.{CanTake, IsLast}
 use Rattle.gx_storage.specs.Keeps.{KeepsWith, StaysWith}
 use Rattle.gx_storage.specs.Numbers.{HasOwnNumber}
-use Rattle.gx_storage.specs.State.{Volume}
+use Rattle.gx_storage.specs.State.{Journal, Volume, journal_of, volume}
 use Rattle.gx_storage.proofs.Moving.{stays_same}
 use Rattle.gx_storage.proofs.OnlyReads.{since_begun}
 use Rattle.gx_storage.proofs.Recording.{AreNodes, write_stays_with}
@@ -59,18 +61,25 @@ appended_at bytes old new NoRoom is still room = absurd (elim is.0 [
 ])
 
 module _ {B : Type 0} (known : Limits → Known (Entry B) (Page B)) (r : Reading (Entry B) (Page B)) where
-  last_at : (x : Rec) (old new : Log) → Appends (spelling x) old new (At old.used) → old.turn ≡ Closed → old.used < PLACES → HasKey r.key x
-      → ((l : Limits) → AppendStaysUp (known l) r x old new (At old.used)) → AppendStaysStamped r x old new (At old.used) → IsLast known r x old new
-  last_at x old new is still place key up stamped = record { logs = record { place = place; still = still; fits = is.0; log = is.2 }; key = key; up = up; stamped = stamped; placed = append_placed x old new (At old.used) is }
+  last_at : (x : Rec) (size : ℕ) (old new : Journal) → Appends (spelling x) old.log new.log (At old.log.used) → CanTake old.log size → HasKey r.key x
+      → ((l : Limits) → AppendStaysUp (known l) r x old.log new.log (At old.log.used)) → AppendStaysStamped r x old.log new.log (At old.log.used) → new.imaged ≡ imaged_with x old.imaged → IsLast known r x old new
+  last_at x size old new is takes key up stamped bits = record {
+    logs = record { place = takes.place; still = takes.still; fits = is.0; log = is.2 };
+    key = key;
+    up = up;
+    stamped = stamped;
+    placed = append_placed x old.log new.log (At old.log.used) is;
+    imaged = bits;
+  }
 
-  -- a record that was appended is the log's last
-  pub is_last : (x y : Rec) (old new : Log) (result : Appended) → x ≡ y → Appends (spelling x) old new result → old.turn ≡ Closed → old.used < PLACES → length old.filling + length (spelling x) ≤ BODY_ROOM
-      → HasKey r.key x → ((l : Limits) → AppendStaysUp (known l) r x old new result) → AppendStaysStamped r x old new result → IsLast known r y old new
-  is_last x y old new result same appends still place room key up stamped =
-      let at = appended_at (spelling x) old new result appends still room in
+  -- a record that was appended is the journal's last
+  pub is_last : (x y : Rec) (size : ℕ) (old new : Journal) (result : Appended) → x ≡ y → Appends (spelling x) old.log new.log result → CanTake old.log size → length (spelling x) ≤ size
+      → HasKey r.key x → ((l : Limits) → AppendStaysUp (known l) r x old.log new.log result) → AppendStaysStamped r x old.log new.log result → new.imaged ≡ imaged_with y old.imaged → IsLast known r y old new
+  is_last x y size old new result same appends takes fits key up stamped bits =
+      let at = appended_at (spelling x) old.log new.log result appends takes.still (omega (arith, takes.room, fits)) in
       subst {A = Rec} (λ z. IsLast known r z old new) same
-      (last_at x old new (subst {A = Appended} (λ a. Appends (spelling x) old new a) at appends) still place key
-      (λ l. subst {A = Appended} (λ a. AppendStaysUp (known l) r x old new a) at (up l)) (subst {A = Appended} (λ a. AppendStaysStamped r x old new a) at stamped))
+      (last_at x size old new (subst {A = Appended} (λ a. Appends (spelling x) old.log new.log a) at appends) takes key
+      (λ l. subst {A = Appended} (λ a. AppendStaysUp (known l) r x old.log new.log a) at (up l)) (subst {A = Appended} (λ a. AppendStaysStamped r x old.log new.log a) at stamped) (bits ∙ ap (λ z. imaged_with z old.imaged) (sym same)))
 
 -- ---- a page that is held
 
@@ -83,11 +92,17 @@ pub held_number : {D : Type 0} (passes : Contents → Bool) (s : Shelf D) (page 
 held_number passes s page c passed held is = let one = lent s.frames page c held.kept is in ap (λ (p : Contents). p.number) one.same ∙ (passed page one.k one.is).0
 
 -- so its present image has that number as its own
-pub held_own : {D : Type 0} (passes : Contents → Bool) (s : Shelf D) (seen : List ℕ) (page : ℕ) (c : Contents) → IsPassed passes s.frames → IsHeld s page → IfSome (kept s.frames page) (λ k. c ≡ k.page)
+held_own : {D : Type 0} (passes : Contents → Bool) (s : Shelf D) (seen : List ℕ) (page : ℕ) (c : Contents) → IsPassed passes s.frames → IsHeld s page → IfSome (kept s.frames page) (λ k. c ≡ k.page)
     → IsWellFormed c → HasOwnNumber seen s page
 held_own passes s seen page c passed held is well =
     let same : c ≡ standing s.frames seen page = held_stands s seen page c held is in
     ap (λ (x : Contents). x.number) (read-image _ (subst {A = Contents} IsWellFormed same well)) ∙ (ap (λ (x : Contents). x.number) (sym same) ∙ held_number passes s page c passed held is)
+
+-- and it is given
+pub held_given : {D : Type 0} (passes : Contents → Bool) (s : Shelf D) (seen : List ℕ) (page : ℕ) (c : Contents) → IsPassed passes s.frames → IsHeld s page → IfSome (kept s.frames page) (λ k. c ≡ k.page)
+    → IsWellFormed c → IsGiven seen s page
+held_given passes s seen page c passed held is well =
+    record { held = held; well = subst {A = Contents} IsWellFormed (held_stands s seen page c held is) well; own = held_own passes s seen page c passed held is well }
 
 -- a write of it is in range
 pub write_in_range : (tx row : ℕ) (key : List ℕ) (before after : Bool) (leaf : ℕ) (image : List ℕ) (c : Contents) → tx < 2 ^ 64 → row < 2 ^ 64 → leaf < 2 ^ 32 → IsImage image → read_of image ≡ c
@@ -101,10 +116,10 @@ add_in_range tx row key leaf tx_fits row_fits leaf_fits low = (tx_fits, row_fits
 
 -- ---- the room
 
-pub has_room_for : (log : Log) (size : ℕ) → has_room log size ≡ true → (log.used < PLACES) × (length log.filling + size ≤ BODY_ROOM)
-has_room_for log size is =
+takes_if : (log : Log) (size : ℕ) → has_room log size ≡ true → log.turn ≡ Closed → CanTake log size
+takes_if log size is still =
     let both = and_parts (nat_lt log.used PLACES) (nat_le (length log.filling + size) BODY_ROOM) is in
-    (ltb-true log.used PLACES both.0, leb-true (length log.filling + size) BODY_ROOM both.1)
+    record { place = ltb-true log.used PLACES both.0; still = still; room = leb-true (length log.filling + size) BODY_ROOM both.1 }
 
 pub begun_with : {D : Type 0} (s u : Shelf D) (l : Log) (size used : ℕ) (room : Bool) → u ≡ record s { batch = used; has_room = room } → used ≡ l.used → room ≡ has_room l size
     → u ≡ record s { batch = l.used; has_room = has_room l size }
@@ -149,8 +164,15 @@ module _ {D : Type 0} (passes : ℕ → Contents → Bool) (state : D → Device
   steady_begun u is steady = subst {A = Shelf D} (λ x. IsSteady (state x.disk) x.frames) (sym is) steady
 
   -- the event's record has room, where the store says so
-  pub has_room_then : has_room v.log size ≡ t.has_room → t.has_room ≡ true → (v.log.used < PLACES) × (length v.log.filling + size ≤ BODY_ROOM)
-  has_room_then same is = has_room_for v.log size (same ∙ is)
+  pub takes_then : has_room v.log size ≡ t.has_room → t.has_room ≡ true → v.log.turn ≡ Closed → CanTake v.log size
+  takes_then same is still = takes_if v.log size (same ∙ is) still
+
+-- what a step says of pages as its event begins, it says of them as they were before
+pub over_begun : {B D : Type 0} (f : Format B) (state : D → Device) (Tells : Type 0 → Store B → Store B → Type 0) (s u t : Shelf D) (batch : ℕ) (room : Bool) → u ≡ record s { batch = batch; has_room = room }
+    → Tells (IsSteady (state u.disk) u.frames) (store_of f (state u.disk).seen u) (store_of f (state t.disk).seen t)
+    → Tells (IsSteady (state s.disk) s.frames) (store_of f (state s.disk).seen s) (store_of f (state t.disk).seen t)
+over_begun f state Tells s u t batch room is did =
+    subst {A = Shelf _} (λ x. Tells (IsSteady (state x.disk) x.frames) (store_of f (state x.disk).seen x) (store_of f (state t.disk).seen t)) is did
 
 -- a store has as many pages as its tree
 pub tree_used : {B D : Type 0} (f : Format B) (one other : List ℕ) (s t : Shelf D) → (tree_of (store_of f one t)).used ≡ (tree_of (store_of f other s)).used → t.used ≡ s.used
@@ -173,32 +195,32 @@ module _ {B D : Type 0} (known : Limits → Known (Entry B) (Page B)) (said : Li
     imaged = refl;
   }
 
-  module _ (tx row : ℕ) (key : List ℕ) (before after : Bool) (page : ℕ) (log : Log) (imaged : List Bool) (bits : imaged ≡ with_imaged page v.imaged) (did : Stepped passes state v size t page) (held : IsHeld t page) (right : AreNodes f passes t)
+  module _ (tx row : ℕ) (key : List ℕ) (before after : Bool) (page : ℕ) (j : Journal) (did : Stepped passes state v size t page) (given : IsGiven (state t.disk).seen t page) (right : AreNodes f passes t)
       (numbers : IsSteady (state v.shelf.disk) v.shelf.frames → (t.used ≡ v.shelf.used) × (t.counter ≡ v.shelf.counter)) where
-    keeps_write : (c : Contents) → c ≡ standing t.frames (state t.disk).seen page → IsLast known (reading_of said f) (Write tx row key before after page (image_of c)) v.log log → IsWellFormed c → (l : Limits)
-        → KeepsWith (known l) (reading_of said f) f passes (state v.shelf.disk) (state t.disk) v (record { log = log; shelf = t; most = v.most; imaged = imaged }) (Write tx row key before after page (image_of c))
+    keeps_write : (c : Contents) → c ≡ standing t.frames (state t.disk).seen page → IsLast known (reading_of said f) (Write tx row key before after page (image_of c)) (journal_of v) j → IsWellFormed c → (l : Limits)
+        → KeepsWith (known l) (reading_of said f) f passes (state v.shelf.disk) (state t.disk) v (volume j t v.most) (Write tx row key before after page (image_of c))
     keeps_write c is last well l bodies s lawful keeps =
+        let held = given.held in
         let one = there (kept t.frames page) held.kept in
         let same : one.0.page ≡ c = sym (is ∙ stands_kept t.frames (state t.disk).seen page one.0 held.stays one.1) in
         let now = numbers keeps.steady in
-        let P : Contents → Type 0 = λ x. IsLast known (reading_of said f) (Write tx row key before after page (image_of x)) v.log log in
+        let P : Contents → Type 0 = λ x. IsLast known (reading_of said f) (Write tx row key before after page (image_of x)) (journal_of v) j in
         let last_now = subst P (sym same) last in
-        subst {A = Contents} (λ x. StaysWith (known l) (reading_of said f) f passes (state v.shelf.disk) (state t.disk) (record { log = log; shelf = t; most = v.most; imaged = imaged }) bodies s
+        subst {A = Contents} (λ x. StaysWith (known l) (reading_of said f) f passes (state v.shelf.disk) (state t.disk) (volume j t v.most) bodies s
         (record_read (reading_of said f) (Write tx row key before after page (image_of x)))) same
         (write_stays_with (known l) said f passes (state v.shelf.disk) (state t.disk) v v.log.used (has_room v.log size) t bodies s lawful keeps did.goes_on (omega arith) right
-        tx row key before after page one.0 log v.most imaged bits one.1 (subst {A = Contents} IsWellFormed (sym same) well) held.from held.to (last_now.up l) last_now.stamped last_now.placed last_now.key did.others now.0 now.1)
+        tx row key before after page one.0 j.log v.most j.imaged last_now.imaged one.1 (subst {A = Contents} IsWellFormed (sym same) well) held.from held.to (last_now.up l) last_now.stamped last_now.placed last_now.key did.others now.0 now.1)
 
-    pub logged_write : IsLast known (reading_of said f) (Write tx row key before after page (image_of (standing t.frames (state t.disk).seen page))) v.log log
-        → IsWellFormed (standing t.frames (state t.disk).seen page)
-        → IsLogged known (reading_of said f) f passes size (state v.shelf.disk) (state t.disk) v (record { log = log; shelf = t; most = v.most; imaged = imaged })
+    pub logged_write : IsLast known (reading_of said f) (Write tx row key before after page (image_of (standing t.frames (state t.disk).seen page))) (journal_of v) j
+        → IsLogged known (reading_of said f) f passes size (state v.shelf.disk) (state t.disk) v (volume j t v.most)
         (Write tx row key before after page (image_of (standing t.frames (state t.disk).seen page)))
-    logged_write last well = record {
+    logged_write last = record {
       logs = last.logs;
-      keeps = λ l. keeps_write (standing t.frames (state t.disk).seen page) refl last well l;
+      keeps = λ l. keeps_write (standing t.frames (state t.disk).seen page) refl last given.well l;
       goes_on = did.goes_on;
       others = λ q other. did.others q other;
       most = refl;
-      imaged = bits;
+      imaged = last.imaged;
     }
 
 -- ---- the stamp of an added pair

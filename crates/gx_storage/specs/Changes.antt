@@ -4,15 +4,12 @@ use Rattle.gx_machine.specs.declared.entry.Entry.{Entry}
 use Rattle.gx_disk.specs.Device.{Device}
 use Rattle.gx_page.specs.Contents.{Contents}
 use Rattle.gx_record.specs.Rec.{Rec}
-use Rattle.gx_record.specs.Format.{HasKey}
 use Rattle.gx_node.specs.Reading.{Format}
 use Rattle.gx_recovery.specs.Known.{Known, Limits}
 use Rattle.gx_recovery.specs.Records.{speaks_of}
 use Rattle.gx_index_laws.specs.Classes.{Page}
 use Rattle.gx_glog.specs.State.{Log}
-use Rattle.gx_glog.specs.declared.filling.Appended.TheVariants.{At}
 use Rattle.gx_glog.specs.declared.extent.TheConstants.{BODY_ROOM, PLACES}
-use Rattle.gx_durable.specs.Calls.{AppendPlaces, AppendStaysUp, AppendStaysStamped}
 use Rattle.gx_durable.specs.Spelled.{Reading, record_read}
 use Rattle.gx_store.specs.Since.{GoesOn, IsAsItWas, IsSince}
 use Rattle.gx_store.specs.State.{Shelf}
@@ -39,14 +36,6 @@ abbrev pub begun : {D : Type 0} → Volume D → ℕ → Shelf D
 begun v size = record v.shelf { batch = v.log.used; has_room = has_room v.log size }
 
 module _ {B : Type 0} (known : Limits → Known (Entry B) (Page B)) (r : Reading (Entry B) (Page B)) where
-  -- A record is the log's last: the log is longer by just this, and stays up with it on each device that it was up on.
-  pub record IsLast (x : Rec) (old new : Log) : Type 0 where
-    pub logs : Logs x old new
-    pub key : HasKey r.key x
-    pub up : (l : Limits) → AppendStaysUp (known l) r x old new (At old.used)
-    pub stamped : AppendStaysStamped r x old new (At old.used)
-    pub placed : AppendPlaces old new (At old.used)
-
   module _ (f : Format B) (passes : ℕ → Contents → Bool) where
     -- A change that is logged by a record of so many bytes: the log is longer by just that record. Each page that the
     -- record doesn't name is unchanged; the volume keeps the state with it; and the pages of which it has an image get

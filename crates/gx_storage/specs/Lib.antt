@@ -5,6 +5,7 @@ pub mod Flushing
 pub mod Formed
 pub mod Giving
 pub mod Imaged
+pub mod Journal
 pub mod Keeps
 pub mod Marks
 pub mod Numbers

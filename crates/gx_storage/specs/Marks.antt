@@ -1,10 +1,11 @@
 -- The pair of an entry in a leaf, whose mark is set.
-use Rattle.std.specs.Prelude.{◌≡◌, ℕ, ◌==◌, ◌&&◌, Bool}
+use Rattle.std.specs.Prelude.{◌≡◌, ℕ, ◌==◌, ◌&&◌, Bool, Result}
 use Rattle.std.specs.Ordering.{is_eq}
 use Rattle.gx_machine.specs.declared.entry.Entry.{Entry}
 use Rattle.gx_machine.specs.Keys.{Members}
 use Rattle.gx_node.specs.Trees.{Node, Pair}
-use Rattle.gx_tree.specs.Writing.{SetsMark}
+use Rattle.gx_node.specs.declared.fault.StepFault.{StepFault}
+use Rattle.gx_tree.specs.Calls.{TellsMark}
 use Rattle.gx_tree.specs.declared.seek.Sought.{Sought}
 use Rattle.gx_node.specs.Store.{Store}
 use Rattle.gx_storage.specs.Changing.{HasWanted}
@@ -20,9 +21,8 @@ module _ {B : Type 0} (IsKey : B → Type 0) (shape : Members B) where
     pub wanted : IsOfEntry entry wants
     pub has : HasWanted wants node
 
-  -- The mark of the entry's pair in a leaf is set; or it isn't in the leaf, and nothing has changed. So it is where
-  -- pages are steady.
-  pub record MarksEntry (steady : Type 0) (old new : Store B) (entry : Entry B) (a : ℕ) (marked : Bool) (sought : Sought) : Type 0 where
+  -- the mark of the entry's pair is set in the leaf on a page, as the tree's step says of the pairs that are wanted
+  pub record MarksEntry {F : Type 0} (entry : Entry B) (page : ℕ) (mark : Bool) (result : Result Sought (StepFault F)) (steady : Type 0) (old new : Store B) : Type 0 where
     pub wants : Pair B → Bool
     pub wanted : IsOfEntry entry wants
-    pub sets : steady → SetsMark wants old new a marked sought
+    pub tells : TellsMark wants page mark result steady old new

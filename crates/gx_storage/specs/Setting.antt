@@ -7,9 +7,9 @@ use Rattle.gx_geom.specs.declared.refusal.Refusal.{Refusal}
 use Rattle.gx_class.specs.Traits.{Traits, own}
 use Rattle.gx_class.specs.declared.class.KeyClass.{Ghosts}
 use Rattle.gx_disk.specs.Device.{Device}
+use Rattle.gx_glog.specs.declared.filling.Appended.{Appended}
 use Rattle.gx_glog.specs.declared.stage.Stage.{Stage}
 use Rattle.gx_glog.specs.declared.stage.Turn.{Turn}
-use Rattle.gx_glog.specs.State.{Log}
 use Rattle.gx_page.specs.Contents.{Contents}
 use Rattle.gx_node.specs.Reading.{Format, format_of, is_node}
 use Rattle.gx_node.specs.Owner as owner
@@ -30,13 +30,14 @@ use Rattle.gx_store.specs.declared.fault.StoreFault.{StoreFault}
 use Rattle.gx_tree.specs.declared.descent.Descended.{Descended}
 use Rattle.gx_tree.specs.declared.seek.Sought.{Sought}
 use Rattle.gx_node.specs.Trees.{Tree}
-use Rattle.gx_storage.specs.Changes.{DescentIsLogged, IsLast, IsLogged, IsLoggedIf, IsUnlogged, MarkIsLogged, ReadsKeep, page_given}
+use Rattle.gx_storage.specs.Changes.{DescentIsLogged, IsLogged, IsLoggedIf, IsUnlogged, MarkIsLogged, ReadsKeep, page_given}
 use Rattle.gx_storage.specs.Flushing.{KeepsOn, KeepsRecord, MayTurn, StepsLog, TurnsOn, WritesGated}
-use Rattle.gx_storage.specs.Giving.{pages_given}
+use Rattle.gx_storage.specs.Giving.{IsGiven, pages_given}
+use Rattle.gx_storage.specs.Journal.{IsLast, IsPutFirst}
 use Rattle.gx_storage.specs.Keeps.{ShowsKeys, ShowsTheLogs}
-use Rattle.gx_storage.specs.Marks.{HasEntry, MarksEntry}
+use Rattle.gx_storage.specs.Marks.{HasEntry}
 use Rattle.gx_storage.specs.Numbers.{HasOwnNumber}
-use Rattle.gx_storage.specs.State.{Volume}
+use Rattle.gx_storage.specs.State.{Journal, Volume}
 use Rattle.gx_storage.specs.Sweeping.{SweepIsLogged, SweepIsRefused}
 
 module _ {D : Type 0} (state : D → Device) where
@@ -51,6 +52,10 @@ module _ {D : Type 0} (state : D → Device) where
   -- the image of a page's content has that page's number as its own
   abbrev pub OwnNumberAs : Shelf D → ℕ → Type 0
   OwnNumberAs s page = HasOwnNumber (state s.disk).seen s page
+
+  -- a page that is held has an image of its content, under its own number
+  abbrev pub IsGivenAs : Shelf D → ℕ → Type 0
+  IsGivenAs s page = IsGiven (state s.disk).seen s page
 
   -- a page that was changed, with its content and the numbers of now; and several
   abbrev pub page_given_at : ℕ → Shelf D → Rec
@@ -74,6 +79,10 @@ module _ {C B D : Type 0} (class : Ghosts C B) (state : D → Device) where
   abbrev pub StaysAs : Shelf D → Shelf D → Type 0
   StaysAs old new = Stays (IsSteadyAs state old) (store_at old) (store_at new)
 
+  -- what a step of the tree says, of these pages before and after
+  abbrev pub OverPages : (Type 0 → Store B → Store B → Type 0) → Shelf D → Shelf D → Type 0
+  OverPages Tells old new = Tells (IsSteadyAs state old) (store_at old) (store_at new)
+
   -- why pages were refused since an event began, and why a step was, or a look, or a split
   abbrev pub FaultsAs : Shelf D → Shelf D → StoreFault → Type 0
   FaultsAs old new fault = faults.IsWhy (is_node (format_of class)) (state old.disk) (state new.disk) old new fault
@@ -92,19 +101,19 @@ module _ {C B D : Type 0} (class : Ghosts C B) (state : D → Device) where
   IsSinceAs old new page = IsSince (is_node (format_of class)) (state old.disk) (state new.disk) old new page
 
 module _ {C B D : Type 0} (shape : Members B) (class : Ghosts C B) (state : D → Device) where
-  -- a page is a leaf that has an entry's pair; and the mark of that was set, or it isn't in the leaf
+  -- a page is a leaf that has an entry's pair
   abbrev pub HasEntryAs : Volume D → Entry B → ℕ → Type 0
   HasEntryAs v entry page = HasEntry class.is_key shape entry ((tree_at class state v.shelf).node page)
 
-  abbrev pub MarksEntryAs : Volume D → Volume D → Entry B → ℕ → Bool → Sought → Type 0
-  MarksEntryAs v w entry page marked sought =
-      MarksEntry class.is_key shape (IsSteadyAs state v.shelf) (store_at class state v.shelf)
-      (store_at class state w.shelf) entry page marked sought
-
--- a record is the log's last
-abbrev pub IsLastAs : {B : Type 0} → Members B → Traits B → Rec → Log → Log → Type 0
+-- a record is the journal's last
+abbrev pub IsLastAs : {B : Type 0} → Members B → Traits B → Rec → Journal → Journal → Type 0
 IsLastAs shape traits x old new =
     IsLast (known_at shape traits.is_proper) (reading_of traits.said (format_of (own traits))) x old new
+
+-- a record was put into the journal's head
+abbrev pub IsPutFirstAs : {B : Type 0} → Members B → Traits B → Rec → Journal → Journal → Appended → Type 0
+IsPutFirstAs shape traits x old new result =
+    IsPutFirst (known_at shape traits.is_proper) (reading_of traits.said (format_of (own traits))) x old new result
 
 module _ {B D : Type 0} (shape : Members B) (traits : Traits B)
     (state : D → Device) where

@@ -18,13 +18,13 @@ use Rattle.gx_index_laws.specs.Classes.{Page}
 use Rattle.gx_durable.specs.Spelled.{Reading}
 use Rattle.gx_store.specs.Faults as faults
 use Rattle.gx_store.specs.Standing.{store_of}
-use Rattle.gx_store.specs.State.{IsSteady}
+use Rattle.gx_store.specs.State.{IsSteady, Shelf}
 use Rattle.gx_store.specs.declared.fault.StoreFault.{StoreFault}
 use Rattle.gx_store.specs.declared.fault.StoreFault.TheVariants.{NoRoom}
-use Rattle.gx_storage.specs.Changes.{IsLoggedIf, IsUnlogged, begun}
+use Rattle.gx_storage.specs.Changes.{IsLoggedIf, IsUnlogged, begun, begun_at}
 use Rattle.gx_storage.specs.Imaged.{is_imaged}
 use Rattle.gx_storage.specs.Small.{sweep_room, sweep_said}
-use Rattle.gx_storage.specs.State.{Volume}
+use Rattle.gx_storage.specs.State.{Journal, Volume}
 
 -- the slots of a node's marked pairs that no session claims, rising
 abbrev pub swept_slots : {B : Type 0} → (Entry B → Bool) → Node B → List ℕ
@@ -35,9 +35,9 @@ abbrev pub slots_planned : {E : Type 0} → Result Planned E → List ℕ
 slots_planned (Ok plan) = slots_of plan
 slots_planned (Err why) = []
 
--- each answer to a claim is what the test says
-abbrev pub Answers : {F B : Type 0} → (F → Entry B → Bool → Type 0) → F → (Entry B → Bool) → Type 0
-Answers {F} {B} post claimed test = (entry : Entry B) (answer : Bool) → post claimed entry answer → answer ≡ test entry
+-- pages as a sweep's event begins, whose record has these slots of a leaf or the leaf's image, by the leaf's bit
+abbrev pub begun_sweep : {D : Type 0} → Journal → ℕ → List ℕ → Shelf D → Shelf D
+begun_sweep journal page slots s = begun_at journal.log (sweep_room (is_imaged journal.imaged page) (length slots)) s
 
 module _ {B : Type 0} (known : Limits → Known (Entry B) (Page B)) (r : Reading (Entry B) (Page B)) (f : Format B) (passes : ℕ → Contents → Bool)
     (IsTest : (Entry B → Bool) → Type 0) {D : Type 0} (d e : Device) (v w : Volume D) (page : ℕ) where

@@ -2,16 +2,8 @@
 //! changes nothing.
 
 mod add;
-mod added;
 mod descend;
-mod given;
-mod given_pages;
-pub(crate) mod marked;
-pub(crate) mod room;
 mod set_mark;
 mod split;
 mod split_root;
 mod sweep;
-mod swept;
-mod widened;
-mod written;

@@ -18,7 +18,6 @@ ghost use Rattle.gx_storage.specs.Imaged.{imaged_after};
 ghost use Rattle.gx_storage.specs.Setting.{KeepsOnAs, MayTurnAs, TurnsOnAs};
 
 use crate::Storage;
-use crate::changes::marked::mark_of;
 use gx_class::ReadKeys;
 use gx_disk::SectorDisk;
 use gx_durable::OfClass;
@@ -46,7 +45,7 @@ impl<D: SectorDisk, K: ReadKeys> Storage<D, K> {
         ensures yes { OnTrue result ((self.now.log.stage ≡ Stage.Idle) × (self.now.log.filling ≡ [])) }
         ensures no { OnFalse result ((in_flight self.now.log.stage ≡ 1) ⊎ (1 ≤ length self.now.log.filling)) }
     {
-        self.log.is_idle()
+        self.journal.log.is_idle()
     }
 
     /// Whether a turn's next call may be made: nothing is in flight or fills, a head was put, and no page is dirty.
@@ -54,7 +53,8 @@ impl<D: SectorDisk, K: ReadKeys> Storage<D, K> {
         ensures yes { OnTrue result (ReadyToTurn self.now) }
         ensures no { OnFalse result (ReadyToTurn self.now → ⊥) }
     {
-        self.log.is_idle() && self.log.has_head() && self.store.dirty_frames() == 0
+        let journal = &self.journal;
+        journal.log.is_idle() && journal.log.has_head() && self.store.dirty_frames() == 0
     }
 
     /// Makes all writes durable, in one device call. Pages and log don't change. Refused with `Device` exactly if the
@@ -85,7 +85,8 @@ impl<D: SectorDisk, K: ReadKeys> Storage<D, K> {
             self.old.log self.new.log (Appended.At 0)) }
         ensures keeps { KeepsOnAs K.Key.Shape K.ReadKeys D.state self.old self.new }
     {
-        match put_first::<OfClass<K>>(&mut self.log, logged) {
+        let journal = &mut self.journal;
+        match put_first::<OfClass<K>>(&mut journal.log, logged) {
             Appended::At(_) => Ok(()),
             Appended::NoRoom => Err(StoreFault::NoRoom),
         }
@@ -109,15 +110,7 @@ impl<D: SectorDisk, K: ReadKeys> Storage<D, K> {
         ensures keeps { KeepsOnAs K.Key.Shape K.ReadKeys D.state self.old self.new }
     {
         K::known(&key);
-        K::encode(key, &mut self.key);
-        let note = Record::Note {
-            tx: transaction,
-            row,
-            key: &self.key,
-            before: mark_of(before),
-            leaf,
-        };
-        match put_first::<OfClass<K>>(&mut self.log, &note) {
+        match self.journal.put_note(transaction, row, key, before, leaf) {
             Appended::At(_) => Ok(()),
             Appended::NoRoom => Err(StoreFault::NoRoom),
         }
@@ -148,8 +141,9 @@ impl<D: SectorDisk, K: ReadKeys> Storage<D, K> {
         ensures begins { MayTurnAs K.Key.Shape K.ReadKeys D.state self.old }
         ensures keeps { TurnsOnAs K.Key.Shape K.ReadKeys D.state self.old self.new result }
     {
-        let told = self.store.turn_step::<OfClass<K>>(&mut self.log);
-        self.imaged.forget_after(&told);
+        let journal = &mut self.journal;
+        let told = self.store.turn_step::<OfClass<K>>(&mut journal.log);
+        journal.imaged.forget_after(&told);
         told
     }
 }

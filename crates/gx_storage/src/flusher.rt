@@ -66,7 +66,7 @@ impl<D: SectorDisk, K: ReadKeys> Storage<D, K> {
     pub fn places(&self) -> u8
         ensures { result ≡ self.now.log.used }
     {
-        self.log.used()
+        self.journal.log.used()
     }
 
     /// Makes the log's next device call, at most one; once a gate is synced the frames learn of its batch. Returns
@@ -89,7 +89,8 @@ impl<D: SectorDisk, K: ReadKeys> Storage<D, K> {
         ensures refusal { IfErr result (λ refusal. refusal ≡ Refusal.Device) }
         ensures keeps { StepsLogAs K.Key.Shape K.ReadKeys D.state self.old self.new result }
     {
-        self.store.log_step::<OfClass<K>>(&mut self.log)
+        let journal = &mut self.journal;
+        self.store.log_step::<OfClass<K>>(&mut journal.log)
     }
 
     /// Writes a page to its sectors if it has changes and all of them are in gated batches, and returns whether it did;
@@ -130,7 +131,8 @@ impl<D: SectorDisk, K: ReadKeys> Storage<D, K> {
         ensures keeps { GivesNoPage (rec_of logged.now)
             → OnOk result (KeepsRecordAs K.Key.Shape K.ReadKeys D.state self.old self.new (rec_of logged.now)) }
     {
-        match append::<OfClass<K>>(&mut self.log, logged) {
+        let journal = &mut self.journal;
+        match append::<OfClass<K>>(&mut journal.log, logged) {
             Appended::At(_) => Ok(()),
             Appended::NoRoom => Err(StoreFault::NoRoom),
         }

@@ -4,8 +4,10 @@
 
 mod changes;
 mod checkpoint;
+mod drain;
 mod flusher;
 mod imaged;
+mod journal;
 pub mod laws;
 mod pages;
 mod reads;

@@ -14,7 +14,6 @@ ghost use Rattle.gx_store.specs.Faults.{store_fails};
 ghost use Rattle.gx_storage.specs.Setting.{FaultsAs, StaysAs, ToldAs, Unlogged, tree_at};
 
 use crate::Storage;
-use crate::changes::room::begin_reading;
 use gx_class::{KeyClass, ReadKeys};
 use gx_disk::SectorDisk;
 use gx_machine::Entry;
@@ -70,7 +69,7 @@ impl<D: SectorDisk, K: ReadKeys> Storage<D, K> {
         ensures why { IfErr result (FaultsAs K.KeyClass D.state (bringing self.old) self.new.shelf) }
         ensures room { result ≢ Err StoreFault.NoRoom }
     {
-        begin_reading(&self.log, &mut self.store);
+        self.journal.begin_reading(&mut self.store);
         self.store.bring(&[page])
     }
 

@@ -1,18 +1,14 @@
 //! The tree's steps that read, over pages with their log.
-ghost use Rattle.std.specs.Prelude.{◌≡◌, ◌≢◌, ◌<◌, ◌++◌, ◌∷◌, [], length, List, Err, IfOk, IfErr, OnOk, OnErr};
+ghost use Rattle.std.specs.Prelude.{◌≢◌, ◌<◌, length, Err, IfErr, OnOk};
 ghost use Rattle.gx_store.specs.State.{IsHeld};
-ghost use Rattle.gx_node.specs.Reach as reach;
-ghost use Rattle.gx_node.specs.Trees.{Used};
-ghost use Rattle.gx_tree.specs.Looking.{LookStep};
-ghost use Rattle.gx_tree.specs.Seeking.{Seeks};
+ghost use Rattle.gx_tree.specs.Calls.{TellsLook, TellsSeek};
 ghost use Rattle.gx_tree.specs.Wants.{wants};
 ghost use Rattle.gx_node.specs.Owner.{look_fails, step_fails};
 ghost use Rattle.gx_store.specs.Faults.{store_fails};
 ghost use Rattle.gx_storage.specs.Bringing.{bringing};
-ghost use Rattle.gx_storage.specs.Setting.{IsWhyAs, IsWhyOfLookAs, StaysAs, ToldAs, Unlogged, tree_at};
+ghost use Rattle.gx_storage.specs.Setting.{IsWhyAs, IsWhyOfLookAs, OverPages, ToldAs, Unlogged};
 
 use crate::Storage;
-use crate::changes::room::begin_reading;
 use gx_class::{Probing, ReadKeys};
 use gx_disk::SectorDisk;
 use gx_store::StoreFault;
@@ -31,19 +27,13 @@ impl<D: SectorDisk, K: ReadKeys + Probing> Storage<D, K> {
     ) -> Result<(), LookFault<StoreFault>>
         requires { 0 < length look.old.stack.items }
         ensures unlogged { Unlogged K.Key.Shape K.ReadKeys D.state (bringing self.old) self.old self.new }
-        ensures stays { StaysAs K.KeyClass D.state self.old.shelf self.new.shelf }
-        ensures step { OnOk result (LookStep (tree_at K.KeyClass D.state self.new.shelf)
-            (wants K.passes wanted.now.keys wanted.now.row) (K.passes wanted.now.bounds) look.old.stack.items
-            look.new.stack.items look.old.found.items look.new.found.items) }
+        ensures tells { OverPages K.KeyClass D.state (TellsLook (wants K.passes wanted.now.keys wanted.now.row)
+            (K.passes wanted.now.bounds) look.old look.new result) self.old.shelf self.new.shelf }
         ensures told { ToldAs D.state (look_fails store_fails) self.old.shelf self.new.shelf result }
         ensures why { IfErr result (IsWhyOfLookAs K.KeyClass D.state (bringing self.old) self.new.shelf) }
         ensures room { result ≢ Err (LookFault.Step (StepFault.Pages StoreFault.NoRoom)) }
-        ensures damaged { result ≡ Err (LookFault.Step StepFault.Damaged)
-            → (rest : List reach.TraversalItem) (item : reach.TraversalItem)
-            → look.old.stack.items ≡ rest ++ item ∷ [] → ¬ Used (tree_at K.KeyClass D.state self.new.shelf) item.page }
-        ensures refused { OnErr result (result ≢ Err LookFault.Memory → look.new ≡ look.old) }
     {
-        begin_reading(&self.log, &mut self.store);
+        self.journal.begin_reading(&mut self.store);
         gx_tree::look_step(&mut self.store, wanted, look)
     }
 
@@ -57,17 +47,14 @@ impl<D: SectorDisk, K: ReadKeys + Probing> Storage<D, K> {
         page: u32,
     ) -> Result<Sought, StepFault<StoreFault>>
         ensures unlogged { Unlogged K.Key.Shape K.ReadKeys D.state (bringing self.old) self.old self.new }
-        ensures stays { StaysAs K.KeyClass D.state self.old.shelf self.new.shelf }
+        ensures tells { OverPages K.KeyClass D.state (TellsSeek (wants K.passes wanted.now.keys wanted.now.row) page
+            result) self.old.shelf self.new.shelf }
         ensures held { OnOk result (IsHeld self.new.shelf page) }
-        ensures sought { IfOk result (Seeks (wants K.passes wanted.now.keys wanted.now.row)
-            ((tree_at K.KeyClass D.state self.new.shelf).node page)) }
         ensures told { ToldAs D.state (step_fails store_fails) self.old.shelf self.new.shelf result }
         ensures why { IfErr result (IsWhyAs K.KeyClass D.state (bringing self.old) self.new.shelf) }
         ensures room { result ≢ Err (StepFault.Pages StoreFault.NoRoom) }
-        ensures damaged { result ≡ Err StepFault.Damaged → Used (tree_at K.KeyClass D.state self.new.shelf) page
-            → ((tree_at K.KeyClass D.state self.new.shelf).node page).level ≢ 0 }
     {
-        begin_reading(&self.log, &mut self.store);
+        self.journal.begin_reading(&mut self.store);
         gx_tree::seek_step(&mut self.store, wanted, page)
     }
 }

@@ -3,6 +3,7 @@ ghost use Rattle.std.specs.Prelude.{◌≡◌, ◌≤◌, false, length, replica
 ghost use Rattle.gx_node.specs.declared.items.TheConstants.{MAX_ENTRIES};
 
 use crate::imaged::Imaged;
+use crate::journal::Journal;
 use gx_class::ReadKeys;
 use gx_disk::SectorDisk;
 use gx_glog::Glog;
@@ -14,25 +15,21 @@ use std::marker::Model;
 /// A tree's pages in frames over a device, with their log.
 #[derive(Drop)]
 pub struct Storage<D: SectorDisk, K: ReadKeys> {
-    pub(crate) log: Glog,
+    pub(crate) journal: Journal<K>,
     pub(crate) store: PageStore<D, K>,
     pub(crate) most: usize,
-    // a buffer for a key's bytes, which a record lends
-    pub(crate) key: Vec<u8>,
-    // whether the log's extent has an image of a page, by its number less one
-    pub(crate) imaged: Imaged,
 }
 
 impl<D: SectorDisk, K: ReadKeys> Model for Storage<D, K> {
-    ghost use Rattle.std.specs.Prelude.{◌≡◌, ◌≤◌, length};
+    ghost use Rattle.std.specs.Prelude.{◌≤◌};
     ghost use Rattle.gx_node.specs.declared.items.TheConstants.{MAX_ENTRIES};
-    ghost use Rattle.gx_storage.specs.State.{Volume};
+    ghost use Rattle.gx_storage.specs.State.{Volume, volume};
 
     ghost Value = { Volume D };
 
-    ghost view = { λ m. record { log = m.log; shelf = m.store; most = m.most; imaged = m.imaged } };
+    ghost view = { λ m. volume m.journal m.store m.most };
 
-    ghost invariant = { λ m. (length m.key.items ≡ K.KEY) × (m.most ≤ MAX_ENTRIES) };
+    ghost invariant = { λ m. m.most ≤ MAX_ENTRIES };
 }
 
 impl<D: SectorDisk, K: ReadKeys> Storage<D, K> {
@@ -55,11 +52,9 @@ impl<D: SectorDisk, K: ReadKeys> Storage<D, K> {
         ensures { result ≡ record { log = log; shelf = store; most = most; imaged = replicate store.pages false } }
     {
         Storage {
-            log,
+            journal: Journal::new(log, key, Imaged::of(imaged)),
             store,
             most,
-            key,
-            imaged: Imaged::of(imaged),
         }
     }
 
@@ -99,11 +94,9 @@ impl<D: SectorDisk, K: ReadKeys> Storage<D, K> {
         ensures { result ≡ self.shelf.disk }
     {
         let Storage {
-            log: _,
+            journal: _,
             store,
             most: _,
-            key: _,
-            imaged: _,
         } = self;
         store.into_disk()
     }

@@ -3,6 +3,7 @@
 #![tactic(auto)]
 
 mod calls;
+mod drain;
 mod fault;
 mod held;
 pub mod laws;

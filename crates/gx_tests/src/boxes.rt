@@ -11,7 +11,7 @@ pub fn make_box(rt: &impl Abort, (x1, y1, x2, y2): Rectangle) -> Box2 {
     Box2::new(x1, y1, x2, y2).ok().expect(rt, "a box")
 }
 
-static REFUSALS: [(Refusal, u8, &str); 21] = [
+static REFUSALS: [(Refusal, u8, &str); 22] = [
     (Refusal::NoTransaction, 1, "no transaction"),
     (Refusal::InTransaction, 2, "in transaction"),
     (Refusal::Present, 3, "present"),
@@ -33,6 +33,7 @@ static REFUSALS: [(Refusal, u8, &str); 21] = [
     (Refusal::BadParameter, 18, "bad parameter"),
     (Refusal::NoCall, 19, "no call"),
     (Refusal::HistoryFull, 20, "history full"),
+    (Refusal::OldVersion, 21, "old version"),
 ];
 
 fn is_written(rt: &impl Abort, refusal: &Refusal, number: u8, text: &str) {

@@ -10,7 +10,7 @@ use std::alloc::Global;
 use std::process::Abort;
 
 /// How many sectors nine pages take.
-const SECTORS: usize = 4240;
+const SECTORS: usize = 16_720;
 
 /// A sector's bytes.
 fn sector<D: SectorDisk>(disk: &mut D, s: u64) -> [u8; 512] {
@@ -98,13 +98,13 @@ fn ends<D: SectorDisk>(disk: &mut D, s: u64) -> ([u8; 8], [u8; 8]) {
 
 /// A sector of a fresh index for nine pages of four boxes, and the bytes at its ends.
 static ENDS: [(u64, [u8; 8], [u8; 8]); 7] = [
-    (0, *b"GISTRT01", [0; 8]),
+    (0, *b"GISTRT02", [0; 8]),
     (1, [0, 0, 0, 9, 0, 4, 0, 1], [0; 8]),
     (8, [0xa7, 0, 0, 0, 0, 0, 0, 0], [0; 8]),
-    (40, [0, 0, 0, 0x1d, 5, 0, 0, 0], [0; 8]),
-    (4168, [0, 1, 0, 1, 0x0f, 0xec, 0, 0], [0; 8]),
-    (4175, [0; 8], [0, 0, 0, 0, 0, 0, 0, 2]),
-    (4176, [0, 0, 0, 0, 0x10, 0, 0, 0], [0; 8]),
+    (136, [0, 0, 0, 0x1d, 5, 0, 0, 0], [0; 8]),
+    (16_648, [0, 1, 0, 1, 0x0f, 0xec, 0, 0], [0; 8]),
+    (16_655, [0; 8], [0, 0, 0, 0, 0, 0, 0, 2]),
+    (16_656, [0, 0, 0, 0, 0x10, 0, 0, 0], [0; 8]),
 ];
 
 #[test]
@@ -128,7 +128,7 @@ static ASKED: [(u32, u16, Result<(), Refusal>); 6] = [
 
 #[test]
 fn what_a_format_refuses(rt: HostRuntime) {
-    same(&rt, &sectors_for(9), &4240);
+    same(&rt, &sectors_for(9), &16_720);
     let mut disk = got(&rt, MemDisk::new(rt.alloc(), SECTORS));
     for (pages, most, answer) in &ASKED {
         same(&rt, &lay(rt.alloc(), &mut disk, *pages, *most), answer);

@@ -8,7 +8,7 @@ use std::alloc::{AllocError, Global};
 use std::process::Abort;
 
 /// How many sectors 16 pages take.
-const SECTORS: usize = 4296;
+const SECTORS: usize = 16_776;
 
 /// Reads a device from its first sector on, and returns whether that was done.
 fn read_whole<D: SectorDisk>(disk: &mut D, bytes: &mut [u8]) -> bool {
@@ -61,8 +61,9 @@ fn set(bytes: &mut [u8], at: usize, value: u8) -> u8 {
 }
 
 /// A sector, a byte's number in it, its value, and what is then wrong with a fresh index of 16 pages.
-static CHANGED: [(usize, usize, u8, Option<Damage>); 24] = [
-    (0, 7, b'2', Some(Damage::Magic)),
+static CHANGED: [(usize, usize, u8, Option<Damage>); 25] = [
+    (0, 7, b'3', Some(Damage::Magic)),
+    (0, 7, b'1', Some(Damage::OldMagic)),
     (1, 3, 7, Some(Damage::Parameters)),
     (1, 3, 17, Some(Damage::Short)),
     (1, 5, 3, Some(Damage::Parameters)),
@@ -71,21 +72,21 @@ static CHANGED: [(usize, usize, u8, Option<Damage>); 24] = [
     (8, 0, 0, Some(Damage::Selector)),
     (9, 0, 0xa7, Some(Damage::Body)),
     (10, 0, 0xa7, None),
-    (40, 3, 30, Some(Damage::Record)),
-    (40, 3, 28, Some(Damage::Record)),
-    (40, 4, 6, Some(Damage::Record)),
-    (40, 4, 7, Some(Damage::Record)),
-    (40, 20, 1, Some(Damage::Counter)),
-    (40, 24, 17, Some(Damage::PageNumber)),
-    (40, 24, 1, Some(Damage::Entry)),
-    (4168, 1, 2, Some(Damage::Level)),
-    (4168, 15, 1, Some(Damage::Node)),
-    (4176, 1, 1, Some(Damage::Level)),
-    (4176, 19, 2, Some(Damage::Chain)),
-    (4176, 23, 3, Some(Damage::OwnNumber)),
-    (4176, 6, 1, Some(Damage::Page)),
-    (4177, 0, 1, Some(Damage::Page)),
-    (4184, 0, 1, None),
+    (136, 3, 30, Some(Damage::Record)),
+    (136, 3, 28, Some(Damage::Record)),
+    (136, 4, 6, Some(Damage::Record)),
+    (136, 4, 7, Some(Damage::Record)),
+    (136, 20, 1, Some(Damage::Counter)),
+    (136, 24, 17, Some(Damage::PageNumber)),
+    (136, 24, 1, Some(Damage::Entry)),
+    (16_648, 1, 2, Some(Damage::Level)),
+    (16_648, 15, 1, Some(Damage::Node)),
+    (16_656, 1, 1, Some(Damage::Level)),
+    (16_656, 19, 2, Some(Damage::Chain)),
+    (16_656, 23, 3, Some(Damage::OwnNumber)),
+    (16_656, 6, 1, Some(Damage::Page)),
+    (16_657, 0, 1, Some(Damage::Page)),
+    (16_664, 0, 1, None),
 ];
 
 #[test]

@@ -31,6 +31,8 @@ mod pages;
 #[cfg(test)]
 mod plain;
 #[cfg(test)]
+mod queues;
+#[cfg(test)]
 mod reaches;
 #[cfg(test)]
 mod records;

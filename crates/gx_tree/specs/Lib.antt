@@ -1,3 +1,4 @@
+pub mod Calls
 pub mod Descending
 pub mod Found
 pub mod Halved

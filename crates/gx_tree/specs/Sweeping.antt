@@ -38,6 +38,10 @@ pub record PlansSweep {B : Type 0} (claimed : Entry B → Bool) (node : Node B) 
   pub leaf : node.level ≡ 0
   pub sides : plan.sides ≡ map (is_sweepable (λ x. claimed (entry_of x))) node.pairs
 
+-- each answer to a claim is what the test says
+abbrev pub Answers : {F B : Type 0} → (F → Entry B → Bool → Type 0) → F → (Entry B → Bool) → Type 0
+Answers {F} {B} post claimed test = (entry : Entry B) (answer : Bool) → post claimed entry answer → answer ≡ test entry
+
 -- the pairs of these slots go; where there are none nothing has changed
 pub record TakesOut {B : Type 0} (plan : Planned) (old new : Store B) : Type 0 where
   pub some : takes_none plan ≡ false → ChangesOnly (tree_of old) (tree_of new) plan.page

@@ -1,9 +1,8 @@
 //! Brings a page for a step.
-ghost use Rattle.std.specs.Prelude.{◌≡◌, [], ◌∷◌, Err, IfErr, OnOk, OnErr};
+ghost use Rattle.std.specs.Prelude.{◌≡◌, [], ◌∷◌, Err, OnOk};
 ghost use Rattle.gx_node.specs.Trees.{Used};
-ghost use Rattle.gx_node.specs.Owner.{CountsFaults, step_fails};
-ghost use Rattle.gx_node.specs.Owner.{Brings, AsksAtMost, KeepsSince, IsWhy, IsWhyLater, Asks};
 ghost use Rattle.gx_node.specs.Store.{Stays, tree_of};
+ghost use Rattle.gx_tree.specs.Calls.{ReadsPages};
 
 use gx_class::KeyClass;
 use gx_node::{Pages, StepFault};
@@ -17,13 +16,7 @@ pub(crate) fn bring_page<K: KeyClass, P: Pages<K>>(
 ) -> Result<(), StepFault<P::Fault>>
     ensures held { OnOk result (P.held pages.new page × Used (tree_of (P.store pages.new)) page) }
     ensures stays { Stays (P.steady pages.old) (P.store pages.old) (P.store pages.new) }
-    ensures steady { P.steady pages.old → P.steady pages.new }
-    ensures since { KeepsSince P.since pages.old pages.new }
-    ensures asked { OnOk result (Asks P.asked (Brings (page ∷ []) ∷ []) pages.old pages.new) }
-    ensures tried { OnErr result (AsksAtMost P.asked (page ∷ []) pages.old pages.new) }
-    ensures why { IfErr result (IsWhy (P.why pages.old pages.new)) }
-    ensures told { CountsFaults (step_fails P.fails) (P.faults pages.old) (P.faults pages.new) result }
-    ensures later { OnOk result (IsWhyLater P.why pages.old pages.new) }
+    ensures reads { ReadsPages P.Pages (page ∷ []) pages.old pages.new result }
     ensures damaged { result ≡ Err StepFault.Damaged → ¬ Used (tree_of (P.store pages.new)) page }
 {
     if page == 0 || pages.used() < page {

@@ -1,13 +1,10 @@
 //! The way down to the leaf for a coming pair.
-ghost use Rattle.std.specs.Prelude.{◌≡◌, ◌≢◌, ◌≤◌, ◌<◌, length, true, false, Err, IfSome, IfNone, IfOk, IfErr, OnOk};
-ghost use Rattle.std.specs.Prelude.{OnErr, ℕ, [], ◌∷◌};
+ghost use Rattle.std.specs.Prelude.{◌≡◌, ◌≢◌, ◌≤◌, ◌<◌, length, true, Err, IfSome, IfNone, IfOk, OnOk, ℕ, [], ◌∷◌};
 ghost use Rattle.std.specs.Bool.{OnTrue, OnFalse};
 ghost use Rattle.gx_node.specs.Reading.{format_of, is_node};
 ghost use Rattle.gx_node.specs.Trees.{Used};
-ghost use Rattle.gx_tree.specs.Descending.{Descends, SlotBelow, StepsDown, is_widened, next_of};
-ghost use Rattle.gx_node.specs.Owner.{CountsFaults, step_fails};
-ghost use Rattle.gx_node.specs.Owner.{KeepsSince, KeepsSinceBut, IsWhy, IsWhyLater, Brings, AsksAtMost, AsksToWrite};
-ghost use Rattle.gx_node.specs.Owner.{Asks, to_write};
+ghost use Rattle.gx_tree.specs.Calls.{ReadsPages, TellsDescend, WritesPage};
+ghost use Rattle.gx_tree.specs.Descending.{Descends, SlotBelow, is_widened, next_of};
 ghost use Rattle.gx_node.specs.Store.{node_of, tree_of, Stays};
 
 use crate::bring::bring_page;
@@ -138,13 +135,7 @@ pub fn way_step<K: KeyClass, P: Pages<K>>(
     most: usize,
 ) -> Result<Way<K::Key>, StepFault<P::Fault>>
     ensures stays { Stays (P.steady pages.old) (P.store pages.old) (P.store pages.new) }
-    ensures steady { P.steady pages.old → P.steady pages.new }
-    ensures since { KeepsSince P.since pages.old pages.new }
-    ensures asked { OnOk result (Asks P.asked (Brings (item.now.page ∷ []) ∷ []) pages.old pages.new) }
-    ensures tried { OnErr result (AsksAtMost P.asked (item.now.page ∷ []) pages.old pages.new) }
-    ensures why { IfErr result (IsWhy (P.why pages.old pages.new)) }
-    ensures told { CountsFaults (step_fails P.fails) (P.faults pages.old) (P.faults pages.new) result }
-    ensures later { OnOk result (IsWhyLater P.why pages.old pages.new) }
+    ensures reads { ReadsPages P.Pages (item.now.page ∷ []) pages.old pages.new result }
     ensures way { IfOk result (Descends K.cost K.joined most ((tree_of (P.store pages.new)).node item.now.page)
         item.now.seen coming.now) }
     ensures damaged { result ≡ Err StepFault.Damaged → Used (tree_of (P.store pages.new)) item.now.page
@@ -172,25 +163,12 @@ pub fn descend_step<K: KeyClass, P: PagesMut<K>>(
     coming: &K::Key,
     most: usize,
 ) -> Result<Descended<K::Key>, StepFault<P::Fault>>
-    ensures steady { P.steady pages.old → P.steady pages.new }
-    ensures since { KeepsSinceBut P.since item.now.page pages.old pages.new }
-    ensures kept { OnErr result (KeepsSince P.since pages.old pages.new) }
-    ensures asked { IfOk result (λ did. Asks P.asked (to_write (is_widened did) (item.now.page ∷ []) 0) pages.old
-        pages.new) }
-    ensures tried { OnErr result (AsksToWrite P.asked (item.now.page ∷ []) 0 pages.old pages.new) }
-    ensures read { IfOk result (λ did. is_widened did ≡ false → KeepsSince P.since pages.old pages.new) }
-    ensures why { IfErr result (IsWhy (P.why pages.old pages.new)) }
-    ensures told { CountsFaults (step_fails P.fails) (P.faults pages.old) (P.faults pages.new) result }
+    ensures tells { TellsDescend K.cost K.joined most item.now coming.now result (P.steady pages.old)
+        (P.store pages.old) (P.store pages.new) }
+    ensures writes { WritesPage P.Pages is_widened item.now.page pages.old pages.new result }
     ensures held { OnOk result (P.held pages.new item.now.page) }
     ensures changing { IfOk result (λ did. is_widened did ≡ true → P.changing pages.new item.now.page) }
-    ensures descended { P.steady pages.old
-        → IfOk result (StepsDown K.cost K.joined most (P.store pages.old) (P.store pages.new) item.now coming.now) }
     ensures slot { IfOk result (SlotBelow most) }
-    ensures refused { P.steady pages.old → OnErr result (P.store pages.new ≡ P.store pages.old) }
-    ensures damaged { P.steady pages.old → result ≡ Err StepFault.Damaged
-        → Used (tree_of (P.store pages.old)) item.now.page
-        → (0 < ((tree_of (P.store pages.old)).node item.now.page).level)
-        × (length ((tree_of (P.store pages.old)).node item.now.page).children ≡ 0) }
 {
     match way_step(pages, item, coming, most)? {
         Way::Again => Ok(Descended::Again),

@@ -1,16 +1,13 @@
 //! The steps that add a pair to a leaf, and that mark one.
-ghost use Rattle.std.specs.Prelude.{◌≡◌, ◌≢◌, ◌≤◌, ◌<◌, true, false, [], length, Err, OnOk};
-ghost use Rattle.std.specs.Prelude.{OnErr, IfOk, IfErr, ◌∷◌};
+ghost use Rattle.std.specs.Prelude.{◌≡◌, ◌≢◌, ◌≤◌, ◌<◌, true, [], length, Err, OnOk, IfOk, IfErr, ◌∷◌};
 ghost use Rattle.gx_machine.specs.declared.entry.Entry.{Entry};
 ghost use Rattle.gx_node.specs.declared.items.TheConstants.{MAX_ENTRIES};
 ghost use Rattle.gx_node.specs.Trees.{Used};
-ghost use Rattle.gx_node.specs.Owner.{CountsFaults, step_fails};
-ghost use Rattle.gx_node.specs.Owner.{KeepsSince, KeepsSinceBut, IsWhy, IsWhyLater, Brings, Prepares, AsksAtMost};
-ghost use Rattle.gx_node.specs.Owner.{AsksToWrite, Asks, to_write};
+ghost use Rattle.gx_node.specs.Owner.{CountsFaults, KeepsSince, Prepares, Asks};
+ghost use Rattle.gx_tree.specs.Calls.{ReadsPages, TellsAdd, TellsMark, WritesPage};
 ghost use Rattle.gx_tree.specs.Seeking.{is_here};
 ghost use Rattle.gx_node.specs.Store.{tree_of};
 ghost use Rattle.gx_tree.specs.Wants.{wants};
-ghost use Rattle.gx_tree.specs.Writing.{Appends, SetsMark};
 
 use crate::bring::bring_page;
 use crate::edits::{AppendPair, KeepSide, SetMark};
@@ -34,13 +31,7 @@ pub(crate) fn bring_leaf<K: KeyClass, P: PagesMut<K>>(
     ensures childless { OnOk result (((tree_of (P.store pages.new)).node page).children ≡ []) }
     ensures count { IfOk result (λ count. count ≡ length ((tree_of (P.store pages.new)).node page).pairs) }
     ensures same { P.steady pages.old → P.store pages.new ≡ P.store pages.old }
-    ensures steady { P.steady pages.old → P.steady pages.new }
-    ensures since { KeepsSince P.since pages.old pages.new }
-    ensures asked { OnOk result (Asks P.asked (Brings (page ∷ []) ∷ []) pages.old pages.new) }
-    ensures tried { OnErr result (AsksAtMost P.asked (page ∷ []) pages.old pages.new) }
-    ensures why { IfErr result (IsWhy (P.why pages.old pages.new)) }
-    ensures told { CountsFaults (step_fails P.fails) (P.faults pages.old) (P.faults pages.new) result }
-    ensures later { OnOk result (IsWhyLater P.why pages.old pages.new) }
+    ensures reads { ReadsPages P.Pages (page ∷ []) pages.old pages.new result }
     ensures damaged { result ≡ Err StepFault.Damaged → Used (tree_of (P.store pages.new)) page
         → ((tree_of (P.store pages.new)).node page).level ≢ 0 }
 {
@@ -83,20 +74,9 @@ pub fn add_step<K: KeyClass, P: PagesMut<K>>(
     most: usize,
 ) -> Result<(), StepFault<P::Fault>>
     requires most { most ≤ MAX_ENTRIES }
-    ensures steady { P.steady pages.old → P.steady pages.new }
-    ensures since { KeepsSinceBut P.since page pages.old pages.new }
-    ensures kept { OnErr result (KeepsSince P.since pages.old pages.new) }
-    ensures asked { OnOk result (Asks P.asked (to_write true (page ∷ []) 0) pages.old pages.new) }
-    ensures tried { OnErr result (AsksToWrite P.asked (page ∷ []) 0 pages.old pages.new) }
-    ensures why { IfErr result (IsWhy (P.why pages.old pages.new)) }
-    ensures told { CountsFaults (step_fails P.fails) (P.faults pages.old) (P.faults pages.new) result }
+    ensures tells { TellsAdd most page entry.now result (P.steady pages.old) (P.store pages.old) (P.store pages.new) }
+    ensures writes { WritesPage P.Pages (λ _. true) page pages.old pages.new result }
     ensures held { OnOk result (P.held pages.new page × P.changing pages.new page) }
-    ensures added { P.steady pages.old
-        → OnOk result (Appends most (tree_of (P.store pages.old)) (tree_of (P.store pages.new)) page entry.now) }
-    ensures refused { P.steady pages.old → OnErr result (P.store pages.new ≡ P.store pages.old) }
-    ensures damaged { P.steady pages.old → result ≡ Err StepFault.Damaged → Used (tree_of (P.store pages.old)) page
-        → ((tree_of (P.store pages.old)).node page).level ≡ 0
-        → most ≤ length ((tree_of (P.store pages.old)).node page).pairs }
 {
     if bring_leaf(pages, page)? >= most {
         return Err(StepFault::Damaged);
@@ -117,21 +97,11 @@ pub fn set_mark_step<K: Probing, P: PagesMut<K>>(
     page: u32,
     marked: bool,
 ) -> Result<Sought, StepFault<P::Fault>>
-    ensures steady { P.steady pages.old → P.steady pages.new }
-    ensures since { KeepsSinceBut P.since page pages.old pages.new }
-    ensures kept { OnErr result (KeepsSince P.since pages.old pages.new) }
-    ensures asked { IfOk result (λ sought. Asks P.asked (to_write (is_here sought) (page ∷ []) 0) pages.old pages.new) }
-    ensures tried { OnErr result (AsksToWrite P.asked (page ∷ []) 0 pages.old pages.new) }
-    ensures passed { IfOk result (λ sought. is_here sought ≡ false → KeepsSince P.since pages.old pages.new) }
-    ensures why { IfErr result (IsWhy (P.why pages.old pages.new)) }
-    ensures told { CountsFaults (step_fails P.fails) (P.faults pages.old) (P.faults pages.new) result }
+    ensures tells { TellsMark (wants K.passes wanted.now.keys wanted.now.row) page marked result (P.steady pages.old)
+        (P.store pages.old) (P.store pages.new) }
+    ensures writes { WritesPage P.Pages is_here page pages.old pages.new result }
     ensures held { OnOk result (P.held pages.new page) }
     ensures changing { IfOk result (λ sought. is_here sought ≡ true → P.changing pages.new page) }
-    ensures marked { P.steady pages.old → IfOk result (SetsMark (wants K.passes wanted.now.keys wanted.now.row)
-        (P.store pages.old) (P.store pages.new) page marked) }
-    ensures refused { P.steady pages.old → OnErr result (P.store pages.new ≡ P.store pages.old) }
-    ensures damaged { P.steady pages.old → result ≡ Err StepFault.Damaged → Used (tree_of (P.store pages.old)) page
-        → ((tree_of (P.store pages.old)).node page).level ≢ 0 }
 {
     match seek_step(pages, wanted, page)? {
         Sought::Here(slot, before) => {

@@ -1,15 +1,16 @@
 //! A look, which reads one page a step.
-ghost use Rattle.std.specs.Prelude.{◌≡◌, ◌<◌, ◌≤◌, ◌++◌, ◌∷◌, [], true, length, filter, map, ◌≢◌, List, ◌==◌};
-ghost use Rattle.std.specs.Prelude.{slice_get, Some, Err, IfOk, IfErr, OnOk, OnErr};
+ghost use Rattle.std.specs.Prelude.{◌≡◌, ◌<◌, ◌≤◌, ◌++◌, ◌∷◌, [], true, length, filter, map, List, ◌==◌};
+ghost use Rattle.std.specs.Prelude.{slice_get, Some, IfOk, IfErr, OnOk, OnErr};
 ghost use Rattle.gx_node.specs.Hits.{passing_of};
 ghost use Rattle.gx_node.specs.Reading.{format_of, is_node};
-ghost use Rattle.gx_node.specs.Trees.{Pair, Used};
+ghost use Rattle.gx_node.specs.Trees.{Pair};
 ghost use Rattle.gx_node.specs.Reach as reach;
 ghost use Rattle.gx_tree.specs.Found.{found_at};
-ghost use Rattle.gx_tree.specs.Looking.{below, item_of, LookStep, Reads};
+ghost use Rattle.gx_tree.specs.Calls.{TellsLook};
+ghost use Rattle.gx_tree.specs.Looking.{below, item_of, Reads};
 ghost use Rattle.gx_node.specs.Owner.{CountsFaults, look_fails};
 ghost use Rattle.gx_node.specs.Owner.{AsksAtMost, KeepsSince, IsWhyOfLook, IsWhyLater, Brings, Asks};
-ghost use Rattle.gx_node.specs.Store.{node_of, tree_of, Stays};
+ghost use Rattle.gx_node.specs.Store.{node_of};
 ghost use Rattle.gx_tree.specs.Wants.{has_row, wants};
 
 use crate::bring::bring_page;
@@ -203,7 +204,8 @@ pub fn look_step<K: Probing, P: Pages<K>>(
     look: &mut Look<K::Key>,
 ) -> Result<(), LookFault<P::Fault>>
     requires { 0 < length look.old.stack.items }
-    ensures stays { Stays (P.steady pages.old) (P.store pages.old) (P.store pages.new) }
+    ensures tells { TellsLook (wants K.passes wanted.now.keys wanted.now.row) (K.passes wanted.now.bounds) look.old
+        look.new result (P.steady pages.old) (P.store pages.old) (P.store pages.new) }
     ensures steady { P.steady pages.old → P.steady pages.new }
     ensures since { KeepsSince P.since pages.old pages.new }
     ensures asked { OnOk result ((rest : List reach.TraversalItem) (item : reach.TraversalItem)
@@ -214,13 +216,6 @@ pub fn look_step<K: Probing, P: Pages<K>>(
     ensures why { IfErr result (IsWhyOfLook (P.why pages.old pages.new)) }
     ensures told { CountsFaults (look_fails P.fails) (P.faults pages.old) (P.faults pages.new) result }
     ensures later { OnOk result (IsWhyLater P.why pages.old pages.new) }
-    ensures step { OnOk result (LookStep (tree_of (P.store pages.new)) (wants K.passes wanted.now.keys wanted.now.row)
-        (K.passes wanted.now.bounds) look.old.stack.items look.new.stack.items
-        look.old.found.items look.new.found.items) }
-    ensures damaged { result ≡ Err (LookFault.Step StepFault.Damaged)
-        → (rest : List reach.TraversalItem) (item : reach.TraversalItem)
-        → look.old.stack.items ≡ rest ++ item ∷ [] → ¬ Used (tree_of (P.store pages.new)) item.page }
-    ensures refused { OnErr result (result ≢ Err LookFault.Memory → look.new ≡ look.old) }
 {
     let item = look.stack.last();
     bring_page(pages, item.page())?;

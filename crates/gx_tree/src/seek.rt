@@ -1,11 +1,9 @@
 //! The way to a pair that was found before.
-ghost use Rattle.std.specs.Prelude.{◌≡◌, ◌≢◌, ◌≤◌, length, map, Err, IfOk, IfErr, OnOk, [], ◌∷◌, OnErr};
+ghost use Rattle.std.specs.Prelude.{◌≤◌, length, map, OnOk, [], ◌∷◌};
 ghost use Rattle.gx_node.specs.Hits.{IsNextHit};
 ghost use Rattle.gx_node.specs.Trees.{Used};
-ghost use Rattle.gx_node.specs.Owner.{CountsFaults, step_fails};
-ghost use Rattle.gx_node.specs.Owner.{KeepsSince, IsWhy, IsWhyLater, Brings, AsksAtMost, Asks};
-ghost use Rattle.gx_tree.specs.Seeking.{Seeks};
-ghost use Rattle.gx_node.specs.Store.{tree_of, Stays};
+ghost use Rattle.gx_tree.specs.Calls.{ReadsPages, TellsSeek};
+ghost use Rattle.gx_node.specs.Store.{tree_of};
 ghost use Rattle.gx_tree.specs.Wants.{wants};
 
 use crate::bring::bring_page;
@@ -51,18 +49,9 @@ pub fn seek_step<K: Probing, P: Pages<K>>(
     page: u32,
 ) -> Result<Sought, StepFault<P::Fault>>
     ensures held { OnOk result (P.held pages.new page × Used (tree_of (P.store pages.new)) page) }
-    ensures stays { Stays (P.steady pages.old) (P.store pages.old) (P.store pages.new) }
-    ensures steady { P.steady pages.old → P.steady pages.new }
-    ensures since { KeepsSince P.since pages.old pages.new }
-    ensures asked { OnOk result (Asks P.asked (Brings (page ∷ []) ∷ []) pages.old pages.new) }
-    ensures tried { OnErr result (AsksAtMost P.asked (page ∷ []) pages.old pages.new) }
-    ensures why { IfErr result (IsWhy (P.why pages.old pages.new)) }
-    ensures told { CountsFaults (step_fails P.fails) (P.faults pages.old) (P.faults pages.new) result }
-    ensures later { OnOk result (IsWhyLater P.why pages.old pages.new) }
-    ensures sought { IfOk result (Seeks (wants K.passes wanted.now.keys wanted.now.row)
-        ((tree_of (P.store pages.new)).node page)) }
-    ensures damaged { result ≡ Err StepFault.Damaged → Used (tree_of (P.store pages.new)) page
-        → ((tree_of (P.store pages.new)).node page).level ≢ 0 }
+    ensures tells { TellsSeek (wants K.passes wanted.now.keys wanted.now.row) page result (P.steady pages.old)
+        (P.store pages.old) (P.store pages.new) }
+    ensures reads { ReadsPages P.Pages (page ∷ []) pages.old pages.new result }
 {
     bring_page(pages, page)?;
     let page = pages.page(page);

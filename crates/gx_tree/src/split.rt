@@ -4,13 +4,12 @@ ghost use Rattle.std.specs.Prelude.{slice_index_or, ◌==◌, Err, IfOk, IfErr, 
 ghost use Rattle.gx_node.specs.Hits.{IsNextHit};
 ghost use Rattle.gx_node.specs.Reading.{format_of, is_node};
 ghost use Rattle.gx_node.specs.declared.items.TheConstants.{MAX_ENTRIES};
-ghost use Rattle.gx_node.specs.Legal.{Legal};
 ghost use Rattle.gx_node.specs.Trees.{Used, size, times, child_pages};
 ghost use Rattle.gx_node.specs.Keyed.{rules_of};
-ghost use Rattle.gx_node.specs.Owner.{CountsFaults, split_fails, step_fails};
-ghost use Rattle.gx_node.specs.Owner.{KeepsSince, KeepsSinceBut, IsWhy, IsWhyLater, Brings, AsksAtMost, AsksToWrite};
-ghost use Rattle.gx_node.specs.Owner.{Asks, IsWhyOfSplit, to_write};
-ghost use Rattle.gx_tree.specs.Splitting.{NamesOnce, CanSplit, DidSplit, HasNoPlace, Splits, parent_of, has_split};
+ghost use Rattle.gx_node.specs.Owner.{CountsFaults, split_fails, KeepsSince, KeepsSinceBut, AsksToWrite, Asks};
+ghost use Rattle.gx_node.specs.Owner.{IsWhyOfSplit, to_write};
+ghost use Rattle.gx_tree.specs.Calls.{ReadsPages, TellsSplit};
+ghost use Rattle.gx_tree.specs.Splitting.{NamesOnce, CanSplit, DidSplit, HasNoPlace, parent_of, has_split};
 ghost use Rattle.gx_node.specs.Store.{node_of, node_at, tree_of, Stays, with_node};
 
 use crate::edits::{AppendChild, Link, SetBound};
@@ -97,13 +96,7 @@ fn bring_both<K: KeyClass, P: Pages<K>>(
     ensures used { OnOk result (Used (tree_of (P.store pages.new)) page × Used (tree_of (P.store pages.new)) parent
         × (page ≢ parent)) }
     ensures stays { Stays (P.steady pages.old) (P.store pages.old) (P.store pages.new) }
-    ensures steady { P.steady pages.old → P.steady pages.new }
-    ensures since { KeepsSince P.since pages.old pages.new }
-    ensures asked { OnOk result (Asks P.asked (Brings (page ∷ parent ∷ []) ∷ []) pages.old pages.new) }
-    ensures tried { OnErr result (AsksAtMost P.asked (page ∷ parent ∷ []) pages.old pages.new) }
-    ensures why { IfErr result (IsWhy (P.why pages.old pages.new)) }
-    ensures told { CountsFaults (step_fails P.fails) (P.faults pages.old) (P.faults pages.new) result }
-    ensures later { OnOk result (IsWhyLater P.why pages.old pages.new) }
+    ensures reads { ReadsPages P.Pages (page ∷ parent ∷ []) pages.old pages.new result }
     ensures damaged { result ≡ Err StepFault.Damaged → Used (tree_of (P.store pages.new)) page
         → Used (tree_of (P.store pages.new)) parent → page ≡ parent }
 {
@@ -264,6 +257,8 @@ pub fn split_step<K: KeyClass, P: PagesMut<K>>(
 ) -> Result<Option<Split<K::Key>>, SplitFault<P::Fault>>
     requires most { (4 ≤ most) × (most ≤ MAX_ENTRIES) }
     requires space { MAX_ENTRIES ≤ length keys.old }
+    ensures tells { TellsSplit (rules_of K.Key.Shape most) K.sides_of K.is_key page parent result (P.steady pages.old)
+        (P.store pages.old) (P.store pages.new) }
     ensures steady { P.steady pages.old → P.steady pages.new }
     ensures since { (was : P) (q : ℕ) → q ≢ page → q ≢ parent → q ≢ suc (length (P.store pages.old).nodes)
         → P.since was pages.old q → P.since was pages.new q }
@@ -280,24 +275,8 @@ pub fn split_step<K: KeyClass, P: PagesMut<K>>(
         P.changing pages.new page × P.changing pages.new parent × P.changing pages.new split.sibling)) }
     ensures sibling { IfOk result (λ did. IfSome did (λ split.
         split.sibling ≡ suc (length (P.store pages.old).nodes))) }
-    ensures keys { IfOk result (λ did. IfSome did (λ split. K.is_key split.left × K.is_key split.right)) }
-    ensures apart { IfOk result (λ did. IfSome did (λ split.
-        (page ≢ parent) × (split.sibling ≢ page) × (split.sibling ≢ parent))) }
-    ensures only_full { P.steady pages.old
-        → IfOk result (λ did. IfSome did (λ _. most ≤ size (node_at (P.store pages.old).nodes page))) }
-    ensures placed { P.steady pages.old → result ≡ Err SplitFault.PagesFull
-        → ¬ HasNoPlace (rules_of K.Key.Shape most) (tree_of (P.store pages.old)) page parent }
-    ensures split { P.steady pages.old
-        → IfOk result (Splits (rules_of K.Key.Shape most) K.sides_of (P.store pages.old) (P.store pages.new) page
-        parent) }
-    ensures refused { P.steady pages.old → OnErr result (P.store pages.new ≡ P.store pages.old) }
     ensures full { P.steady pages.old → result ≡ Err SplitFault.PagesFull
         → (P.store pages.old).room ≤ length (P.store pages.old).nodes }
-    ensures damaged { P.steady pages.old → result ≡ Err (SplitFault.Step StepFault.Damaged)
-        → Legal (rules_of K.Key.Shape most) (tree_of (P.store pages.old)) → Used (tree_of (P.store pages.old)) page
-        → Used (tree_of (P.store pages.old)) parent → page ≢ parent
-        → 0 < (node_at (P.store pages.old).nodes parent).level → most ≤ size (node_at (P.store pages.old).nodes page)
-        → (P.store pages.old).counter + 1 < 2 ^ 64 → ⊥ }
 {
     bring_both(pages, page, parent)?;
     let Some((slot, halves)) = plan_split(pages, page, parent, most, keys)? else {

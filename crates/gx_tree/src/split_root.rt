@@ -2,11 +2,10 @@
 ghost use Rattle.std.specs.Prelude.{true, ◌≡◌, ◌≢◌, ◌<◌, ◌≤◌, ◌+◌, ◌^◌, ◌⊎◌, ℕ, suc, length, Err, IfOk, IfErr, OnOk};
 ghost use Rattle.std.specs.Prelude.{OnErr, [], ◌∷◌};
 ghost use Rattle.gx_node.specs.declared.items.TheConstants.{MAX_ENTRIES};
-ghost use Rattle.gx_node.specs.Legal.{Legal};
 ghost use Rattle.gx_node.specs.Trees.{Used, size};
 ghost use Rattle.gx_node.specs.Keyed.{rules_of};
-ghost use Rattle.gx_node.specs.Owner.{CountsFaults, split_fails};
-ghost use Rattle.gx_node.specs.Owner.{KeepsSince, IsWhyOfSplit, AsksToWrite, Asks, to_write};
+ghost use Rattle.gx_node.specs.Owner.{CountsFaults, split_fails, KeepsSince, IsWhyOfSplit, AsksToWrite, Asks, to_write};
+ghost use Rattle.gx_tree.specs.Calls.{TellsRootSplit};
 ghost use Rattle.gx_tree.specs.Splitting.{CanSplitRoot, DidSplitRoot};
 ghost use Rattle.gx_node.specs.Store.{node_at, tree_of};
 
@@ -143,6 +142,8 @@ pub fn split_root_step<K: KeyClass, P: PagesMut<K>>(
 ) -> Result<RootSplit<K::Key>, SplitFault<P::Fault>>
     requires most { (4 ≤ most) × (most ≤ MAX_ENTRIES) }
     requires space { MAX_ENTRIES ≤ length keys.old }
+    ensures tells { TellsRootSplit (rules_of K.Key.Shape most) K.sides_of K.is_key result (P.steady pages.old)
+        (P.store pages.old) (P.store pages.new) }
     ensures steady { P.steady pages.old → P.steady pages.new }
     ensures since { (was : P) (q : ℕ) → q ≢ 1 → q ≢ suc (length (P.store pages.old).nodes)
         → q ≢ suc (suc (length (P.store pages.old).nodes)) → P.since was pages.old q → P.since was pages.new q }
@@ -156,17 +157,8 @@ pub fn split_root_step<K: KeyClass, P: PagesMut<K>>(
         × P.changing pages.new did.second) }
     ensures places { IfOk result (λ did. (did.first ≡ suc (length (P.store pages.old).nodes))
         × (did.second ≡ suc (suc (length (P.store pages.old).nodes)))) }
-    ensures keys { IfOk result (λ did. K.is_key did.left × K.is_key did.right) }
-    ensures only_full { P.steady pages.old → OnOk result (most ≤ size (node_at (P.store pages.old).nodes 1)) }
-    ensures split { P.steady pages.old
-        → IfOk result (DidSplitRoot (rules_of K.Key.Shape most) K.sides_of (P.store pages.old) (P.store pages.new)) }
-    ensures refused { P.steady pages.old → OnErr result (P.store pages.new ≡ P.store pages.old) }
     ensures full { P.steady pages.old → result ≡ Err SplitFault.PagesFull
         → (P.store pages.old).room < length (P.store pages.old).nodes + 2 }
-    ensures damaged { P.steady pages.old → result ≡ Err (SplitFault.Step StepFault.Damaged)
-        → Legal (rules_of K.Key.Shape most) (tree_of (P.store pages.old))
-        → most ≤ size (node_at (P.store pages.old).nodes 1) → (node_at (P.store pages.old).nodes 1).level + 1 < 2 ^ 16
-        → ⊥ }
 {
     bring_page(pages, 1)?;
     let halves = plan_root(pages, most, keys)?;

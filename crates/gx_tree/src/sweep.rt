@@ -6,12 +6,11 @@ ghost use Rattle.gx_node.specs.Edits.{entry_of};
 ghost use Rattle.gx_node.specs.declared.items.TheConstants.{MAX_ENTRIES};
 ghost use Rattle.gx_node.specs.Trees.{Pair, Used};
 ghost use Rattle.gx_node.specs.Writes.{is_sweepable};
-ghost use Rattle.gx_node.specs.Owner.{CountsFaults, step_fails};
-ghost use Rattle.gx_node.specs.Owner.{KeepsSince, KeepsSinceBut, IsWhy, IsWhyLater, Brings, AsksAtMost, AsksToWrite};
-ghost use Rattle.gx_node.specs.Owner.{Asks, to_write};
+ghost use Rattle.gx_node.specs.Owner.{CountsFaults, KeepsSince, KeepsSinceBut, Asks};
 ghost use Rattle.gx_node.specs.Store.{tree_of};
-ghost use Rattle.gx_tree.specs.Sweeping.{FitsLeaf, PlansSweep, TakesOut, slots_from, slots_of, takes_none, to_take_out};
-ghost use Rattle.gx_tree.specs.Writing.{Swept};
+ghost use Rattle.gx_tree.specs.Calls.{ReadsPages, TellsSweep, WritesPage};
+ghost use Rattle.gx_tree.specs.Sweeping.{Answers, FitsLeaf, PlansSweep, TakesOut, slots_from, slots_of, takes_none};
+ghost use Rattle.gx_tree.specs.Sweeping.{to_take_out};
 
 use crate::edits::KeepSide;
 use crate::leaf_steps::{bring_leaf, prepare_page};
@@ -153,18 +152,11 @@ pub fn plan_sweep<K: KeyClass, P: PagesMut<K>, F: Fn(Entry<K::Key>) -> bool>(
 ) -> Result<Sweep, StepFault<P::Fault>>
     requires claimed { F.IsAlwaysCallable claimed }
     ensures same { P.steady pages.old → P.store pages.new ≡ P.store pages.old }
-    ensures steady { P.steady pages.old → P.steady pages.new }
-    ensures since { KeepsSince P.since pages.old pages.new }
-    ensures asked { OnOk result (Asks P.asked (Brings (page ∷ []) ∷ []) pages.old pages.new) }
-    ensures tried { OnErr result (AsksAtMost P.asked (page ∷ []) pages.old pages.new) }
-    ensures why { IfErr result (IsWhy (P.why pages.old pages.new)) }
-    ensures told { CountsFaults (step_fails P.fails) (P.faults pages.old) (P.faults pages.new) result }
-    ensures later { OnOk result (IsWhyLater P.why pages.old pages.new) }
+    ensures reads { ReadsPages P.Pages (page ∷ []) pages.old pages.new result }
     ensures held { OnOk result (P.held pages.new page × Used (tree_of (P.store pages.new)) page) }
     ensures page { IfOk result (λ sweep. sweep.page ≡ page) }
     ensures fits { IfOk result (λ sweep. FitsLeaf sweep ((tree_of (P.store pages.new)).node page)) }
-    ensures plans { (test : Entry K.Key → Bool)
-        → ((entry : Entry K.Key) (answer : Bool) → F.post claimed entry answer → answer ≡ test entry)
+    ensures plans { (test : Entry K.Key → Bool) → Answers F.post claimed test
         → IfOk result (PlansSweep test ((tree_of (P.store pages.new)).node page)) }
     ensures damaged { result ≡ Err StepFault.Damaged → Used (tree_of (P.store pages.new)) page
         → ((tree_of (P.store pages.new)).node page).level ≡ 0
@@ -226,23 +218,11 @@ pub fn sweep_step<K: KeyClass, P: PagesMut<K>, F: Fn(Entry<K::Key>) -> bool>(
     claimed: F,
 ) -> Result<bool, StepFault<P::Fault>>
     requires claimed { F.IsAlwaysCallable claimed }
-    ensures steady { P.steady pages.old → P.steady pages.new }
-    ensures since { KeepsSinceBut P.since page pages.old pages.new }
-    ensures kept { OnErr result (KeepsSince P.since pages.old pages.new) }
-    ensures asked { IfOk result (λ any. Asks P.asked (to_write any (page ∷ []) 0) pages.old pages.new) }
-    ensures tried { OnErr result (AsksToWrite P.asked (page ∷ []) 0 pages.old pages.new) }
-    ensures spared { IfOk result (λ any. any ≡ false → KeepsSince P.since pages.old pages.new) }
-    ensures why { IfErr result (IsWhy (P.why pages.old pages.new)) }
-    ensures told { CountsFaults (step_fails P.fails) (P.faults pages.old) (P.faults pages.new) result }
+    ensures tells { TellsSweep (Answers F.post claimed) page result (P.steady pages.old) (P.store pages.old)
+        (P.store pages.new) }
+    ensures writes { WritesPage P.Pages (λ any. any) page pages.old pages.new result }
     ensures held { OnOk result (P.held pages.new page) }
     ensures changing { IfOk result (λ any. any ≡ true → P.changing pages.new page) }
-    ensures swept { P.steady pages.old → (test : Entry K.Key → Bool)
-        → ((entry : Entry K.Key) (answer : Bool) → F.post claimed entry answer → answer ≡ test entry)
-        → IfOk result (Swept test (P.store pages.old) (P.store pages.new) page) }
-    ensures refused { P.steady pages.old → OnErr result (P.store pages.new ≡ P.store pages.old) }
-    ensures damaged { P.steady pages.old → result ≡ Err StepFault.Damaged → Used (tree_of (P.store pages.old)) page
-        → ((tree_of (P.store pages.old)).node page).level ≡ 0
-        → MAX_ENTRIES < length ((tree_of (P.store pages.old)).node page).pairs }
 {
     let sweep = plan_sweep(pages, page, claimed)?;
     if sweep.is_empty() {

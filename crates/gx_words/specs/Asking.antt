@@ -5,7 +5,7 @@ use Rattle.clap.specs.Words.{HasKind, IsSignedIn, Row, Text, fault_of, first_of,
 use Rattle.clap.specs.declared.error.Error.{Error}
 use Rattle.gx_words.specs.Program.{AreClasses, ClassWords, gist_app}
 use Rattle.gx_words.specs.declared.asking.AskedCommand.{AskedCommand}
-use Rattle.gx_words.specs.declared.asking.AskedCommand.TheVariants.{Plain, Format, Run, Dump, Verify, Storm}
+use Rattle.gx_words.specs.declared.asking.AskedCommand.TheVariants.{Plain, Format, Run, Dump, Verify, Migrate, Storm}
 use Rattle.gx_words.specs.declared.asking.Dimensions.{Dimensions}
 use Rattle.gx_words.specs.declared.asking.Dimensions.TheVariants.{Two, Three}
 
@@ -44,6 +44,12 @@ pub record IsRun (rows : List Row) (file : Text) (frames : ℕ) : Type 0 where
 abbrev pub IsDump : List Row → Text → Type 0
 IsDump rows file = first_of (codes "FILE") rows ≡ Some file
 
+-- what is given to `migrate`
+pub record IsMigrate (rows : List Row) (old new : Text) (frames : ℕ) : Type 0 where
+  pub old_is : first_of (codes "OLD") rows ≡ Some old
+  pub new_is : first_of (codes "NEW") rows ≡ Some new
+  pub frames_are : IsNumber rows (codes "frames") 16 4096 frames
+
 -- what is given to `storm`
 pub record IsStorm (rows : List Row) (seed sessions calls : ℕ) : Type 0 where
   pub seed_is : IsNumber rows (codes "SEED") 0 4294967295 seed
@@ -57,6 +63,7 @@ Asks name rows (Format file pages most dimensions) = (name ≡ codes "format") �
 Asks name rows (Run file frames) = (name ≡ codes "run") × IsRun rows file.now frames
 Asks name rows (Dump file) = (name ≡ codes "dump") × IsDump rows file.now
 Asks name rows (Verify file) = (name ≡ codes "verify") × IsDump rows file.now
+Asks name rows (Migrate old new frames) = (name ≡ codes "migrate") × IsMigrate rows old.now new.now frames
 Asks name rows (Storm seed sessions calls) = (name ≡ codes "storm") × IsStorm rows seed sessions calls
 
 -- what is asked for, by the command that was found
@@ -94,6 +101,14 @@ pub record HasDump (rows : List Row) : Type 0 where
   pub file : Text
   pub file_is : first_of (codes "FILE") rows ≡ Some file
 
+-- all that `migrate` wants
+pub record HasMigrate (rows : List Row) : Type 0 where
+  pub old : Text
+  pub old_is : first_of (codes "OLD") rows ≡ Some old
+  pub new : Text
+  pub new_is : first_of (codes "NEW") rows ≡ Some new
+  pub frames : IsAccepted rows (codes "frames") 16 4096
+
 -- all that `storm` wants
 pub record HasStorm (rows : List Row) : Type 0 where
   pub seed : IsAccepted rows (codes "SEED") 0 4294967295
@@ -106,7 +121,7 @@ IsWhole None = ⊥
 IsWhole (Some command) =
     ((command.0 ≡ codes "plain") × HasClass command.1) ⊎ ((command.0 ≡ codes "format") × HasFormat command.1) ⊎ ((command.0 ≡ codes "run") × HasRun command.1)
     ⊎ ((command.0 ≡ codes "dump") × HasDump command.1) ⊎ ((command.0 ≡ codes "verify") × HasDump command.1)
-    ⊎ ((command.0 ≡ codes "storm") × HasStorm command.1)
+    ⊎ ((command.0 ≡ codes "migrate") × HasMigrate command.1) ⊎ ((command.0 ≡ codes "storm") × HasStorm command.1)
 
 -- Nothing is wrong with the arguments, and they ask for this.
 pub record WordsAsk (words : List Text) (asked : AskedCommand) : Type 0 where

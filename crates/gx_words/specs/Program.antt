@@ -65,15 +65,19 @@ dump_app = with_rule (new_app (codes "dump")) (wanted_rule (codes "FILE"))
 abbrev pub verify_app : App
 verify_app = with_rule (new_app (codes "verify")) (wanted_rule (codes "FILE"))
 
+-- `migrate OLD NEW [--frames N]`
+abbrev pub migrate_app : App
+migrate_app = with_rule (with_rule (with_rule (new_app (codes "migrate")) (wanted_rule (codes "OLD"))) (wanted_rule (codes "NEW"))) frames_rule
+
 -- `storm SEED SESSIONS CALLS`, with a seed below 2^32, 1 to 8 sessions and 1 to 2,000 calls
 abbrev pub storm_app : App
 storm_app = with_rule (with_rule (with_rule (new_app (codes "storm")) (number_rule (codes "SEED") 0 4294967295))
     (number_rule (codes "SESSIONS") 1 8)) (number_rule (codes "CALLS") 1 2000)
 
--- `gist`, which wants a command, and its six commands
+-- `gist`, which wants a command, and its seven commands
 unfoldable pub gist_app : ClassWords → App
-gist_app words = with_subcommand (with_subcommand (with_subcommand (with_subcommand (with_subcommand (with_subcommand (with_required (new_app (codes "gist")))
-    (plain_app words).top) (format_app words).top) run_app.top) dump_app.top) verify_app.top) storm_app.top
+gist_app words = with_subcommand (with_subcommand (with_subcommand (with_subcommand (with_subcommand (with_subcommand (with_subcommand (with_required (new_app (codes "gist")))
+    (plain_app words).top) (format_app words).top) run_app.top) dump_app.top) verify_app.top) migrate_app.top) storm_app.top
 
 -- the command is this one, and none of its arguments is for the commands below it too
 abbrev pub Is : App → Command → Type 0

@@ -2,7 +2,7 @@
 ghost use Rattle.std.specs.Prelude.{◌≡◌, codes, ℕ};
 ghost use Rattle.clap.specs.Words.{found_of, rows_of, subcommand_rows_of};
 ghost use Rattle.gx_words.specs.Asking.{IsAccepted, IsNumber, IsOfClass, HasClass, HasFormat, HasRun};
-ghost use Rattle.gx_words.specs.Asking.{HasDump, HasStorm, Asks, IsAsked, IsWhole, class_word};
+ghost use Rattle.gx_words.specs.Asking.{HasDump, HasMigrate, HasStorm, Asks, IsAsked, IsWhole, class_word};
 ghost use Rattle.gx_words.specs.declared.asking.Dimensions.{Dimensions};
 
 use clap::ArgMatches;
@@ -52,6 +52,15 @@ pub enum AskedCommand<'a> {
         /// The file's path.
         file: &'a str,
     },
+    /// The index of a file of the format's first version, laid down in another file.
+    Migrate {
+        /// The path of the file of the first version.
+        old: &'a str,
+        /// The path of the other file.
+        new: &'a str,
+        /// How many pages are held in memory, 16 to 4,096.
+        frames: usize,
+    },
     /// Sessions in threads that make random calls, on an index in memory.
     Storm {
         /// The seed of the random calls.
@@ -73,6 +82,7 @@ pub(crate) fn what_is_asked<'a>(found: &ArgMatches<'a>) -> AskedCommand<'a>
         Some(("run", given)) => run_of(given),
         Some(("dump", given)) => dump_of(given),
         Some(("verify", given)) => verify_of(given),
+        Some(("migrate", given)) => migrate_of(given),
         Some(("storm", given)) => storm_of(given),
         Some((_, given)) => plain_of(given),
         None => unreachable!(),
@@ -109,7 +119,7 @@ fn run_of<'a>(given: &ArgMatches<'a>) -> AskedCommand<'a>
 {
     AskedCommand::Run {
         file: given.get_str("FILE").unwrap(),
-        frames: number(given, "frames") as usize,
+        frames: frames_of(given),
     }
 }
 
@@ -130,6 +140,18 @@ fn verify_of<'a>(given: &ArgMatches<'a>) -> AskedCommand<'a>
 {
     AskedCommand::Verify {
         file: given.get_str("FILE").unwrap(),
+    }
+}
+
+// The arguments of `migrate`.
+fn migrate_of<'a>(given: &ArgMatches<'a>) -> AskedCommand<'a>
+    requires { HasMigrate (rows_of (found_of given.now)) }
+    ensures { Asks (codes "migrate") (rows_of (found_of given.now)) result }
+{
+    AskedCommand::Migrate {
+        old: given.get_str("OLD").unwrap(),
+        new: given.get_str("NEW").unwrap(),
+        frames: frames_of(given),
     }
 }
 
@@ -163,6 +185,14 @@ fn dimensions_named(word: &str) -> Dimensions
     } else {
         Dimensions::Two
     }
+}
+
+// How many pages are to be held in memory.
+fn frames_of(given: &ArgMatches) -> usize
+    requires { IsAccepted (rows_of (found_of given.now)) (codes "frames") 16 4096 }
+    ensures { IsNumber (rows_of (found_of given.now)) (codes "frames") 16 4096 result }
+{
+    number(given, "frames") as usize
 }
 
 // The number under this name, which passed clap's test for one.

@@ -3,8 +3,8 @@ ghost use Rattle.std.specs.Prelude.{◌≡◌, map, codes, IfOk, IfErr};
 ghost use Rattle.clap.specs.Words.{app_of, new_app};
 ghost use Rattle.gx_words.specs.Asking.{IsErrorOf, WordsAsk};
 ghost use Rattle.gx_words.specs.Program.{gist_app, with_required, plain_app, format_app, run_app, dump_app};
-ghost use Rattle.gx_words.specs.Program.{verify_app, storm_app, wanted_rule, number_rule, frames_rule, class_rule};
-ghost use Rattle.gx_words.specs.Program.{AreClasses, Is, IsRule};
+ghost use Rattle.gx_words.specs.Program.{verify_app, migrate_app, storm_app, wanted_rule, number_rule, frames_rule};
+ghost use Rattle.gx_words.specs.Program.{class_rule, AreClasses, Is, IsRule};
 
 use crate::asking::{AskedCommand, what_is_asked};
 use clap::builder::ValueParser;
@@ -31,6 +31,10 @@ const DUMP: &str =
 /// How an index is verified.
 const VERIFY: &str =
     "Whether the index in the file places.gist is sound, and what it holds; the file stays as it is:\n\ngist verify places.gist\n\ndocs/SCRIPT.md has the line and the refusals.";
+
+/// How an index of the first version is brought into a file of this one.
+const MIGRATE: &str =
+    "The index of the first version in the file places.old, in the file places.gist as one of this version; places.old stays as it is:\n\ngist migrate places.old places.gist\n\nplaces.gist is made if it isn't there, and what it held is lost. docs/SCRIPT.md has the line and the refusals, docs/OPERATING.md the whole way.";
 
 /// What a storm is.
 const STORM: &str =
@@ -95,6 +99,17 @@ fn verify<'a>(alloc: Global) -> Result<Command<'a>, AllocError>
         .arg(file(alloc))
 }
 
+fn migrate<'a>(alloc: Global) -> Result<Command<'a>, AllocError>
+    ensures { IfOk result (Is migrate_app) }
+{
+    Command::new(alloc, "migrate")
+        .about("Makes an index of this version, in another file, of one of the first version")
+        .after_help(MIGRATE)
+        .arg(old(alloc))?
+        .arg(new(alloc))?
+        .arg(frames(alloc))
+}
+
 fn storm<'a>(alloc: Global) -> Result<Command<'a>, AllocError>
     ensures { IfOk result (Is storm_app) }
 {
@@ -114,6 +129,22 @@ fn file<'a>(alloc: Global) -> Arg<'a>
     Arg::new(alloc, "FILE")
         .required(true)
         .help("The file that holds the index")
+}
+
+fn old<'a>(alloc: Global) -> Arg<'a>
+    ensures { IsRule (wanted_rule (codes "OLD")) result }
+{
+    Arg::new(alloc, "OLD").required(true).help(
+        "The file that holds the index of the first version; it is only read",
+    )
+}
+
+fn new<'a>(alloc: Global) -> Arg<'a>
+    ensures { IsRule (wanted_rule (codes "NEW")) result }
+{
+    Arg::new(alloc, "NEW").required(true).help(
+        "Another file, for the index of this version; what it held is lost",
+    )
 }
 
 fn pages<'a>(alloc: Global) -> Arg<'a>
@@ -200,6 +231,7 @@ fn command<'a>(alloc: Global, classes: &'a [&'a str]) -> Result<Command<'a>, All
         .subcommand(run(alloc)?)?
         .subcommand(dump(alloc)?)?
         .subcommand(verify(alloc)?)?
+        .subcommand(migrate(alloc)?)?
         .subcommand(storm(alloc)?)
 }
 

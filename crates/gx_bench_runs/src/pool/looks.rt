@@ -1,5 +1,6 @@
 //! Pages laid down, made in frames, and looked at.
 ghost use Rattle.std.specs.Prelude.{◌≡◌, ◌+◌, ◌*◌, ◌≤◌};
+ghost use Rattle.gx_disk.specs.declared.layout.TheConstants.{PAGES_AT, PAGE_SECTORS};
 ghost use Rattle.gx_pool.specs.Area.{IsPage};
 
 use crate::leaves::leaf;
@@ -45,7 +46,7 @@ fn lay<D: SectorDisk>(alloc: Global, disk: &mut D, page: u32) -> Option<()>
 /// Writes the sectors of all pages up to a number.
 pub(crate) fn lay_all<D: SectorDisk>(alloc: Global, disk: &mut D, pages: u32) -> Option<()>
     requires few { pages ≤ 65535 }
-    requires inside { 4168 + 8 * pages ≤ (D.state disk.old).sectors }
+    requires inside { PAGES_AT + PAGE_SECTORS * pages ≤ (D.state disk.old).sectors }
     ensures { (D.state disk.new).sectors ≡ (D.state disk.old).sectors }
 {
     for page in 1..pages + 1 {
@@ -88,7 +89,7 @@ pub(crate) fn look_at_many<D: SectorDisk>(
 ) -> Result<u64, PoolFault>
     requires some { 1 ≤ pages }
     requires few { pages ≤ 65535 }
-    requires inside { 4168 + 8 * pages ≤ (D.state disk.old).sectors }
+    requires inside { PAGES_AT + PAGE_SECTORS * pages ≤ (D.state disk.old).sectors }
 {
     let mut state = 7;
     let mut sum: u64 = 0;

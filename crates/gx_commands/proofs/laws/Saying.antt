@@ -2,7 +2,7 @@
 use Rattle.std.proofs.Common.{◌≡◌, ◌∙◌, sym, refl, subst, inl, inr, ⊎_elim, ℕ, ◌+◌, ◌≤◌, Bool, true, false, List, [], ◌∷◌, length, Option, arith}
 use Rattle.std.specs.Prelude.{Ok, Err}
 use Rattle.gx_geom.specs.declared.refusal.Refusal.{Refusal}
-use Rattle.gx_geom.specs.declared.refusal.Refusal.TheVariants.{Absent, BadBox, BadParameter, BadSession, Busy, CallOpen, ClaimsFull, Damaged, Device as NoDevice, Failed, HistoryFull, InTransaction, Memory, NoCall, NoTransaction, NotFormatted, PagesFull, PredicatesFull, Present, TooSmall}
+use Rattle.gx_geom.specs.declared.refusal.Refusal.TheVariants.{Absent, BadBox, BadParameter, BadSession, Busy, CallOpen, ClaimsFull, Damaged, Device as NoDevice, Failed, HistoryFull, InTransaction, Memory, NoCall, NoTransaction, NotFormatted, OldVersion, PagesFull, PredicatesFull, Present, TooSmall}
 use Rattle.gx_machine.specs.declared.call.Call.{Call}
 use Rattle.gx_machine.specs.declared.entry.Entry.{Entry}
 use Rattle.gx_machine.specs.declared.reply.Reply.{Reply}
@@ -167,6 +167,7 @@ module _ {B C D : Type 0} (grammar : Grammar B) (shape : Members B) (is_key : B 
     told_says number BadParameter disk after old new status honest told so = same_says disk after told.1 so
     told_says number NoCall disk after old new status honest told so = same_says disk after told.1 so
     told_says number HistoryFull disk after old new status honest told so = same_says disk after told.1 so
+    told_says number OldVersion disk after old new status honest told so = same_says disk after told.1 so
 
     -- ---- the commands
 

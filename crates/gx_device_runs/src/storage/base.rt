@@ -6,9 +6,9 @@ use crate::storage::fault::{StorageFault, What};
 use crate::storage::mirror::{Mirror, PAGES};
 use crate::storage::volume::Volume;
 use gx_class::{Box2Class, ReadKeys};
-use gx_disk::{FuseDisk, MemDisk, SectorDisk};
+use gx_disk::{FuseDisk, MemDisk, PAGES_AT, SectorDisk};
 use gx_format::{format, sectors_for};
-use gx_glog::{Extent, Glog, first_body};
+use gx_glog::{BODIES_A, Extent, Glog, first_body};
 use gx_pool::Pool;
 use gx_storage::Storage;
 use gx_store::laws::a_store_starts;
@@ -38,7 +38,7 @@ fn lay(disk: &mut MemDisk, tree: &Mirror) -> Result<(), StorageFault> {
             let before = u64::from(before);
             write(
                 disk,
-                before.saturating_mul(8).saturating_add(4168),
+                before.saturating_mul(8).saturating_add(PAGES_AT),
                 page.image(),
             )?;
         }
@@ -48,7 +48,7 @@ fn lay(disk: &mut MemDisk, tree: &Mirror) -> Result<(), StorageFault> {
     let used = tree.used().to_be_bytes();
     body[13..21].copy_from_slice(&counter);
     body[21..25].copy_from_slice(&used);
-    write(disk, 40, &body)?;
+    write(disk, BODIES_A, &body)?;
     match disk.sync() {
         Ok(()) => Ok(()),
         Err(_) => Err(StorageFault::Memory),
@@ -108,7 +108,7 @@ pub(crate) fn open<D: SectorDisk + Drop, K: ReadKeys>(
 ) -> Result<Volume<D, K>, StorageFault> {
     a_store_starts::<D, K>();
     let used = tree.used();
-    if disk.sectors() < 4680 || used > PAGES || frames > 64 {
+    if disk.sectors() < sectors_for(PAGES) || used > PAGES || frames > 64 {
         return Err(StorageFault::Unexpected(What::Base));
     }
     let pool = Pool::with_capacity(alloc, frames, NodeTest::new(PAGES))?;

@@ -8,7 +8,7 @@ use gx_memory_tree::DescentPlace;
 use gx_tree::{Descended, TraversalItem};
 
 /// How many places of the log are taken when a checkpoint is due.
-const DUE: u8 = 24;
+const DUE: u8 = 96;
 
 impl Run {
     /// Goes on at an item below a page.

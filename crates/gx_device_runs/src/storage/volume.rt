@@ -1,5 +1,6 @@
 //! Pages with their log. Its contracts need to know only that no turn of the log is under way.
 ghost use Rattle.std.specs.Prelude.{◌≡◌, ◌<◌, false};
+ghost use Rattle.gx_glog.specs.declared.extent.TheConstants.{PLACES};
 ghost use Rattle.gx_glog.specs.declared.stage.Turn.TheVariants.{Closed};
 ghost use Rattle.gx_record.specs.Format.{IsInRange};
 ghost use Rattle.gx_record.specs.Seen.{rec_of};
@@ -53,7 +54,7 @@ impl<D: SectorDisk, K: ReadKeys> Volume<D, K> {
 
     /// Whether no record has a place while a turn is under way, or each place is taken.
     fn is_closed(&self) -> bool
-        ensures { result ≡ false → (self.now.storage.log.turn ≡ Closed) × (self.now.storage.log.used < 32) }
+        ensures { result ≡ false → (self.now.storage.log.turn ≡ Closed) × (self.now.storage.log.used < PLACES) }
     {
         self.turning || self.storage.places() >= PLACES
     }

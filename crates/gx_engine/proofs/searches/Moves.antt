@@ -36,7 +36,7 @@ use Rattle.gx_engine.specs.Writes.{OnlyReads, brought}
 use Rattle.gx_engine.proofs.Further.{reached_reply}
 use Rattle.gx_engine.proofs.LookMoves.{answered_again, answers, as_it_stays, at_work, closes_moves, held, its_work, looks_at, put_kept, slot_now}
 use Rattle.gx_engine.proofs.Serving.{same_device}
-use Rattle.gx_engine.proofs.Taking.{answered_so, reads_of}
+use Rattle.gx_engine.proofs.AtWork.{answered_so, reads_of}
 
 -- a stack of no items
 ended : (stack : List TraversalItem) → length stack ≡ 0 → stack ≡ []
@@ -114,10 +114,10 @@ module _ {B D : Type 0} (passes : ℕ → Contents → Bool) (d e : Device) (s :
   search_reads other comes = absurd comes
 
   -- a look that ended in the move, and is the answer
-  pub found_comes : (mid : Parts B D) → mid ≡ calling s (Search query) Rests (brought old mid) → (outcome : Outcome B) → FindComes s mid new outcome → SearchComes passes d e s query old new outcome
-  found_comes mid rest (Replied (reply.Found entries)) comes = answered_so s (Search query) old mid new rest comes
-  found_comes mid rest (Replied (reply.Refused refusal.Memory)) comes = answered_so s (Search query) old mid new rest comes
-  found_comes mid rest other comes = absurd comes
+  pub found_comes : (mid : Parts B D) (work : Work B) → mid ≡ calling s (Search query) work (brought old mid) → (outcome : Outcome B) → FindComes s mid new outcome → SearchComes passes d e s query old new outcome
+  found_comes mid work at (Replied (reply.Found entries)) comes = answered_so s (Search query) work old mid new at comes
+  found_comes mid work at (Replied (reply.Refused refusal.Memory)) comes = answered_so s (Search query) work old mid new at comes
+  found_comes mid work at other comes = absurd comes
 
 -- the events of any part of a search may be its events
 are_searching : {B : Type 0} (s : ℕ) (query : Query B) (outcome : Outcome B) → AreSearching s query outcome (search_events s query outcome)
@@ -129,16 +129,16 @@ pub search_so : {B D : Type 0} (c : Class B) (r : Reading (Entry B) (Page B)) (f
     → Moves c r f passes d e s old new outcome (search_events s query outcome) → MovesSo c r f passes d e s old new outcome (AreSearching s query outcome)
 search_so c r f passes d e s query old new outcome moves bodies i h = (search_events s query outcome, are_searching s query outcome, moves bodies i h)
 
--- a look that is at hand, and is the answer
+-- a look that has ended, and is the answer
 pub found_moves_so : {B D : Type 0} (c : Class B) → (4 ≤ c.rules.most → IsLawful c) → (r : Reading (Entry B) (Page B)) (f : Format B) (passes : ℕ → Contents → Bool) (state : D → Device) (e : Device) (s : ℕ)
-    (query : Query B) (old mid new : Parts B D) (look : Look B) → Reaches c r f passes state s old (calling s (Search query) (Looks look) mid) → (outcome : Outcome B) → FindComes s mid new outcome
-    → Moves c r f passes (state mid.volume.shelf.disk) e s (calling s (Search query) (Looks look) mid) new outcome (search_events s query outcome)
+    (query : Query B) (old mid new : Parts B D) → Reaches c r f passes state s old mid → (outcome : Outcome B) → FindComes s mid new outcome
+    → Moves c r f passes (state mid.volume.shelf.disk) e s mid new outcome (search_events s query outcome)
     → MovesSo c r f passes (state old.volume.shelf.disk) e s old new outcome (AreSearching s query outcome)
-found_moves_so c lawful r f passes state e s query old mid new look reaches (Replied (reply.Found entries)) comes moves =
-    reached_reply c lawful r f passes state e s old (calling s (Search query) (Looks look) mid) new reaches (reply.Found entries) (Finds s query entries) moves
-found_moves_so c lawful r f passes state e s query old mid new look reaches (Replied (reply.Refused refusal.Memory)) comes moves =
-    reached_reply c lawful r f passes state e s old (calling s (Search query) (Looks look) mid) new reaches (reply.Refused refusal.Memory) (Closes s (Search query) refusal.Memory) moves
-found_moves_so c lawful r f passes state e s query old mid new look reaches other comes moves = absurd comes
+found_moves_so c lawful r f passes state e s query old mid new reaches (Replied (reply.Found entries)) comes moves =
+    reached_reply c lawful r f passes state e s old mid new reaches (reply.Found entries) (Finds s query entries) moves
+found_moves_so c lawful r f passes state e s query old mid new reaches (Replied (reply.Refused refusal.Memory)) comes moves =
+    reached_reply c lawful r f passes state e s old mid new reaches (reply.Refused refusal.Memory) (Closes s (Search query) refusal.Memory) moves
+found_moves_so c lawful r f passes state e s query old mid new reaches other comes moves = absurd comes
 
 -- no index has a search that descends or seeks
 pub no_search : {B D : Type 0} (c : Class B) → (4 ≤ c.rules.most → IsLawful c) → (r : Reading (Entry B) (Page B)) (f : Format B) (passes : ℕ → Contents → Bool) (d g : Device) (e : Parts B D)

@@ -321,11 +321,11 @@ impl<D: SectorDisk, K: ReadKeys> Engine<D, K> {
     /// does if its page was split meanwhile. Unless it replies, it returns `More`. Only splits take pages. Each change
     /// is logged. It makes no write and no sync of the device and takes no memory.
     ///
-    /// Returns `Help(Checkpoint)` exactly if a checkpoint runs or 24 places of the extent are taken, and nothing has
-    /// changed. Returns `Help` with the event that has to come first, if the record doesn't fit the batch that fills or
-    /// a page couldn't be brought; the insert's state is unchanged then. If too few pages are left for a split the call
-    /// is closed: `Replied(Refused(PagesFull))`. If the device failed, or a page can't be read, the engine has failed,
-    /// and the reply is `Device` or `Damaged`.
+    /// Returns `Help(Checkpoint)` exactly if a checkpoint runs or `CHECKPOINT_AT` places of the extent are taken, and
+    /// nothing has changed. Returns `Help` with the event that has to come first, if the record doesn't fit the batch
+    /// that fills or a page couldn't be brought; the insert's state is unchanged then. If too few pages are left for a
+    /// split the call is closed: `Replied(Refused(PagesFull))`. If the device failed, or a page can't be read, the
+    /// engine has failed, and the reply is `Device` or `Damaged`.
     pub(crate) fn descend(
         &mut self,
         session: u8,

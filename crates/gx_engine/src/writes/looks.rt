@@ -1,23 +1,25 @@
 //! An insert or a delete looks for its pair.
-ghost use Rattle.std.specs.Prelude.{◌≡◌, ◌-◌, ◌<◌, [], ◌∷◌, true, false, length, IfErr, IfOk, OnErr, OnOk};
+ghost use Rattle.std.specs.Prelude.{◌≡◌, ◌-◌, ◌<◌, [], ◌∷◌, true, false, length, IfErr, OnErr, OnOk};
 ghost use Rattle.gx_machine.specs.declared.call.Call.{Call};
 ghost use Rattle.gx_machine.specs.declared.entry.Entry.{Entry};
 ghost use Rattle.gx_machine.specs.declared.call.Call.TheVariants.{Delete, Insert};
 ghost use Rattle.gx_machine.specs.Machine.{is_session};
+ghost use Rattle.gx_tree.specs.declared.look.Look.{Look};
 ghost use Rattle.gx_events.specs.Happenings.{FindsAbsent, Works};
 ghost use Rattle.gx_phases.specs.declared.phase.Phase.TheVariants.{Open};
 ghost use Rattle.gx_phases.specs.Moves.{WritesEntry, answered_state, is_open};
 ghost use Rattle.gx_engine.specs.Calls.{IsRead, TellsAs, TellsWhere};
 ghost use Rattle.gx_engine.specs.declared.work.Work as declared;
 ghost use Rattle.gx_engine.specs.declared.work.Work.TheVariants.{Looks, Rests};
-ghost use Rattle.gx_engine.specs.Looks.{IsFirstUnless, LooksFor, turned_by, work_before};
+ghost use Rattle.gx_engine.specs.Looks.{HasEnded, IsFirstUnless, LooksFor, Turns, leaf_found, work_before};
 ghost use Rattle.gx_engine.specs.Moves.{calling};
-ghost use Rattle.gx_engine.specs.Writes.{AreWriting, OnlyReads, WritesAs, brought, is_looking, write_events};
+ghost use Rattle.gx_engine.specs.Writes.{AreWriting, OnlyReads, WritesAs, is_looking, write_events};
 ghost use Rattle.gx_storage.specs.Setting.{StaysAs};
 ghost use Rattle.gx_engine.specs.Setting.{MovesAs, MovesOnAs, MovesSoAs, ReachesAs, phase_in};
 
 use crate::Engine;
 use crate::laws::a_class_is_lawful;
+use crate::looks::look_in;
 use crate::work::Work;
 use gx_class::{Probing, ReadKeys};
 use gx_disk::SectorDisk;
@@ -27,48 +29,83 @@ use gx_machine::{Entry, Reply};
 use gx_storage::laws::{a_volume_shows_keys, a_volume_shows_the_logs_tree};
 use gx_tree::{Look, TraversalItem, Wanted};
 
-/// What follows a write's look: if it has found its pair, a seek from the leaf in which that was; else the look goes
-/// on.
-fn turned<B: Shape>(look: Look<B>) -> Work<B>
-    ensures { result ≡ turned_by look.found.items look }
+/// The leaf in which a look has found a pair first.
+fn leaf_found<B: Shape>(look: &Look<B>) -> Option<u32>
+    ensures { result ≡ leaf_found look.now.found.items }
 {
-    if look.found().is_empty() {
-        return Work::Looks(look);
+    match look.found() {
+        [] => None,
+        [one, ..] => Some(one.leaf),
     }
-    Work::Seeks(look.found()[0].leaf)
+}
+
+/// `Ok` if a look has ended, else `Err` with the outcome that work is left.
+fn ended_if<B: Shape>(done: bool) -> Result<(), Outcome<B>>
+    ensures ends { OnOk result (done ≡ true) }
+    ensures goes { IfErr result (λ outcome. outcome ≡ Outcome.More) }
+{
+    if done { Ok(()) } else { Err(Outcome::More) }
 }
 
 impl<D: SectorDisk, K: ReadKeys + Probing> Engine<D, K> {
+    // The leaf in which a write's look has found its pair.
+    fn leaf_of_look(&self, session: u8) -> Option<u32>
+        requires session { is_session session ≡ true }
+        ensures { (call : Call K.Key) (look : Look K.Key) → phase_in session self.now ≡ Open call (Looks look)
+            → result ≡ leaf_found look.found.items }
+    {
+        match look_in(self.sessions.phase(session)) {
+            Some(look) => leaf_found(look),
+            None => None,
+        }
+    }
+
+    // What follows a page that a write's look has read: a seek of its pair, if the look has found that, from the leaf
+    // in which it was; else the look goes on, if a page is left to read. Returns `Ok` if none is left and no leaf has
+    // the pair, else `Err` with the outcome.
+    fn turn_look(&mut self, session: u8, done: bool) -> Result<(), Outcome<K::Key>>
+        requires session { is_session session ≡ true }
+        ensures turns { (call : Call K.Key) (look : Look K.Key) → phase_in session self.old ≡ Open call (Looks look)
+            → Turns session call look done self.old self.new result }
+        ensures device { IsRead D.state self.old self.new }
+        ensures told { TellsWhere D.state self.old self.new result }
+    {
+        self.sessions.stands();
+        match self.leaf_of_look(session) {
+            Some(leaf) => {
+                self.sessions.replace_work(session, Work::Seeks(leaf));
+                Err(Outcome::More)
+            }
+            None => ended_if(done),
+        }
+    }
+
     // A write's look reads its next page; one that hasn't begun reads the root. It goes on, or seeks its pair if it has
-    // found that. Returns `Ok` with the look if nothing is left to read and no leaf has the pair, else `Err` with the
-    // outcome.
+    // found that. Returns `Ok` if nothing is left to read and no leaf has the pair, else `Err` with the outcome.
     fn look_on(
         &mut self,
         session: u8,
         entry: &Entry<K::Key>,
-        look: Look<K::Key>,
         begun: bool,
-    ) -> Result<Look<K::Key>, Outcome<K::Key>>
+    ) -> Result<(), Outcome<K::Key>>
         requires session { is_session session ≡ true }
-        requires open { is_open (phase_in session self.old) ≡ true }
+        requires looks { (call : Call K.Key) × (look : Look K.Key)
+            × (phase_in session self.old ≡ Open call (Looks look)) × (0 < length look.stack.items)
+            × IsFirstUnless begun self.old look }
         requires works { self.old.sessions.failed ≡ false }
-        requires more { 0 < length look.stack.items }
-        requires first { IsFirstUnless begun self.old look }
-        ensures done { IfOk result (λ after. length after.stack.items ≡ 0) }
-        ensures rest { OnOk result (self.new ≡ brought self.old self.new) }
+        ensures goes_on { OnOk result ((call : Call K.Key) (look : Look K.Key) → WritesEntry entry.now call
+            → phase_in session self.old ≡ Open call (Looks look)
+            → HasEnded session call self.old self.new × MovesOnAs K.Key.Shape K.ReadKeys D.state session
+            (calling session call (work_before begun look) self.old) self.new) }
         ensures stays { OnOk result (StaysAs K.KeyClass D.state self.old.volume.shelf self.new.volume.shelf) }
-        ensures goes_on { IfOk result (λ after. (call : Call K.Key) → WritesEntry entry.now call
-            → phase_in session self.old ≡ Open call Rests
-            → MovesOnAs K.Key.Shape K.ReadKeys D.state session
-            (calling session call (work_before begun look) self.old) (calling session call (Looks after) self.new)) }
-        ensures reads { OnErr result ((call : Call K.Key) → phase_in session self.old ≡ Open call Rests
-            → OnlyReads self.old self.new) }
-        ensures comes { IfErr result (λ outcome. (call : Call K.Key) → WritesEntry entry.now call
-            → phase_in session self.old ≡ Open call Rests
+        ensures reads { OnErr result ((call : Call K.Key) (look : Look K.Key)
+            → phase_in session self.old ≡ Open call (Looks look) → OnlyReads self.old self.new) }
+        ensures comes { IfErr result (λ outcome. (call : Call K.Key) (look : Look K.Key) → WritesEntry entry.now call
+            → phase_in session self.old ≡ Open call (Looks look)
             → WritesAs K.Key.Shape K.KeyClass D.state session call (calling session call (work_before begun look)
             self.old) self.new outcome) }
-        ensures moves { IfErr result (λ outcome. (call : Call K.Key) → WritesEntry entry.now call
-            → phase_in session self.old ≡ Open call Rests
+        ensures moves { IfErr result (λ outcome. (call : Call K.Key) (look : Look K.Key) → WritesEntry entry.now call
+            → phase_in session self.old ≡ Open call (Looks look)
             → MovesAs K.Key.Shape K.ReadKeys D.state session
             (calling session call (work_before begun look) self.old) self.new outcome
             (write_events session call outcome)) }
@@ -81,36 +118,57 @@ impl<D: SectorDisk, K: ReadKeys + Probing> Engine<D, K> {
         self.sessions.stands();
         self.storage.most();
         let wanted = Wanted::<K>::entry(entry);
-        let read = self.read_look(session, &wanted, look, begun);
+        let read = self.read_look(session, &wanted, begun);
         self.storage.in_order();
-        let look = read?;
-        if look.found().is_empty() && look.is_done() {
-            return Ok(look);
-        }
-        self.sessions.replace_work(session, turned(look));
-        Err(Outcome::More)
+        let done = read?;
+        self.turn_look(session, done)
     }
 
-    // A write's look begins at the root, or goes on, and reads a page. Returns `Ok` with the look if nothing is left to
-    // read and no leaf has the pair, else `Err` with the outcome.
-    fn write_look(
-        &mut self,
-        session: u8,
-        entry: &Entry<K::Key>,
-    ) -> Result<Look<K::Key>, Outcome<K::Key>>
+    // A write's look begins at the root.
+    fn begin_look(&mut self, session: u8, entry: &Entry<K::Key>) -> Result<(), Outcome<K::Key>>
+        requires session { is_session session ≡ true }
+        requires rests { (call : Call K.Key) × (phase_in session self.old ≡ Open call Rests) }
+        requires works { self.old.sessions.failed ≡ false }
+        ensures goes_on { OnOk result ((call : Call K.Key) → WritesEntry entry.now call
+            → phase_in session self.old ≡ Open call Rests
+            → HasEnded session call self.old self.new
+            × MovesOnAs K.Key.Shape K.ReadKeys D.state session self.old self.new) }
+        ensures stays { OnOk result (StaysAs K.KeyClass D.state self.old.volume.shelf self.new.volume.shelf) }
+        ensures reads { OnErr result (OnlyReads self.old self.new) }
+        ensures comes { IfErr result (λ outcome. (call : Call K.Key) → WritesEntry entry.now call
+            → phase_in session self.old ≡ Open call Rests
+            → WritesAs K.Key.Shape K.KeyClass D.state session call self.old self.new outcome) }
+        ensures moves { IfErr result (λ outcome. (call : Call K.Key) → WritesEntry entry.now call
+            → phase_in session self.old ≡ Open call Rests
+            → MovesAs K.Key.Shape K.ReadKeys D.state session self.old self.new outcome
+            (write_events session call outcome)) }
+        ensures device { IsRead D.state self.old self.new }
+        ensures told { TellsWhere D.state self.old self.new result }
+    {
+        a_class_is_lawful::<K>();
+        self.sessions.stands();
+        match self.first_look() {
+            Ok(look) => {
+                self.sessions.replace_work(session, Work::Looks(look));
+                self.look_on(session, entry, false)
+            }
+            Err(_) => Err(self.close(session, Refusal::Memory)),
+        }
+    }
+
+    // A write's look begins at the root, or goes on, and reads a page. Returns `Ok` if nothing is left to read and no
+    // leaf has the pair, else `Err` with the outcome.
+    fn write_look(&mut self, session: u8, entry: &Entry<K::Key>) -> Result<(), Outcome<K::Key>>
         requires session { is_session session ≡ true }
         requires looks { (call : Call K.Key) × (work : declared.Work K.Key)
             × LooksFor entry.now call work (phase_in session self.old) }
         requires works { self.old.sessions.failed ≡ false }
-        ensures done { IfOk result (λ look. length look.stack.items ≡ 0) }
-        ensures rest { OnOk result ((call : Call K.Key) (work : declared.Work K.Key)
-            → LooksFor entry.now call work (phase_in session self.old)
-            → (phase_in session self.new ≡ Open call Rests) × (self.new
-            ≡ calling session call Rests (brought self.old self.new))) }
+        ensures ends { OnOk result ((call : Call K.Key) (work : declared.Work K.Key)
+            → LooksFor entry.now call work (phase_in session self.old) → HasEnded session call self.old self.new) }
         ensures stays { OnOk result (StaysAs K.KeyClass D.state self.old.volume.shelf self.new.volume.shelf) }
-        ensures reaches { IfOk result (λ look. (call : Call K.Key) (work : declared.Work K.Key)
+        ensures reaches { OnOk result ((call : Call K.Key) (work : declared.Work K.Key)
             → LooksFor entry.now call work (phase_in session self.old)
-            → ReachesAs K.Key.Shape K.ReadKeys D.state session self.old (calling session call (Looks look) self.new)) }
+            → ReachesAs K.Key.Shape K.ReadKeys D.state session self.old self.new) }
         ensures reads { OnErr result (OnlyReads self.old self.new) }
         ensures comes { IfErr result (λ outcome. (call : Call K.Key) (work : declared.Work K.Key)
             → LooksFor entry.now call work (phase_in session self.old)
@@ -124,30 +182,27 @@ impl<D: SectorDisk, K: ReadKeys + Probing> Engine<D, K> {
     {
         a_class_is_lawful::<K>();
         self.sessions.stands();
-        match self.sessions.replace_work(session, Work::Rests) {
-            Work::Looks(look) => if look.is_done() {
-                Ok(look)
+        match look_in(self.sessions.phase(session)) {
+            Some(look) => if look.is_done() {
+                Ok(())
             } else {
-                self.look_on(session, entry, look, true)
+                self.look_on(session, entry, true)
             },
-            Work::Rests | Work::Descends(_, _) | Work::Seeks(_) => match self.first_look() {
-                Ok(look) => self.look_on(session, entry, look, false),
-                Err(_) => Err(self.close(session, Refusal::Memory)),
-            },
+            None => self.begin_look(session, entry),
         }
     }
 
     // Sets an insert to descend from the root: its look has ended, and no leaf has its pair.
-    fn begin_descent(&mut self, session: u8, look: &Look<K::Key>) -> Outcome<K::Key>
+    fn begin_descent(&mut self, session: u8) -> Outcome<K::Key>
         requires session { is_session session ≡ true }
         requires works { self.old.sessions.failed ≡ false }
-        requires done { length look.now.stack.items ≡ 0 }
         ensures outcome { result ≡ Outcome.More }
-        ensures descends { (entry : Entry K.Key) → phase_in session self.old ≡ Open (Insert entry) Rests
+        ensures descends { (entry : Entry K.Key) (look : Look K.Key)
+            → phase_in session self.old ≡ Open (Insert entry) (Looks look)
             → (work : declared.Work K.Key) × (self.new ≡ calling session (Insert entry) work self.old) }
-        ensures moves { (entry : Entry K.Key) → phase_in session self.old ≡ Open (Insert entry) Rests
-            → MovesAs K.Key.Shape K.ReadKeys D.state session
-            (calling session (Insert entry) (Looks look.now) self.old) self.new Outcome.More (Works ∷ []) }
+        ensures moves { (entry : Entry K.Key) (look : Look K.Key)
+            → phase_in session self.old ≡ Open (Insert entry) (Looks look) → length look.stack.items ≡ 0
+            → MovesAs K.Key.Shape K.ReadKeys D.state session self.old self.new Outcome.More (Works ∷ []) }
         ensures device { IsRead D.state self.old self.new }
         ensures told { TellsAs D.state self.old self.new result }
     {
@@ -159,16 +214,15 @@ impl<D: SectorDisk, K: ReadKeys + Probing> Engine<D, K> {
     }
 
     // Replies to a delete whose look has ended while no leaf has its pair.
-    fn find_absent(&mut self, session: u8, look: &Look<K::Key>) -> Outcome<K::Key>
+    fn find_absent(&mut self, session: u8) -> Outcome<K::Key>
         requires session { is_session session ≡ true }
         requires open { is_open (phase_in session self.old) ≡ true }
         requires works { self.old.sessions.failed ≡ false }
-        requires done { length look.now.stack.items ≡ 0 }
         ensures outcome { result ≡ Outcome.Replied (Reply.Refused Refusal.Absent) }
         ensures closed { self.new ≡ record self.old { sessions = answered_state session self.old.sessions } }
-        ensures moves { (entry : Entry K.Key) → phase_in session self.old ≡ Open (Delete entry) Rests
-            → MovesAs K.Key.Shape K.ReadKeys D.state session
-            (calling session (Delete entry) (Looks look.now) self.old) self.new
+        ensures moves { (entry : Entry K.Key) (look : Look K.Key)
+            → phase_in session self.old ≡ Open (Delete entry) (Looks look) → length look.stack.items ≡ 0
+            → MovesAs K.Key.Shape K.ReadKeys D.state session self.old self.new
             (Outcome.Replied (Reply.Refused Refusal.Absent)) (FindsAbsent session entry ∷ []) }
         ensures device { IsRead D.state self.old self.new }
         ensures told { TellsAs D.state self.old self.new result }
@@ -200,7 +254,7 @@ impl<D: SectorDisk, K: ReadKeys + Probing> Engine<D, K> {
     {
         a_class_is_lawful::<K>();
         match self.write_look(session, &entry) {
-            Ok(look) => self.begin_descent(session, &look),
+            Ok(()) => self.begin_descent(session),
             Err(outcome) => outcome,
         }
     }
@@ -221,7 +275,7 @@ impl<D: SectorDisk, K: ReadKeys + Probing> Engine<D, K> {
     {
         a_class_is_lawful::<K>();
         match self.write_look(session, &entry) {
-            Ok(look) => self.find_absent(session, &look),
+            Ok(()) => self.find_absent(session),
             Err(outcome) => outcome,
         }
     }

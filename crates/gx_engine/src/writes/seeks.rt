@@ -234,10 +234,10 @@ impl<D: SectorDisk, K: ReadKeys + Probing> Engine<D, K> {
     /// `Replied(Refused(Present))`, and nothing is logged. If it is marked, the mark is cleared, which is logged and
     /// noted: `Replied(Inserted)`. It makes no write and no sync of the device, and takes no memory.
     ///
-    /// Returns `Help(Checkpoint)` if the mark is to be cleared while a checkpoint runs or 24 places of the extent are
-    /// taken; `Help` with the event that has to come first, if the record doesn't fit the batch that fills or a page
-    /// couldn't be brought. The insert's state is unchanged then. If the device failed, or a page can't be read, the
-    /// engine has failed, and the reply is `Device` or `Damaged`.
+    /// Returns `Help(Checkpoint)` if the mark is to be cleared while a checkpoint runs or `CHECKPOINT_AT` places of the
+    /// extent are taken; `Help` with the event that has to come first, if the record doesn't fit the batch that fills
+    /// or a page couldn't be brought. The insert's state is unchanged then. If the device failed, or a page can't be
+    /// read, the engine has failed, and the reply is `Device` or `Damaged`.
     pub(crate) fn insert_at(
         &mut self,
         session: u8,

@@ -1,6 +1,7 @@
 -- An event that is no session's never replies, over any device.
 use Rattle.std.proofs.Common.{◌≡◌, ◌∙◌, ap, refl, inl, inr, ℕ, Bool, true, false, List}
 use Rattle.std.specs.Prelude.{nat_le, Result, Ok, Err}
+use Rattle.gx_index_laws.specs.declared.TheConstants.{CHECKPOINT_AT}
 use Rattle.gx_geom.specs.declared.refusal.Refusal.{Refusal}
 use Rattle.gx_machine.specs.declared.entry.Entry.{Entry}
 use Rattle.gx_machine.specs.Keys.{Keys}
@@ -83,7 +84,7 @@ module _ {B D : Type 0} (d e : Device) (old new : Parts B D) (outcome : Outcome 
   off_quiet true h = runs_quiet (record old { checkpoint = Running }) h
 
   from_quiet : (at : Checkpoint) → StepsFrom d e old new at outcome → replied outcome ≡ 0
-  from_quiet Off h = off_quiet (nat_le 24 old.volume.log.used) h
+  from_quiet Off h = off_quiet (nat_le CHECKPOINT_AT old.volume.log.used) h
   from_quiet Running h = runs_quiet old h
   from_quiet Turning h = turn_quiet h.result h.comes
 

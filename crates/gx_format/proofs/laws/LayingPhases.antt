@@ -1,5 +1,5 @@
 -- The three phases of a format.
-use Rattle.std.proofs.Common.{◌≡◌, ◌∙◌, sym, ap, refl, subst, inl, inr, ⊎_elim, ℕ, ◌*◌, ◌≤◌, List, [], ◌∷◌, ◌++◌, length, take, replicate, Bool, true, false, ◌==◌, slice_index, Result, Ok, Err, arith}
+use Rattle.std.proofs.Common.{◌≡◌, ◌∙◌, sym, ap, refl, subst, inl, inr, ⊎_elim, ℕ, ◌+◌, ◌-◌, ◌*◌, ◌≤◌, List, [], ◌∷◌, ◌++◌, length, take, replicate, Bool, true, false, ◌==◌, slice_index, Result, Ok, Err, arith}
 use Rattle.std.specs.Result.{is_ok}
 use Rattle.std.proofs.lemmas.Bool.{true≢false}
 use Rattle.std.proofs.lemmas.Bool.Decides.{nat_tests}
@@ -14,7 +14,7 @@ use Rattle.gx_disk.proofs.Spans.{image_span}
 use Rattle.gx_page.specs.Contents.{Contents}
 use Rattle.gx_page.specs.Edits.{blank}
 use Rattle.gx_page.specs.Format.{image_of}
-use Rattle.gx_glog.specs.declared.extent.TheConstants.{BODIES_A, BODY_SECTORS, GATES_B, PLACES}
+use Rattle.gx_glog.specs.declared.extent.TheConstants.{BODIES_A, BODY_SECTORS, GATES_A, GATES_B, PLACES}
 use Rattle.gx_glog.specs.declared.turn.TheConstants.{GATES_SIZE}
 use Rattle.gx_glog.specs.First.{open_gate_bytes, closed_gates_bytes, selector_bytes, first_body_bytes}
 use Rattle.gx_glog.specs.Parameters.{parameters_bytes}
@@ -22,15 +22,15 @@ use Rattle.gx_glog.specs.declared.parameters.Parameters.{Parameters}
 use Rattle.gx_glog.specs.declared.extent.Extent.TheVariants.{A}
 use Rattle.gx_format.specs.declared.fresh.TheConstants.{PAGE_2}
 use Rattle.gx_format.specs.Calls.{Call, Write, Sync, Makes, HasRun, Runs}
-use Rattle.gx_format.specs.Fresh.{magic_bytes, IsLaid, IsFresh}
-use Rattle.gx_format.specs.Formatting.{clearing, laying, naming, formatting, IsOldBeside, IsUnnamed, IsUnnamedOrFresh, IsOldOrFresh, IsLaidDown, IsCleared}
+use Rattle.gx_format.specs.Fresh.{magic_bytes, old_magic_bytes, IsLaid, IsFresh, IsUnnamed}
+use Rattle.gx_format.specs.Formatting.{clearing, laying, naming, formatting, IsOldBeside, IsUnnamedOrFresh, IsOldOrFresh, IsLaidDown, IsCleared}
 use Rattle.gx_format.proofs.Keeping.{spares_one, is_first, call_touches, first_written, how_many_written, keeps}
 use Rattle.gx_format.proofs.Running.{failed_split}
-use Rattle.gx_format.proofs.laws.LaidDown.{AreRead, are_read, are_settled}
+use Rattle.gx_format.proofs.laws.LaidDown.{AreRead, are_read, are_settled, later_size}
 use Rattle.gx_format.proofs.laws.Wrote.{zero_sector, run_split, run_honest, wrote_all, synced}
 
 -- sector s is none that a call touches which writes sector 0 at most
-beyond_first : (call : Call) (s : ℕ) → is_first call ≡ true → 1 ≤ s → IsOutside (first_written call) (how_many_written call) s
+pub beyond_first : (call : Call) (s : ℕ) → is_first call ≡ true → 1 ≤ s → IsOutside (first_written call) (how_many_written call) s
 beyond_first (Write first n bytes) s is from = inr (grind (arith, nat_tests))
 beyond_first Sync s is from = inr (omega arith)
 
@@ -81,19 +81,23 @@ module _ {D : Type 0} (state : D → Device) (whole : (d : D) → (state d).hone
 
 -- ---- all but the magic is laid down
 
-err_ok : (why : Refusal) (r : Result (Unit {0}) Refusal) → r ≡ Err why → r ≡ Ok tt → ⊥
+pub err_ok : (why : Refusal) (r : Result (Unit {0}) Refusal) → r ≡ Err why → r ≡ Ok tt → ⊥
 err_ok why r err ok = true≢false (sym (ap is_ok ok) ∙ ap is_ok err)
 
-cleared_kept : (call : Call) (d e : Device) (result : Result (Unit {0}) Refusal) → spares_one 0 1 call ≡ true → d.honest ≡ true → IsCleared d → Makes call d e result → IsCleared e
+pub cleared_kept : (call : Call) (d e : Device) (result : Result (Unit {0}) Refusal) → spares_one 0 1 call ≡ true → d.honest ≡ true → IsCleared d → Makes call d e result → IsCleared e
 cleared_kept call d e result spares honest was makes =
     let touches = call_touches call d e result honest makes in
     let out = spared_first call spares in
     record { zeros = touches.bytes 0 out ∙ was.zeros; settled = touches.settled 0 out was.settled }
 
-no_magic : (image : List ℕ) → sector_of image 0 ≡ replicate 512 0 → IsUnnamed image
-no_magic image zeros magic = (let first : 0 ≡ 71 = ap (λ (sector : List ℕ). slice_index (take 8 sector) 0) (sym zeros) ∙ ap (λ (bytes : List ℕ). slice_index bytes 0) magic in absurd (omega (arith, first)))
+no_letters : (letters image : List ℕ) → slice_index letters 0 ≡ 0x47 → sector_of image 0 ≡ replicate 512 0 → take 8 (sector_of image 0) ≡ letters → ⊥
+no_letters letters image is zeros same =
+    (let first : 0 ≡ 0x47 = ap (λ (sector : List ℕ). slice_index (take 8 sector) 0) (sym zeros) ∙ ap (λ (bytes : List ℕ). slice_index bytes 0) same ∙ is in omega (arith, first))
 
-cleared_shows : (d : Device) → IsCleared d → (image : List ℕ) → MayLeave d image → IsUnnamed image
+no_magic : (image : List ℕ) → sector_of image 0 ≡ replicate 512 0 → IsUnnamed image
+no_magic image zeros = (no_letters magic_bytes image refl zeros, no_letters old_magic_bytes image refl zeros)
+
+pub cleared_shows : (d : Device) → IsCleared d → (image : List ℕ) → MayLeave d image → IsUnnamed image
 cleared_shows d was image may = no_magic image (may.settled 0 was.settled ∙ was.zeros)
 
 -- the bytes that are read are those of a fresh index
@@ -107,7 +111,7 @@ laid_of parameters root seen size read = record {
     size = size;
     selector = read.selector_is;
     opened = read.opened;
-    closed = λ s from below. zero_sector seen 9 31 s (read.later ∙ ap (take 15872) (drop-replicate 512 GATES_SIZE 0) ∙ take-replicate 15872 15872 0 (omega arith)) from (omega (arith, below));
+    closed = λ s from below. zero_sector seen (GATES_A + 1) (PLACES - 1) s (read.later ∙ ap (take later_size) (drop-replicate 512 GATES_SIZE 0) ∙ take-replicate later_size later_size 0 (omega arith)) from (omega (arith, below));
     body = read.body_is;
   };
   closed = λ s from below. zero_sector seen GATES_B PLACES s read.others from (omega (arith, below));
@@ -125,7 +129,7 @@ laid_image parameters root seen pending image settled may laid = record {
   log = record {
     size = omega (arith, may.size, laid.log.size);
     selector = may.settled 2 (settled 2 (omega arith)) ∙ laid.log.selector;
-    opened = may.settled 8 (settled 8 (omega arith)) ∙ laid.log.opened;
+    opened = may.settled GATES_A (settled GATES_A (omega arith)) ∙ laid.log.opened;
     closed = λ s from below. may.settled s (settled s (omega (arith, from))) ∙ laid.log.closed s from below;
     body = image_span BODY_SECTORS BODIES_A seen pending image may (λ s within. settled s (omega (arith, within.from))) ∙ laid.log.body;
   };
@@ -191,7 +195,7 @@ module _ {D : Type 0} (state : D → Device) (whole : (d : D) → (state d).hone
   weaker_first parameters root old new = leaves_weaker (IsOldBeside (state old)) (IsOldOrFresh (state old) parameters root) (state old) (state new) (λ image is magic. inl is)
 
   weaker_laid : (parameters : Parameters) (root : Contents) (old a b : D) → Leaves IsUnnamed (state a) (state b) → Leaves (IsOldOrFresh (state old) parameters root) (state a) (state b)
-  weaker_laid parameters root old a b = leaves_weaker IsUnnamed (IsOldOrFresh (state old) parameters root) (state a) (state b) (λ image none magic. absurd (none magic))
+  weaker_laid parameters root old a b = leaves_weaker IsUnnamed (IsOldOrFresh (state old) parameters root) (state a) (state b) (λ image none magic. absurd (none.0 magic))
 
   weaker_last : (parameters : Parameters) (root : Contents) (old a b : D) → Leaves (IsUnnamedOrFresh parameters root) (state a) (state b) → Leaves (IsOldOrFresh (state old) parameters root) (state a) (state b)
   weaker_last parameters root old a b = leaves_weaker (IsUnnamedOrFresh parameters root) (IsOldOrFresh (state old) parameters root) (state a) (state b) (λ image is magic. inr (is magic))

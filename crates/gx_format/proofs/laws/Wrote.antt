@@ -53,7 +53,7 @@ module _ {D : Type 0} (state : D → Device) (whole : (d : D) → (state d).hone
       let rest = run_honest calls run.0 b run.1.1 in
       (rest.0 ∙ first.0, rest.1 ∙ first.1)
 
-  run_spares : (f m : ℕ) (calls : List Call) (a b : D) → spares f m calls ≡ true → (state a).honest ≡ true → HasRun state calls a b
+  pub run_spares : (f m : ℕ) (calls : List Call) (a b : D) → spares f m calls ≡ true → (state a).honest ≡ true → HasRun state calls a b
       → span_of (state b).seen f (512 * m) ≡ span_of (state a).seen f (512 * m)
   run_spares f m [] a b is honest same = ap (λ d. span_of (state d).seen f (512 * m)) same
   run_spares f m (call ∷ calls) a b is honest run =

@@ -4,7 +4,7 @@ use gx_words::{AskedCommand, Dimensions, WordsFault, read};
 use std::process::Abort;
 
 // Arguments that ask for nothing the program knows, or for help.
-const WRONG: [&[&str]; 34] = [
+const WRONG: [&[&str]; 38] = [
     &["gist"],
     &["gist", "plane"],
     &["gist", "PLAIN"],
@@ -31,6 +31,10 @@ const WRONG: [&[&str]; 34] = [
     &["gist", "dump", "f", "--frames", "64"],
     &["gist", "verify"],
     &["gist", "verify", "f", "--frames", "64"],
+    &["gist", "migrate"],
+    &["gist", "migrate", "f"],
+    &["gist", "migrate", "f", "g", "h"],
+    &["gist", "migrate", "f", "g", "--frames", "15"],
     &["gist", "storm", "1", "9", "200"],
     &["gist", "storm", "1", "4", "2001"],
     &["gist", "storm", "4294967296", "4", "200"],
@@ -42,7 +46,7 @@ const WRONG: [&[&str]; 34] = [
 ];
 
 // Arguments that ask for something, and what they ask for.
-const RIGHT: [(&[&str], AskedCommand); 12] = [
+const RIGHT: [(&[&str], AskedCommand); 14] = [
     (
         &["gist", "plain"],
         AskedCommand::Plain {
@@ -111,6 +115,22 @@ const RIGHT: [(&[&str], AskedCommand); 12] = [
     ),
     (&["gist", "dump", "f"], AskedCommand::Dump { file: "f" }),
     (&["gist", "verify", "f"], AskedCommand::Verify { file: "f" }),
+    (
+        &["gist", "migrate", "f", "g"],
+        AskedCommand::Migrate {
+            old: "f",
+            new: "g",
+            frames: 64,
+        },
+    ),
+    (
+        &["gist", "migrate", "--frames", "4096", "--", "f", "-g"],
+        AskedCommand::Migrate {
+            old: "f",
+            new: "-g",
+            frames: 4096,
+        },
+    ),
     (
         &["gist", "storm", "4294967295", "8", "2000"],
         AskedCommand::Storm {

@@ -50,7 +50,7 @@ const ON_A_FILE: [&[&str]; 3] = [
 // The program has no commands for an index of intervals: it is refused, and nothing is read.
 #[test]
 fn an_index_of_intervals_is_refused(rt: HostRuntime) {
-    match FileDisk::create(&rt, "lines", 4296) {
+    match FileDisk::create(&rt, "lines", 16_776) {
         Ok(mut disk) => {
             assert!(rt; format::<FileDisk, IntervalClass>(rt.alloc(), &mut disk, 16, 4).is_ok());
         }

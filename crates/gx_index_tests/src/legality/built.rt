@@ -20,7 +20,7 @@ pub(crate) type Node<'a> = ((u16, u64, u32), &'a [(u32, Corners)]);
 const ROOM: u32 = 16;
 
 /// Where the pages begin on a device, in bytes.
-const PAGES_AT: usize = 4168 * 512;
+const PAGES_AT: usize = 16_648 * 512;
 
 pub(crate) fn a_box(rt: &impl Abort, corners: Corners) -> Box2 {
     let (x1, y1, x2, y2) = corners;
@@ -123,7 +123,7 @@ pub(crate) fn on_device<R: Abort + AllocGlobal>(
     let bytes = device_of(rt, nodes)?;
     assert!(rt; bytes.len() % 512 == 0 && nodes.len() <= ROOM as usize);
     let disk = MemDisk::from_bytes(rt.alloc(), bytes);
-    assert!(rt; disk.sectors() >= 4296);
+    assert!(rt; disk.sectors() >= 16_776);
     let pool = Pool::with_capacity(rt.alloc(), 16, NodeTest::new(ROOM));
     let pool = pool.ok().expect(rt, "a pool");
     Ok(PageStore::new(disk, pool, nodes.len() as u32, counter, ROOM))

@@ -12,7 +12,7 @@ use Rattle.gx_commands.specs.Verifying.{VerifiesOver}
 use Rattle.gx_commands.specs.declared.watched.Watched.{Watched}
 use Rattle.gx_commands.proofs.Forgetting.{script_forgets}
 use Rattle.gx_disk.specs.Device.{Device}
-use Rattle.gx_disk.specs.declared.layout.TheConstants.{MIN_SECTORS}
+use Rattle.gx_disk.specs.declared.layout.TheConstants.{LEAST_SECTORS}
 use Rattle.gx_engine.specs.Made.{AreMade, Makes}
 use Rattle.gx_engine.specs.States.{Parts}
 use Rattle.gx_engine.specs.declared.start.NotOpened.{NotOpened}
@@ -174,7 +174,7 @@ module _ {B C D : Type 0} (grammar : Grammar B) (shape : Members B) (proper : B 
   told_other Damaged other disk after from to status told = absurd (other refl)
   told_other why other disk after from to status told = (told.0.status_is, told.1)
 
-  module _ (disk : D) (honest : (state disk).honest ≡ true) (large : MIN_SECTORS ≤ (state disk).sectors)
+  module _ (disk : D) (honest : (state disk).honest ≡ true) (large : LEAST_SECTORS ≤ (state disk).sectors)
       (undamaged : (left : D) (why : Refusal) → IsRefused shape proper said (format_of class) state class.CLASS disk left why → HasFailed why) where
     turned_away : (frames : ℕ) (after : D) (n : NotOpened D) (from to : Outputs) (status : ℕ) → Opens shape (traits_of proper said class) state class.CLASS frames disk (Err n)
         → TellsOpening shape (traits_of proper said class) state class.CLASS n.why n.disk after from to status → Over (λ turns. IsTurnedAway frames turns status) disk after

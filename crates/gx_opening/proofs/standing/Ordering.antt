@@ -32,13 +32,16 @@ unwritten_so class a b why counted settles = record { calls = counted.to; only =
 fit : (why : Refusal) → IsCause why → IsUnfit why → ⊥
 fit why (inl device) (inl other) = cc
 fit why (inl device) (inr (inl other)) = cc
-fit why (inl device) (inr (inr other)) = cc
+fit why (inl device) (inr (inr (inl other))) = cc
+fit why (inl device) (inr (inr (inr other))) = cc
 fit why (inr (inl memory)) (inl other) = cc
 fit why (inr (inl memory)) (inr (inl other)) = cc
-fit why (inr (inl memory)) (inr (inr other)) = cc
+fit why (inr (inl memory)) (inr (inr (inl other))) = cc
+fit why (inr (inl memory)) (inr (inr (inr other))) = cc
 fit why (inr (inr damaged)) (inl other) = cc
 fit why (inr (inr damaged)) (inr (inl other)) = cc
-fit why (inr (inr damaged)) (inr (inr other)) = cc
+fit why (inr (inr damaged)) (inr (inr (inl other))) = cc
+fit why (inr (inr damaged)) (inr (inr (inr other))) = cc
 
 module _ {B : Type 0} (shape : Members B) (is_key : B → Bool) (said : List ℕ → B) (f : Format B) where
   -- what is laid behind it

@@ -1,6 +1,6 @@
 //! Examines a device for damage.
 ghost use Rattle.std.specs.Prelude.{◌≡◌, ◌≤◌, ◌<◌, true, Err};
-ghost use Rattle.gx_disk.specs.declared.layout.TheConstants.{MIN_SECTORS};
+ghost use Rattle.gx_disk.specs.declared.layout.TheConstants.{LEAST_SECTORS};
 ghost use Rattle.gx_disk.specs.Device.{SameDevice};
 ghost use Rattle.gx_opening.specs.Formatted.{IsAllowed, IsLarge, OnlyRests};
 ghost use Rattle.gx_opening.specs.Shown.{log_told_of};
@@ -74,7 +74,7 @@ pub fn examine<D: SectorDisk, K: ReadKeys>(
     ensures device { SameDevice (D.state disk) (D.state result.0) }
     ensures rests { (D.state disk).honest ≡ true → OnlyRests (D.state disk) (D.state result.0) }
     ensures failed { result.1 ≡ Err Refusal.Device → (D.state disk).faults < (D.state result.0).faults }
-    ensures examined { (D.state disk).honest ≡ true → MIN_SECTORS ≤ (D.state disk).sectors
+    ensures examined { (D.state disk).honest ≡ true → LEAST_SECTORS ≤ (D.state disk).sectors
         → ExaminesAs K.Key.Shape K.ReadKeys D.state disk result.0 result.1 }
     ensures damaged { (D.state disk).honest ≡ true
         → FindsDamageAs K.Key.Shape K.ReadKeys D.state disk result.0 result.1 }

@@ -31,10 +31,12 @@ unwritten_here d = record {
 never_unfit : (why : Refusal) → HasFailed why → IsUnfit why → ⊥
 never_unfit why (inl device) (inl other) = cc
 never_unfit why (inl device) (inr (inl other)) = cc
-never_unfit why (inl device) (inr (inr other)) = cc
+never_unfit why (inl device) (inr (inr (inl other))) = cc
+never_unfit why (inl device) (inr (inr (inr other))) = cc
 never_unfit why (inr memory) (inl other) = cc
 never_unfit why (inr memory) (inr (inl other)) = cc
-never_unfit why (inr memory) (inr (inr other)) = cc
+never_unfit why (inr memory) (inr (inr (inl other))) = cc
+never_unfit why (inr memory) (inr (inr (inr other))) = cc
 
 module _ {C B D : Type 0} (shape : Members B) (proper : B → Bool) (said : List ℕ → B) (class : Ghosts C B) (state : D → Device) where
   abbrev f : Format B

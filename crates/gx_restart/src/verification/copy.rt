@@ -8,7 +8,7 @@ ghost use Rattle.gx_restart.specs.Copied.{IsFront, memory_state};
 ghost use Rattle.gx_restart.specs.Setting.{IsCopyOfAs, IsUncopiedAs};
 
 use gx_class::ReadKeys;
-use gx_disk::{MIN_SECTORS, MemDisk, SECTOR_SIZE, SectorDisk};
+use gx_disk::{LEAST_SECTORS, MAX_SECTORS, MIN_SECTORS, MemDisk, SECTOR_SIZE, SectorDisk};
 use gx_format::sectors_for;
 use gx_geom::Refusal;
 use gx_opening::read_parameters;
@@ -16,7 +16,7 @@ use std::alloc::{AllocError, Global};
 
 // Allocates so many sectors.
 fn room_for(alloc: Global, sectors: u64) -> Result<Vec<u8>, AllocError>
-    requires { sectors ≤ 528456 }
+    requires { sectors ≤ MAX_SECTORS }
     ensures { IfOk result (λ bytes. length bytes.items ≡ 512 * sectors) }
 {
     vec![in alloc; 0; SECTOR_SIZE * sectors as usize]
@@ -42,7 +42,7 @@ fn read_first<D: SectorDisk>(disk: &mut D, bytes: &mut [u8], sectors: u64) -> Re
 fn copy_first<D: SectorDisk>(alloc: Global, disk: &mut D, sectors: u64) -> Result<MemDisk, Refusal>
     requires least { MIN_SECTORS ≤ sectors }
     requires inside { sectors ≤ (D.state disk.old).sectors }
-    requires few { sectors ≤ 528456 }
+    requires few { sectors ≤ MAX_SECTORS }
     ensures counted { Counted 0 (D.state disk.old) (D.state disk.new) result }
     ensures looks { (D.state disk.old).honest ≡ true → Looks (D.state disk.old) (D.state disk.new) }
     ensures size { IfOk result (λ copy. (memory_state copy).sectors ≡ sectors) }
@@ -59,14 +59,14 @@ fn copy_first<D: SectorDisk>(alloc: Global, disk: &mut D, sectors: u64) -> Resul
 
 /// Copies what an opening may read of a device, and no more: the sectors of the index that it is formatted for.
 ///
-/// Refused, before memory is taken for the copy, if the device isn't formatted for an index of the class:
+/// Refused, before memory is taken for the copy, if the device isn't formatted for an index of the class: `OldVersion`,
 /// `NotFormatted`, `BadParameter`, `TooSmall`; with `Device` if a read fails, and with `Memory`. It makes no write and
 /// no sync.
 pub(crate) fn copied<D: SectorDisk, K: ReadKeys>(
     alloc: Global,
     disk: &mut D,
 ) -> Result<MemDisk, Refusal>
-    requires { MIN_SECTORS ≤ (D.state disk.old).sectors }
+    requires { LEAST_SECTORS ≤ (D.state disk.old).sectors }
     ensures counted { Counted 0 (D.state disk.old) (D.state disk.new) result }
     ensures looks { (D.state disk.old).honest ≡ true → Looks (D.state disk.old) (D.state disk.new) }
     ensures large { IfOk result (λ copy. MIN_SECTORS ≤ (memory_state copy).sectors) }

@@ -7,7 +7,7 @@ use Rattle.std.proofs.lemmas.Bool.{ne_eqb}
 use Rattle.std.proofs.lemmas.List.Concat.{flat_map-cons}
 use Rattle.gx_geom.specs.Refusals.{refusal_number, refusal_text}
 use Rattle.gx_geom.specs.declared.refusal.Refusal.{Refusal}
-use Rattle.gx_geom.specs.declared.refusal.Refusal.TheVariants.{NoTransaction, InTransaction, Present, Absent, Busy, BadBox, PagesFull, ClaimsFull, PredicatesFull, Memory, Device, Failed, Damaged, NotFormatted, BadSession, CallOpen, TooSmall, BadParameter, NoCall, HistoryFull}
+use Rattle.gx_geom.specs.declared.refusal.Refusal.TheVariants.{NoTransaction, InTransaction, Present, Absent, Busy, BadBox, PagesFull, ClaimsFull, PredicatesFull, Memory, Device, Failed, Damaged, NotFormatted, BadSession, CallOpen, TooSmall, BadParameter, NoCall, HistoryFull, OldVersion}
 use Rattle.gx_machine.specs.declared.entry.Entry.{Entry}
 use Rattle.gx_machine.specs.declared.reply.Reply.{Reply}
 use Rattle.gx_machine.specs.declared.reply.Reply.TheVariants.{Ok, Inserted, Deleted, Found, Committed, Aborted, Refused}
@@ -72,6 +72,7 @@ refusal-unended TooSmall = refl
 refusal-unended BadParameter = refl
 refusal-unended NoCall = refl
 refusal-unended HistoryFull = refl
+refusal-unended OldVersion = refl
 
 one_more : (n : ℕ) → suc n ≡ 1 + n
 one_more n = omega arith

@@ -1,20 +1,16 @@
 //! Adds a pair to a leaf.
-ghost use Rattle.std.specs.Prelude.{◌≡◌, ◌≤◌, length, Err, OnOk, OnErr, IfErr};
+ghost use Rattle.std.specs.Prelude.{◌≡◌, OnOk, OnErr, IfErr};
 ghost use Rattle.gx_glog.specs.declared.stage.Turn.TheVariants.{Closed};
 ghost use Rattle.gx_store.specs.Since.{IsStamped};
-ghost use Rattle.gx_node.specs.Trees.{Used};
-ghost use Rattle.gx_tree.specs.Writing.{Appends};
+ghost use Rattle.gx_tree.specs.Calls.{TellsAdd};
 ghost use Rattle.gx_node.specs.Owner.{step_fails};
 ghost use Rattle.gx_store.specs.Faults.{store_fails};
 ghost use Rattle.gx_storage.specs.Changes.{begun};
 ghost use Rattle.gx_storage.specs.Imaged.{is_imaged};
-ghost use Rattle.gx_storage.specs.Setting.{IsSteadyAs, IsWhyAs, LogsAs, OwnNumberAs, ShowsTheSame, ToldAs};
-ghost use Rattle.gx_storage.specs.Setting.{Unlogged, tree_at};
+ghost use Rattle.gx_storage.specs.Setting.{IsSteadyAs, IsWhyAs, LogsAs, OverPages, OwnNumberAs, ToldAs, Unlogged};
 ghost use Rattle.gx_storage.specs.Small.{IsSpelled, add_room, add_said};
 
 use crate::Storage;
-use crate::changes::added::{add_size, write_add};
-use crate::changes::room::begin_event;
 use gx_class::ReadKeys;
 use gx_disk::SectorDisk;
 use gx_machine::Entry;
@@ -42,40 +38,23 @@ impl<D: SectorDisk, K: ReadKeys> Storage<D, K> {
             (D.state self.new.shelf.disk).seen self.new.shelf)) }
         ensures unlogged { OnErr result (Unlogged K.Key.Shape K.ReadKeys D.state
             (begun self.old (add_room (is_imaged self.old.imaged page) K.KEY)) self.old self.new) }
-        ensures added { IsSteadyAs D.state self.old.shelf
-            → OnOk result (Appends self.old.most (tree_at K.KeyClass D.state self.old.shelf)
-            (tree_at K.KeyClass D.state self.new.shelf) page entry.now) }
+        ensures tells { OverPages K.KeyClass D.state (TellsAdd self.old.most page entry.now result) self.old.shelf
+            self.new.shelf }
         ensures stamped { IsSteadyAs D.state self.old.shelf
             → OnOk result (IsStamped self.old.log.used self.old.shelf.frames self.new.shelf.frames page) }
         ensures own { OnOk result (OwnNumberAs D.state self.new.shelf page) }
         ensures entry { OnOk result (IsSpelled K.spelling entry.now.row entry.now.key) }
-        ensures refused { IsSteadyAs D.state self.old.shelf
-            → OnErr result (ShowsTheSame K.KeyClass D.state self.old.shelf self.new.shelf) }
         ensures told { ToldAs D.state (step_fails store_fails) self.old.shelf self.new.shelf result }
         ensures why { IfErr result (IsWhyAs K.KeyClass D.state
             (begun self.old (add_room (is_imaged self.old.imaged page) K.KEY)) self.new.shelf) }
-        ensures damaged { IsSteadyAs D.state self.old.shelf → result ≡ Err StepFault.Damaged
-            → Used (tree_at K.KeyClass D.state self.old.shelf) page
-            → ((tree_at K.KeyClass D.state self.old.shelf).node page).level ≡ 0
-            → self.old.most ≤ length ((tree_at K.KeyClass D.state self.old.shelf).node page).pairs }
     {
         leaves::<K>();
-        let small = self.imaged.has(page);
+        let size = self.journal.add_size(page);
         self.store.in_order();
-        begin_event(&self.log, &mut self.store, add_size::<K>(small));
+        self.journal.begin_event(&mut self.store, size);
         add_step(&mut self.store, page, entry, self.most)?;
         self.store.in_order();
-        write_add(
-            &mut self.log,
-            &self.store,
-            &mut self.key,
-            &mut self.imaged,
-            small,
-            transaction,
-            entry.row,
-            entry.key,
-            page,
-        );
+        self.journal.add(&self.store, transaction, *entry, page);
         Ok(())
     }
 }

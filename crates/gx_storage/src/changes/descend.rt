@@ -2,23 +2,22 @@
 ghost use Rattle.std.specs.Prelude.{◌≡◌, ◌≢◌, ◌<◌, ℕ, true, length, Err, IfOk, OnErr, IfErr};
 ghost use Rattle.gx_glog.specs.declared.stage.Turn.TheVariants.{Closed};
 ghost use Rattle.gx_node.specs.Trees.{Used};
-ghost use Rattle.gx_tree.specs.Descending.{StepsDown, WayAt, is_widened};
+ghost use Rattle.gx_tree.specs.Calls.{TellsDescend};
+ghost use Rattle.gx_tree.specs.Descending.{WayAt, is_widened};
 ghost use Rattle.gx_node.specs.Owner.{step_fails};
 ghost use Rattle.gx_store.specs.Faults.{store_fails};
 ghost use Rattle.gx_storage.specs.Changes.{begun, begun_at, has_room};
 ghost use Rattle.gx_storage.specs.Changing.{HasToWiden, unwidened};
 ghost use Rattle.gx_storage.specs.Imaged.{is_imaged};
-ghost use Rattle.gx_storage.specs.Setting.{IsSinceAs, IsSteadyAs, IsWhyAs, LogsDescent, OwnNumberAs, ShowsTheSame};
-ghost use Rattle.gx_storage.specs.Setting.{ToldAs, Unlogged, store_at, tree_at};
+ghost use Rattle.gx_storage.specs.Setting.{IsSinceAs, IsSteadyAs, IsWhyAs, LogsDescent, OverPages, OwnNumberAs};
+ghost use Rattle.gx_storage.specs.Setting.{ShowsTheSame, ToldAs, Unlogged, store_at, tree_at};
 ghost use Rattle.gx_storage.specs.Small.{widen_room};
 
 use crate::Storage;
-use crate::changes::room::{begin_event, begin_reading, has_room};
-use crate::changes::widened::{widen_size, write_widen};
+use crate::journal::Journal;
 use gx_class::ReadKeys;
 use gx_disk::SectorDisk;
 use gx_geom::Shape;
-use gx_glog::Glog;
 use gx_node::laws::inners;
 use gx_store::{PageStore, StoreFault};
 use gx_tree::{Descended, Pages, StepFault, TraversalItem, Way, descend_step, way_step};
@@ -41,26 +40,26 @@ fn unwidened<B: Shape>(way: Way<B>, seen: u64) -> Option<Descended<B>>
 /// Returns what a descent does at the page of its item, as the tree's `way_step` does. It asks for no room in the log.
 /// Then it begins the event whose record has so many bytes.
 fn read_way<D: SectorDisk, K: ReadKeys>(
-    log: &Glog,
+    journal: &Journal<K>,
     store: &mut PageStore<D, K>,
     item: &TraversalItem,
     coming: &K::Key,
     most: usize,
     size: usize,
 ) -> Result<Way<K::Key>, StepFault<StoreFault>>
-    ensures since { (q : ℕ) → IsSinceAs K.KeyClass D.state (begun_at log.now size store.old) store.new q }
+    ensures since { (q : ℕ) → IsSinceAs K.KeyClass D.state (begun_at journal.now.log size store.old) store.new q }
     ensures same { IsSteadyAs D.state store.old → ShowsTheSame K.KeyClass D.state store.old store.new }
     ensures told { ToldAs D.state (step_fails store_fails) store.old store.new result }
-    ensures why { IfErr result (IsWhyAs K.KeyClass D.state (begun_at log.now size store.old) store.new) }
+    ensures why { IfErr result (IsWhyAs K.KeyClass D.state (begun_at journal.now.log size store.old) store.new) }
     ensures way { IfOk result (WayAt K.cost K.joined most (store_at K.KeyClass D.state store.new) item.now coming.now) }
     ensures damaged { result ≡ Err StepFault.Damaged → Used (tree_at K.KeyClass D.state store.new) item.now.page
         → (0 < ((tree_at K.KeyClass D.state store.new).node item.now.page).level)
         × (length ((tree_at K.KeyClass D.state store.new).node item.now.page).children ≡ 0) }
     ensures room { result ≢ Err (StepFault.Pages StoreFault.NoRoom) }
 {
-    begin_reading(log, store);
+    journal.begin_reading(store);
     let way = way_step(store, item, coming, most);
-    begin_event(log, store, size);
+    journal.begin_event(store, size);
     way
 }
 
@@ -82,28 +81,27 @@ impl<D: SectorDisk, K: ReadKeys> Storage<D, K> {
         ensures logged { IfOk result (LogsDescent K.Key.Shape K.ReadKeys D.state item.now.page self.old self.new) }
         ensures unlogged { OnErr result (Unlogged K.Key.Shape K.ReadKeys D.state
             (begun self.old (widen_room (is_imaged self.old.imaged item.now.page) K.KEY)) self.old self.new) }
-        ensures descended { IsSteadyAs D.state self.old.shelf
-            → IfOk result (StepsDown K.cost K.joined self.old.most (store_at K.KeyClass D.state self.old.shelf)
-            (store_at K.KeyClass D.state self.new.shelf) item.now coming.now) }
+        ensures tells { OverPages K.KeyClass D.state (TellsDescend K.cost K.joined self.old.most item.now coming.now
+            result) self.old.shelf self.new.shelf }
         ensures own { IfOk result (λ did. is_widened did ≡ true → OwnNumberAs D.state self.new.shelf item.now.page) }
-        ensures refused { IsSteadyAs D.state self.old.shelf
-            → OnErr result (ShowsTheSame K.KeyClass D.state self.old.shelf self.new.shelf) }
         ensures told { ToldAs D.state (step_fails store_fails) self.old.shelf self.new.shelf result }
         ensures why { IfErr result (IsWhyAs K.KeyClass D.state
             (begun self.old (widen_room (is_imaged self.old.imaged item.now.page) K.KEY)) self.new.shelf) }
-        ensures damaged { IsSteadyAs D.state self.old.shelf → result ≡ Err StepFault.Damaged
-            → Used (tree_at K.KeyClass D.state self.old.shelf) item.now.page
-            → (0 < ((tree_at K.KeyClass D.state self.old.shelf).node item.now.page).level)
-            × (length ((tree_at K.KeyClass D.state self.old.shelf).node item.now.page).children ≡ 0) }
         ensures room { result ≡ Err (StepFault.Pages StoreFault.NoRoom)
             → HasToWiden K.cost K.joined self.old.most (store_at K.KeyClass D.state self.new.shelf) item.now
             coming.now }
     {
         let page = item.page();
-        let small = self.imaged.has(page);
-        let size = widen_size::<K>(small);
-        if !has_room(&self.log, size) {
-            let way = read_way(&self.log, &mut self.store, item, coming, self.most, size)?;
+        let size = self.journal.widen_size(page);
+        if !self.journal.has_room(size) {
+            let way = read_way(
+                &self.journal,
+                &mut self.store,
+                item,
+                coming,
+                self.most,
+                size,
+            )?;
             match unwidened(way, self.store.counter()) {
                 Some(did) => return Ok(did),
                 None => return Err(StepFault::Pages(StoreFault::NoRoom)),
@@ -111,22 +109,13 @@ impl<D: SectorDisk, K: ReadKeys> Storage<D, K> {
         }
         inners::<K>();
         self.store.in_order();
-        begin_event(&self.log, &mut self.store, size);
+        self.journal.begin_event(&mut self.store, size);
         let did = descend_step(&mut self.store, item, coming, self.most)?;
         let Descended::Widened(_, slot, key) = &did else {
             return Ok(did);
         };
         self.store.in_order();
-        write_widen(
-            &mut self.log,
-            &self.store,
-            &mut self.key,
-            &mut self.imaged,
-            small,
-            page,
-            *slot,
-            *key,
-        );
+        self.journal.widen(&self.store, page, *slot, *key);
         Ok(did)
     }
 }

@@ -8,17 +8,16 @@ ghost use Rattle.gx_node.specs.Owner.{step_fails};
 ghost use Rattle.gx_store.specs.Faults.{store_fails};
 ghost use Rattle.gx_storage.specs.Changes.{begun, begun_at, has_room};
 ghost use Rattle.gx_storage.specs.Imaged.{is_imaged};
+ghost use Rattle.gx_storage.specs.Marks.{MarksEntry};
 ghost use Rattle.gx_storage.specs.Numbers.{OwnWhereSet};
-ghost use Rattle.gx_storage.specs.Setting.{HasEntryAs, IsSinceAs, IsSteadyAs, IsWhyAs, LogsMark, MarksEntryAs};
+ghost use Rattle.gx_storage.specs.Setting.{HasEntryAs, IsSinceAs, IsSteadyAs, IsWhyAs, LogsMark, OverPages};
 ghost use Rattle.gx_storage.specs.Setting.{ShowsTheSame, ToldAs, Unlogged, tree_at};
 ghost use Rattle.gx_storage.specs.Small.{mark_room};
 
 use crate::Storage;
-use crate::changes::marked::{mark_size, write_mark};
-use crate::changes::room::{begin_event, begin_reading, has_room};
+use crate::journal::Journal;
 use gx_class::{Probing, ReadKeys};
 use gx_disk::SectorDisk;
-use gx_glog::Glog;
 use gx_machine::Entry;
 use gx_node::laws::{leaves, small_marks};
 use gx_store::{PageStore, StoreFault};
@@ -27,25 +26,25 @@ use gx_tree::{Sought, StepFault, Wanted, seek_step, set_mark_step};
 /// Looks for a pair in the leaf on a page, as the tree's `seek_step` does. It asks for no room in the log. Then it
 /// begins the event whose record has so many bytes.
 fn read_leaf<D: SectorDisk, K: ReadKeys + Probing>(
-    log: &Glog,
+    journal: &Journal<K>,
     store: &mut PageStore<D, K>,
     wanted: &Wanted<K>,
     page: u32,
     size: usize,
 ) -> Result<Sought, StepFault<StoreFault>>
-    ensures since { (q : ℕ) → IsSinceAs K.KeyClass D.state (begun_at log.now size store.old) store.new q }
+    ensures since { (q : ℕ) → IsSinceAs K.KeyClass D.state (begun_at journal.now.log size store.old) store.new q }
     ensures same { IsSteadyAs D.state store.old → ShowsTheSame K.KeyClass D.state store.old store.new }
     ensures told { ToldAs D.state (step_fails store_fails) store.old store.new result }
-    ensures why { IfErr result (IsWhyAs K.KeyClass D.state (begun_at log.now size store.old) store.new) }
+    ensures why { IfErr result (IsWhyAs K.KeyClass D.state (begun_at journal.now.log size store.old) store.new) }
     ensures sought { IfOk result (Seeks (wants K.passes wanted.now.keys wanted.now.row)
         ((tree_at K.KeyClass D.state store.new).node page)) }
     ensures damaged { result ≡ Err StepFault.Damaged → Used (tree_at K.KeyClass D.state store.new) page
         → ((tree_at K.KeyClass D.state store.new).node page).level ≢ 0 }
     ensures room { result ≢ Err (StepFault.Pages StoreFault.NoRoom) }
 {
-    begin_reading(log, store);
+    journal.begin_reading(store);
     let sought = seek_step(store, wanted, page);
-    begin_event(log, store, size);
+    journal.begin_event(store, size);
     sought
 }
 
@@ -70,25 +69,19 @@ impl<D: SectorDisk, K: ReadKeys + Probing> Storage<D, K> {
             page marked self.old self.new) }
         ensures unlogged { OnErr result (Unlogged K.Key.Shape K.ReadKeys D.state
             (begun self.old (mark_room (is_imaged self.old.imaged page) K.KEY)) self.old self.new) }
-        ensures marked { IfOk result (MarksEntryAs K.Key.Shape K.KeyClass D.state self.old self.new entry.now page
-            marked) }
+        ensures tells { OverPages K.KeyClass D.state (MarksEntry K.is_key K.Key.Shape entry.now page marked result)
+            self.old.shelf self.new.shelf }
         ensures own { IfOk result (λ did. OwnWhereSet (D.state self.new.shelf.disk).seen self.new.shelf page did) }
-        ensures refused { IsSteadyAs D.state self.old.shelf
-            → OnErr result (ShowsTheSame K.KeyClass D.state self.old.shelf self.new.shelf) }
         ensures told { ToldAs D.state (step_fails store_fails) self.old.shelf self.new.shelf result }
         ensures why { IfErr result (IsWhyAs K.KeyClass D.state
             (begun self.old (mark_room (is_imaged self.old.imaged page) K.KEY)) self.new.shelf) }
-        ensures damaged { IsSteadyAs D.state self.old.shelf → result ≡ Err StepFault.Damaged
-            → Used (tree_at K.KeyClass D.state self.old.shelf) page
-            → ((tree_at K.KeyClass D.state self.old.shelf).node page).level ≢ 0 }
         ensures room { result ≡ Err (StepFault.Pages StoreFault.NoRoom)
             → HasEntryAs K.Key.Shape K.KeyClass D.state self.new entry.now page }
     {
         let wanted = Wanted::<K>::entry(entry);
-        let small = self.imaged.has(page);
-        let size = mark_size::<K>(small);
-        if !has_room(&self.log, size) {
-            let sought = read_leaf(&self.log, &mut self.store, &wanted, page, size)?;
+        let size = self.journal.mark_size(page);
+        if !self.journal.has_room(size) {
+            let sought = read_leaf(&self.journal, &mut self.store, &wanted, page, size)?;
             match sought {
                 Sought::Here(..) => return Err(StepFault::Pages(StoreFault::NoRoom)),
                 Sought::Right(next) => return Ok(Sought::Right(next)),
@@ -98,23 +91,12 @@ impl<D: SectorDisk, K: ReadKeys + Probing> Storage<D, K> {
         small_marks::<K>(self.most);
         K::known(&entry.key);
         self.store.in_order();
-        begin_event(&self.log, &mut self.store, size);
+        self.journal.begin_event(&mut self.store, size);
         match set_mark_step(&mut self.store, &wanted, page, marked)? {
             Sought::Here(slot, before) => {
                 self.store.in_order();
-                write_mark(
-                    &mut self.log,
-                    &self.store,
-                    &mut self.key,
-                    &mut self.imaged,
-                    small,
-                    transaction,
-                    entry.row,
-                    entry.key,
-                    before,
-                    marked,
-                    page,
-                );
+                self.journal
+                    .mark(&self.store, transaction, *entry, before, marked, page);
                 Ok(Sought::Here(slot, before))
             }
             Sought::Right(next) => Ok(Sought::Right(next)),

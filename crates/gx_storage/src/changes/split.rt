@@ -1,30 +1,27 @@
 //! The split of a node.
-ghost use Rattle.std.specs.Prelude.{◌≡◌, ◌≢◌, ◌<◌, ◌≤◌, ◌+◌, ◌^◌, suc, length, Err, IfOk, IfErr, IfSome, OnErr};
+ghost use Rattle.std.specs.Prelude.{◌≡◌, ◌≤◌, suc, length, Err, IfOk, IfErr, IfSome, OnErr};
 ghost use Rattle.gx_glog.specs.declared.stage.Turn.TheVariants.{Closed};
 ghost use Rattle.gx_node.specs.declared.items.TheConstants.{MAX_ENTRIES};
 ghost use Rattle.gx_store.specs.Since.{IsStamped};
-ghost use Rattle.gx_node.specs.Legal.{Legal};
-ghost use Rattle.gx_node.specs.Trees.{Used, size};
 ghost use Rattle.gx_node.specs.Keyed.{rules_of};
-ghost use Rattle.gx_tree.specs.Splitting.{HasNoPlace, Splits, has_split};
-ghost use Rattle.gx_node.specs.Store.{node_at};
+ghost use Rattle.gx_tree.specs.Calls.{TellsSplit};
+ghost use Rattle.gx_tree.specs.Splitting.{has_split};
 ghost use Rattle.gx_record.specs.declared.sizes.TheConstants.{SPLIT_RECORD};
 ghost use Rattle.gx_node.specs.Owner.{split_fails};
 ghost use Rattle.gx_store.specs.Faults.{store_fails};
 ghost use Rattle.gx_storage.specs.Changes.{begun};
 ghost use Rattle.gx_storage.specs.Giving.{rising};
 ghost use Rattle.gx_node.specs.Lists.{Each};
-ghost use Rattle.gx_storage.specs.Setting.{IsSteadyAs, IsWhyOfSplitAs, LogsIf, OwnNumberAs, ShowsTheSame, Unlogged};
-ghost use Rattle.gx_storage.specs.Setting.{ToldAs, pages_given_at, store_at, tree_at};
+ghost use Rattle.gx_storage.specs.Setting.{IsSteadyAs, IsWhyOfSplitAs, LogsIf, OverPages, OwnNumberAs, ToldAs};
+ghost use Rattle.gx_storage.specs.Setting.{Unlogged, pages_given_at};
 
 use crate::Storage;
-use crate::changes::given_pages::{give_three, in_rising_order};
-use crate::changes::room::begin_event;
+use crate::journal::in_rising_order;
 use gx_class::ReadKeys;
 use gx_disk::SectorDisk;
 use gx_record::SPLIT_RECORD;
 use gx_store::StoreFault;
-use gx_tree::{Split, SplitFault, StepFault, split_step};
+use gx_tree::{Split, SplitFault, split_step};
 
 impl<D: SectorDisk, K: ReadKeys> Storage<D, K> {
     /// Splits the node on a page, which is full, below its parent, as the tree's `split_step` says, and appends the
@@ -50,9 +47,8 @@ impl<D: SectorDisk, K: ReadKeys> Storage<D, K> {
             (has_split did)) }
         ensures unlogged { OnErr result (Unlogged K.Key.Shape K.ReadKeys D.state
             (begun self.old SPLIT_RECORD) self.old self.new) }
-        ensures split { IsSteadyAs D.state self.old.shelf
-            → IfOk result (Splits (rules_of K.Key.Shape self.old.most) K.sides_of
-            (store_at K.KeyClass D.state self.old.shelf) (store_at K.KeyClass D.state self.new.shelf) page parent) }
+        ensures tells { OverPages K.KeyClass D.state (TellsSplit (rules_of K.Key.Shape self.old.most) K.sides_of
+            K.is_key page parent result) self.old.shelf self.new.shelf }
         ensures stamped { IsSteadyAs D.state self.old.shelf
             → IfOk result (λ did. IfSome did (λ _. IsStamped self.old.log.used self.old.shelf.frames
             self.new.shelf.frames page × IsStamped self.old.log.used self.old.shelf.frames self.new.shelf.frames
@@ -60,43 +56,18 @@ impl<D: SectorDisk, K: ReadKeys> Storage<D, K> {
         ensures own { IfOk result (λ did. IfSome did (λ _. Each (OwnNumberAs D.state self.new.shelf)
             (rising page parent (suc self.old.shelf.used)))) }
         ensures sibling { IfOk result (λ did. IfSome did (λ split. split.sibling ≡ suc self.old.shelf.used)) }
-        ensures apart { IfOk result (λ did. IfSome did (λ split.
-            (page ≢ parent) × (split.sibling ≢ page) × (split.sibling ≢ parent))) }
-        ensures keys { IfOk result (λ did. IfSome did (λ split. K.is_key split.left × K.is_key split.right)) }
-        ensures only_full { IsSteadyAs D.state self.old.shelf
-            → IfOk result (λ did. IfSome did (λ _. self.old.most ≤ size
-            (node_at (store_at K.KeyClass D.state self.old.shelf).nodes page))) }
-        ensures refused { IsSteadyAs D.state self.old.shelf
-            → OnErr result (ShowsTheSame K.KeyClass D.state self.old.shelf self.new.shelf) }
         ensures told { ToldAs D.state (split_fails store_fails) self.old.shelf self.new.shelf result }
         ensures why { IfErr result (IsWhyOfSplitAs K.KeyClass D.state (begun self.old SPLIT_RECORD) self.new.shelf) }
         ensures full { IsSteadyAs D.state self.old.shelf → result ≡ Err SplitFault.PagesFull
             → self.old.shelf.pages ≤ self.old.shelf.used }
-        ensures placed { IsSteadyAs D.state self.old.shelf → result ≡ Err SplitFault.PagesFull
-            → ¬ HasNoPlace (rules_of K.Key.Shape self.old.most) (tree_at K.KeyClass D.state self.old.shelf) page
-            parent }
-        ensures damaged { IsSteadyAs D.state self.old.shelf → result ≡ Err (SplitFault.Step StepFault.Damaged)
-            → Legal (rules_of K.Key.Shape self.old.most) (tree_at K.KeyClass D.state self.old.shelf)
-            → Used (tree_at K.KeyClass D.state self.old.shelf) page
-            → Used (tree_at K.KeyClass D.state self.old.shelf) parent → page ≢ parent
-            → 0 < (node_at (store_at K.KeyClass D.state self.old.shelf).nodes parent).level
-            → self.old.most ≤ size (node_at (store_at K.KeyClass D.state self.old.shelf).nodes page)
-            → self.old.shelf.counter + 1 < 2 ^ 64 → ⊥ }
     {
-        begin_event(&self.log, &mut self.store, SPLIT_RECORD);
+        self.journal.begin_event(&mut self.store, SPLIT_RECORD);
         let Some(split) = split_step(&mut self.store, page, parent, self.most, keys)? else {
             return Ok(None);
         };
         self.store.in_order();
         let (first, second, third) = in_rising_order(page, parent, split.sibling);
-        give_three(
-            &mut self.log,
-            &self.store,
-            &mut self.imaged,
-            first,
-            second,
-            third,
-        );
+        self.journal.split(&self.store, first, second, third);
         Ok(Some(split))
     }
 }

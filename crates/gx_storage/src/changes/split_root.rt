@@ -1,24 +1,19 @@
 //! The split of the root.
-ghost use Rattle.std.specs.Prelude.{◌≡◌, ◌<◌, ◌≤◌, ◌+◌, ◌^◌, suc, [], ◌∷◌, length, Err, IfOk, IfErr, OnOk, OnErr};
+ghost use Rattle.std.specs.Prelude.{◌≡◌, ◌<◌, ◌≤◌, ◌+◌, suc, [], ◌∷◌, length, Err, IfOk, IfErr, OnOk, OnErr};
 ghost use Rattle.gx_glog.specs.declared.stage.Turn.TheVariants.{Closed};
 ghost use Rattle.gx_node.specs.declared.items.TheConstants.{MAX_ENTRIES};
 ghost use Rattle.gx_store.specs.Since.{IsStamped};
-ghost use Rattle.gx_node.specs.Legal.{Legal};
-ghost use Rattle.gx_node.specs.Trees.{size};
 ghost use Rattle.gx_node.specs.Keyed.{rules_of};
-ghost use Rattle.gx_tree.specs.Splitting.{DidSplitRoot};
-ghost use Rattle.gx_node.specs.Store.{node_at};
+ghost use Rattle.gx_tree.specs.Calls.{TellsRootSplit};
 ghost use Rattle.gx_record.specs.declared.sizes.TheConstants.{SPLIT_RECORD};
 ghost use Rattle.gx_node.specs.Owner.{split_fails};
 ghost use Rattle.gx_store.specs.Faults.{store_fails};
 ghost use Rattle.gx_storage.specs.Changes.{begun};
 ghost use Rattle.gx_node.specs.Lists.{Each};
-ghost use Rattle.gx_storage.specs.Setting.{IsSteadyAs, IsWhyOfSplitAs, LogsAs, OwnNumberAs, ShowsTheSame, Unlogged};
-ghost use Rattle.gx_storage.specs.Setting.{ToldAs, pages_given_at, store_at, tree_at};
+ghost use Rattle.gx_storage.specs.Setting.{IsSteadyAs, IsWhyOfSplitAs, LogsAs, OverPages, OwnNumberAs, ToldAs};
+ghost use Rattle.gx_storage.specs.Setting.{Unlogged, pages_given_at};
 
 use crate::Storage;
-use crate::changes::given_pages::give_three;
-use crate::changes::room::begin_event;
 use gx_class::ReadKeys;
 use gx_disk::SectorDisk;
 use gx_record::SPLIT_RECORD;
@@ -45,43 +40,27 @@ impl<D: SectorDisk, K: ReadKeys> Storage<D, K> {
             self.new.shelf)) }
         ensures unlogged { OnErr result (Unlogged K.Key.Shape K.ReadKeys D.state
             (begun self.old SPLIT_RECORD) self.old self.new) }
-        ensures split { IsSteadyAs D.state self.old.shelf
-            → IfOk result (DidSplitRoot (rules_of K.Key.Shape self.old.most) K.sides_of
-            (store_at K.KeyClass D.state self.old.shelf) (store_at K.KeyClass D.state self.new.shelf)) }
+        ensures tells { OverPages K.KeyClass D.state (TellsRootSplit (rules_of K.Key.Shape self.old.most) K.sides_of
+            K.is_key result) self.old.shelf self.new.shelf }
         ensures stamped { IsSteadyAs D.state self.old.shelf
             → OnOk result (IsStamped self.old.log.used self.old.shelf.frames self.new.shelf.frames 1) }
         ensures own { OnOk result (Each (OwnNumberAs D.state self.new.shelf)
             (1 ∷ suc self.old.shelf.used ∷ suc (suc self.old.shelf.used) ∷ [])) }
         ensures places { IfOk result (λ did. (did.first ≡ suc self.old.shelf.used)
             × (did.second ≡ suc (suc self.old.shelf.used))) }
-        ensures keys { IfOk result (λ did. K.is_key did.left × K.is_key did.right) }
-        ensures only_full { IsSteadyAs D.state self.old.shelf
-            → OnOk result (self.old.most ≤ size (node_at (store_at K.KeyClass D.state self.old.shelf).nodes 1)) }
-        ensures refused { IsSteadyAs D.state self.old.shelf
-            → OnErr result (ShowsTheSame K.KeyClass D.state self.old.shelf self.new.shelf) }
         ensures told { ToldAs D.state (split_fails store_fails) self.old.shelf self.new.shelf result }
         ensures why { IfErr result (IsWhyOfSplitAs K.KeyClass D.state (begun self.old SPLIT_RECORD) self.new.shelf) }
         ensures full { IsSteadyAs D.state self.old.shelf → result ≡ Err SplitFault.PagesFull
             → self.old.shelf.pages < self.old.shelf.used + 2 }
-        ensures damaged { IsSteadyAs D.state self.old.shelf → result ≡ Err (SplitFault.Step StepFault.Damaged)
-            → Legal (rules_of K.Key.Shape self.old.most) (tree_at K.KeyClass D.state self.old.shelf)
-            → self.old.most ≤ size (node_at (store_at K.KeyClass D.state self.old.shelf).nodes 1)
-            → (node_at (store_at K.KeyClass D.state self.old.shelf).nodes 1).level + 1 < 2 ^ 16 → ⊥ }
     {
-        begin_event(&self.log, &mut self.store, SPLIT_RECORD);
+        self.journal.begin_event(&mut self.store, SPLIT_RECORD);
         if self.store.used() == 0 {
             return Err(SplitFault::Step(StepFault::Damaged));
         }
         let split = split_root_step(&mut self.store, self.most, keys)?;
         self.store.in_order();
-        give_three(
-            &mut self.log,
-            &self.store,
-            &mut self.imaged,
-            1,
-            split.first,
-            split.second,
-        );
+        self.journal
+            .split(&self.store, 1, split.first, split.second);
         Ok(split)
     }
 }

@@ -1,29 +1,25 @@
 //! The sweep of a leaf.
-ghost use Rattle.std.specs.Prelude.{◌≡◌, ◌≢◌, ◌<◌, ◌≤◌, ℕ, Bool, true, length, Err, IfOk, OnErr, OnOk, IfErr};
+ghost use Rattle.std.specs.Prelude.{◌≡◌, ◌≢◌, ◌<◌, ◌≤◌, ℕ, Bool, true, length, Err, IfOk, OnOk, IfErr};
 ghost use Rattle.gx_glog.specs.declared.stage.Turn.TheVariants.{Closed};
 ghost use Rattle.gx_machine.specs.declared.entry.Entry.{Entry};
 ghost use Rattle.gx_node.specs.declared.items.TheConstants.{MAX_ENTRIES};
 ghost use Rattle.gx_store.specs.Since.{IsStamped};
 ghost use Rattle.gx_store.specs.State.{IsHeld};
 ghost use Rattle.gx_node.specs.Trees.{Used};
-ghost use Rattle.gx_tree.specs.Sweeping.{FitsLeaf, PlansSweep};
-ghost use Rattle.gx_tree.specs.Writing.{Swept};
+ghost use Rattle.gx_tree.specs.Calls.{TellsSweep};
+ghost use Rattle.gx_tree.specs.Sweeping.{Answers, FitsLeaf, PlansSweep};
 ghost use Rattle.gx_record.specs.declared.sizes.TheConstants.{MOST_SLOTS};
 ghost use Rattle.gx_node.specs.Owner.{step_fails};
 ghost use Rattle.gx_store.specs.Faults.{store_fails};
 ghost use Rattle.gx_storage.specs.Bringing.{has_removable};
-ghost use Rattle.gx_storage.specs.Changes.{begun_at};
-ghost use Rattle.gx_storage.specs.Setting.{IsSinceAs, IsSteadyAs, IsWhyAs, LogsSweep, OwnNumberAs, RefusesSweep};
-ghost use Rattle.gx_storage.specs.Setting.{ShowsTheSame, ToldAs, store_at, tree_at};
-ghost use Rattle.gx_storage.specs.Small.{sweep_room};
-ghost use Rattle.gx_storage.specs.Sweeping.{Answers, slots_planned};
+ghost use Rattle.gx_storage.specs.Setting.{IsSinceAs, IsSteadyAs, IsWhyAs, LogsSweep, OverPages, OwnNumberAs};
+ghost use Rattle.gx_storage.specs.Setting.{RefusesSweep, ShowsTheSame, ToldAs, tree_at};
+ghost use Rattle.gx_storage.specs.Sweeping.{begun_sweep, slots_planned};
 
 use crate::Storage;
-use crate::changes::room::{begin_event, begin_reading};
-use crate::changes::swept::{sweep_size, write_sweep};
+use crate::journal::Journal;
 use gx_class::ReadKeys;
 use gx_disk::SectorDisk;
-use gx_glog::Glog;
 use gx_machine::Entry;
 use gx_node::laws::leaves;
 use gx_record::MOST_SLOTS;
@@ -44,19 +40,18 @@ fn slot_count(plan: &Result<Sweep, StepFault<StoreFault>>) -> usize
 /// Returns which pairs of the leaf on a page a sweep removes, as the tree's `plan_sweep` does. It asks for no room in
 /// the log. Then it begins the event whose record has these slots, or the page's image.
 fn plan<D: SectorDisk, K: ReadKeys, F: Fn(Entry<K::Key>) -> bool>(
-    log: &Glog,
+    journal: &Journal<K>,
     store: &mut PageStore<D, K>,
-    small: bool,
     page: u32,
     claimed: F,
 ) -> Result<Sweep, StepFault<StoreFault>>
     requires claimed { F.IsAlwaysCallable claimed }
     ensures since { (q : ℕ) → IsSinceAs K.KeyClass D.state
-        (begun_at log.now (sweep_room small (length (slots_planned result))) store.old) store.new q }
+        (begun_sweep journal.now page (slots_planned result) store.old) store.new q }
     ensures same { IsSteadyAs D.state store.old → ShowsTheSame K.KeyClass D.state store.old store.new }
     ensures told { ToldAs D.state (step_fails store_fails) store.old store.new result }
     ensures why { IfErr result (IsWhyAs K.KeyClass D.state
-        (begun_at log.now (sweep_room small (length (slots_planned result))) store.old) store.new) }
+        (begun_sweep journal.now page (slots_planned result) store.old) store.new) }
     ensures few { length (slots_planned result) ≤ MOST_SLOTS }
     ensures held { OnOk result (IsHeld store.new page × Used (tree_at K.KeyClass D.state store.new) page) }
     ensures page { IfOk result (λ sweep. sweep.page ≡ page) }
@@ -68,9 +63,9 @@ fn plan<D: SectorDisk, K: ReadKeys, F: Fn(Entry<K::Key>) -> bool>(
         → MAX_ENTRIES < length ((tree_at K.KeyClass D.state store.new).node page).pairs }
     ensures room { result ≢ Err (StepFault.Pages StoreFault.NoRoom) }
 {
-    begin_reading(log, store);
+    journal.begin_reading(store);
     let plan = plan_sweep(store, page, claimed);
-    begin_event(log, store, sweep_size(small, slot_count(&plan)));
+    journal.begin_event(store, journal.sweep_size(page, slot_count(&plan)));
     plan
 }
 
@@ -93,34 +88,26 @@ impl<D: SectorDisk, K: ReadKeys> Storage<D, K> {
             (Answers F.post claimed) self.old self.new page) }
         ensures unlogged { IfErr result (RefusesSweep K.Key.Shape K.ReadKeys D.state
             (Answers F.post claimed) self.old self.new page) }
-        ensures swept { IsSteadyAs D.state self.old.shelf → (test : Entry K.Key → Bool) → Answers F.post claimed test
-            → IfOk result (Swept test (store_at K.KeyClass D.state self.old.shelf)
-            (store_at K.KeyClass D.state self.new.shelf) page) }
+        ensures tells { OverPages K.KeyClass D.state (TellsSweep (Answers F.post claimed) page result) self.old.shelf
+            self.new.shelf }
         ensures stamped { IsSteadyAs D.state self.old.shelf
             → IfOk result (λ any. any ≡ true
             → IsStamped self.old.log.used self.old.shelf.frames self.new.shelf.frames page) }
         ensures own { IfOk result (λ any. any ≡ true → OwnNumberAs D.state self.new.shelf page) }
-        ensures refused { IsSteadyAs D.state self.old.shelf
-            → OnErr result (ShowsTheSame K.KeyClass D.state self.old.shelf self.new.shelf) }
         ensures told { ToldAs D.state (step_fails store_fails) self.old.shelf self.new.shelf result }
-        ensures damaged { IsSteadyAs D.state self.old.shelf → result ≡ Err StepFault.Damaged
-            → Used (tree_at K.KeyClass D.state self.old.shelf) page
-            → ((tree_at K.KeyClass D.state self.old.shelf).node page).level ≡ 0
-            → MAX_ENTRIES < length ((tree_at K.KeyClass D.state self.old.shelf).node page).pairs }
         ensures room { result ≡ Err (StepFault.Pages StoreFault.NoRoom) → (test : Entry K.Key → Bool)
             → Answers F.post claimed test
             → has_removable test ((tree_at K.KeyClass D.state self.new.shelf).node page) ≡ true }
     {
         leaves::<K>();
-        let small = self.imaged.has(page);
         self.store.in_order();
-        let plan = plan(&self.log, &mut self.store, small, page, claimed)?;
+        let plan = plan(&self.journal, &mut self.store, page, claimed)?;
         if plan.is_empty() {
             return Ok(false);
         }
         make_sweep(&mut self.store, &plan)?;
         self.store.in_order();
-        write_sweep(&mut self.log, &self.store, &mut self.imaged, small, &plan);
+        self.journal.sweep(&self.store, &plan);
         Ok(true)
     }
 }

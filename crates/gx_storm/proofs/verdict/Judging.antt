@@ -60,6 +60,7 @@ faultless_refusal B refusal.CallOpen e = refl
 faultless_refusal B refusal.TooSmall e = refl
 faultless_refusal B refusal.BadParameter e = refl
 faultless_refusal B refusal.NoCall e = refl
+faultless_refusal B refusal.OldVersion e = refl
 faultless_refusal B refusal.HistoryFull e = absurd (let bad : Some refusal.HistoryFull ≡ None = e in cc)
 
 same_some : {A : Type 0} (x y : A) → Some x ≡ Some y → x ≡ y

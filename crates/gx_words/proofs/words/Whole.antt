@@ -18,10 +18,10 @@ use Rattle.clap.specs.Walk.{Row, Rule, Text, first_of, has_row, nothing_held, ro
 use Rattle.clap.specs.declared.error.kind.ErrorKind.{ErrorKind}
 use Rattle.clap.specs.declared.builder.value_parser.ValueParser.TheVariants as vp
 use Rattle.clap.proofs.ValueTestLemmas.{accepts-Accepts}
-use Rattle.gx_words.specs.Asking.{HasClass, HasDump, HasFormat, HasRun, HasStorm, IsAccepted, IsWhole, class_word}
+use Rattle.gx_words.specs.Asking.{HasClass, HasDump, HasFormat, HasMigrate, HasRun, HasStorm, IsAccepted, IsWhole, class_word}
 use Rattle.gx_words.specs.declared.asking.Dimensions.{Dimensions}
 use Rattle.gx_words.specs.declared.asking.Dimensions.TheVariants.{Two, Three}
-use Rattle.gx_words.specs.Program.{AreClasses, ClassWords, dump_app, format_app, gist_app, plain_app, run_app, storm_app, verify_app, with_required}
+use Rattle.gx_words.specs.Program.{AreClasses, ClassWords, dump_app, format_app, gist_app, migrate_app, plain_app, run_app, storm_app, verify_app, with_required}
 use Rattle.gx_words.proofs.words.Passing.{AllOwn, IsGood, IsOther, some_kind, default_gives, default_keeps, given_row, good_word, level_good, row_by_id, walk_other}
 
 all_three : (x y z : Bool) (k : ErrorKind) → cond (not x || (not y || (not z || false))) (k ∷ []) [] ≡ [] → (x ≡ true) × (y ≡ true) × (z ≡ true)
@@ -29,6 +29,11 @@ all_three true true true k fine = (refl, refl, refl)
 all_three false y z k fine = absurd (some_kind k [] fine)
 all_three true false z k fine = absurd (some_kind k [] fine)
 all_three true true false k fine = absurd (some_kind k [] fine)
+
+both_two : (x y : Bool) (k : ErrorKind) → cond (not x || (not y || false)) (k ∷ []) [] ≡ [] → (x ≡ true) × (y ≡ true)
+both_two true true k fine = (refl, refl)
+both_two false y k fine = absurd (some_kind k [] fine)
+both_two true false k fine = absurd (some_kind k [] fine)
 
 that_one : (x : Bool) (k : ErrorKind) → cond (not x || false) (k ∷ []) [] ≡ [] → x ≡ true
 that_one true k fine = refl
@@ -53,17 +58,22 @@ rest_rules [] = []
 rest_rules (a ∷ rest) = rest
 
 -- of three arguments the second has a default, and so a row
-second_kept : (rows : List Row) (a b c : Rule) → 1 ≤ length b.defaults → has_row b.id (fold with_default rows (a ∷ b ∷ c ∷ [])) ≡ true
-second_kept rows a b c some = default_keeps b.id (with_default (with_default rows a) b) c (default_gives (with_default rows a) b some)
+second_of_three_kept : (rows : List Row) (a b c : Rule) → 1 ≤ length b.defaults → has_row b.id (fold with_default rows (a ∷ b ∷ c ∷ [])) ≡ true
+second_of_three_kept rows a b c some = default_keeps b.id (with_default (with_default rows a) b) c (default_gives (with_default rows a) b some)
 
--- the same of one more argument
-third_kept : (rows : List Row) (a b c d e : Rule) → 1 ≤ length d.defaults → has_row d.id (fold with_default rows (a ∷ b ∷ c ∷ d ∷ e ∷ [])) ≡ true
-third_kept rows a b c d e some =
+-- the same of the third of four
+third_of_four_kept : (rows : List Row) (a b c d : Rule) → 1 ≤ length c.defaults → has_row c.id (fold with_default rows (a ∷ b ∷ c ∷ d ∷ [])) ≡ true
+third_of_four_kept rows a b c d some =
+    default_keeps c.id (with_default (with_default (with_default rows a) b) c) d (default_gives (with_default (with_default rows a) b) c some)
+
+-- and of the fourth of five
+fourth_of_five_kept : (rows : List Row) (a b c d e : Rule) → 1 ≤ length d.defaults → has_row d.id (fold with_default rows (a ∷ b ∷ c ∷ d ∷ e ∷ [])) ≡ true
+fourth_of_five_kept rows a b c d e some =
     default_keeps d.id (with_default (with_default (with_default (with_default rows a) b) c) d) e (default_gives (with_default (with_default (with_default rows a) b) c) d some)
 
 -- of two arguments the first has a default, and so a row
-first_kept : (rows : List Row) (a b : Rule) → 1 ≤ length a.defaults → has_row a.id (fold with_default rows (a ∷ b ∷ [])) ≡ true
-first_kept rows a b some = default_keeps a.id (with_default rows a) b (default_gives rows a some)
+first_of_two_kept : (rows : List Row) (a b : Rule) → 1 ≤ length a.defaults → has_row a.id (fold with_default rows (a ∷ b ∷ [])) ≡ true
+first_of_two_kept rows a b some = default_keeps a.id (with_default rows a) b (default_gives rows a some)
 
 -- a word is among these, wherever they lie
 any_now : (word : Text) (xs : List (Bor Text)) → list_any (λ name. same_text false name.now word) xs ≡ list_any (λ name. bytes_eq name word) (map (λ name. name.now) xs)
@@ -90,8 +100,8 @@ class_accepted classes are a rows exact parser named good =
 module _ (classes : ClassWords) (are : AreClasses classes) where
   -- and the same as its parser has them at work
   abbrev app : App
-  app = with_subcommand (with_subcommand (with_subcommand (with_subcommand (with_subcommand (with_subcommand (with_required (new_app (codes "gist")))
-      (plain_app classes).top) (format_app classes).top) run_app.top) dump_app.top) verify_app.top) storm_app.top
+  app = with_subcommand (with_subcommand (with_subcommand (with_subcommand (with_subcommand (with_subcommand (with_subcommand (with_required (new_app (codes "gist")))
+      (plain_app classes).top) (format_app classes).top) run_app.top) dump_app.top) verify_app.top) migrate_app.top) storm_app.top
 
   abbrev at_work : App
   at_work = built app
@@ -111,6 +121,9 @@ module _ (classes : ClassWords) (are : AreClasses classes) where
 
   abbrev verify_shape : Shape
   verify_shape = built_leaf (inherited app.top verify_app.top)
+
+  abbrev migrate_shape : Shape
+  migrate_shape = built_leaf (inherited app.top migrate_app.top)
 
   abbrev storm_shape : Shape
   storm_shape = built_leaf (inherited app.top storm_app.top)
@@ -163,6 +176,14 @@ module _ (classes : ClassWords) (are : AreClasses classes) where
     (refl, inl refl, tt),
   )
 
+  migrate_own : AllOwn migrate_shape.rules migrate_shape.rules
+  unfolding clap_on_literals
+  migrate_own = (
+    refl,
+    inr (refl, omega arith),
+    (refl, inr (refl, omega arith), (refl, inr (refl, omega arith), (refl, inl refl, tt))),
+  )
+
   storm_own : AllOwn storm_shape.rules storm_shape.rules
   unfolding clap_on_literals
   storm_own = (
@@ -185,7 +206,7 @@ module _ (classes : ClassWords) (are : AreClasses classes) where
       let good_pages = good_word format_shape.rules _ format_own.2.0 rows passed.good pages.0 pages.1 in
       let good_most = good_word format_shape.rules _ format_own.2.2.0 rows passed.good most.0 most.1 in
       let kept : has_row (codes "class") rows ≡ true =
-      third_kept (settled format_shape.rules (walk format_shape.rules [] nothing_held words).held).rows (first_rule format_shape.rules) (first_rule (rest_rules format_shape.rules))
+      fourth_of_five_kept (settled format_shape.rules (walk format_shape.rules [] nothing_held words).held).rows (first_rule format_shape.rules) (first_rule (rest_rules format_shape.rules))
       (first_rule (rest_rules (rest_rules format_shape.rules))) (first_rule (rest_rules (rest_rules (rest_rules format_shape.rules))))
       (first_rule (rest_rules (rest_rules (rest_rules (rest_rules format_shape.rules))))) (omega arith) in
       let class = row_by_id (codes "class") rows kept in
@@ -205,7 +226,7 @@ module _ (classes : ClassWords) (are : AreClasses classes) where
       let passed = level_good plain_shape plain_own [] words false [] fine in
       let rows = rows_after plain_shape.rules [] words in
       let kept : has_row (codes "class") rows ≡ true =
-      first_kept (settled plain_shape.rules (walk plain_shape.rules [] nothing_held words).held).rows (first_rule plain_shape.rules) (first_rule (rest_rules plain_shape.rules)) (omega arith) in
+      first_of_two_kept (settled plain_shape.rules (walk plain_shape.rules [] nothing_held words).held).rows (first_rule plain_shape.rules) (first_rule (rest_rules plain_shape.rules)) (omega arith) in
       let class = row_by_id (codes "class") rows kept in
       class_accepted classes are _ rows refl refl refl (good_word plain_shape.rules _ plain_own.0 rows passed.good class.0 class.1)
 
@@ -217,7 +238,7 @@ module _ (classes : ClassWords) (are : AreClasses classes) where
       let rows = rows_after run_shape.rules [] words in
       let file = given_row (codes "FILE") rows (that_one (is_given (codes "FILE") rows) _ passed.checks) in
       let kept : has_row (codes "frames") rows ≡ true =
-      second_kept (settled run_shape.rules (walk run_shape.rules [] nothing_held words).held).rows (first_rule run_shape.rules) (first_rule (rest_rules run_shape.rules))
+      second_of_three_kept (settled run_shape.rules (walk run_shape.rules [] nothing_held words).held).rows (first_rule run_shape.rules) (first_rule (rest_rules run_shape.rules))
       (first_rule (rest_rules (rest_rules run_shape.rules))) (omega arith) in
       let frames = row_by_id (codes "frames") rows kept in
       let good_file = good_word run_shape.rules _ run_own.0 rows passed.good file.0 file.1 in
@@ -247,6 +268,30 @@ module _ (classes : ClassWords) (are : AreClasses classes) where
       let file = given_row (codes "FILE") rows (that_one (is_given (codes "FILE") rows) _ passed.checks) in
       let good_file = good_word verify_shape.rules _ verify_own.0 rows passed.good file.0 file.1 in
       record { file = good_file.word; file_is = good_file.first }
+
+  -- what `migrate` is given where nothing is wrong with it
+  has_migrate : (words : List Text) → level_fault migrate_shape [] nothing_held words false [] ≡ [] → HasMigrate (rows_after migrate_shape.rules [] words)
+  unfolding clap_on_literals
+  has_migrate words fine =
+      let passed = level_good migrate_shape migrate_own [] words false [] fine in
+      let rows = rows_after migrate_shape.rules [] words in
+      let there = both_two (is_given (codes "OLD") rows) (is_given (codes "NEW") rows) _ passed.checks in
+      let old = given_row (codes "OLD") rows there.0 in
+      let new = given_row (codes "NEW") rows there.1 in
+      let kept : has_row (codes "frames") rows ≡ true =
+      third_of_four_kept (settled migrate_shape.rules (walk migrate_shape.rules [] nothing_held words).held).rows (first_rule migrate_shape.rules) (first_rule (rest_rules migrate_shape.rules))
+      (first_rule (rest_rules (rest_rules migrate_shape.rules))) (first_rule (rest_rules (rest_rules (rest_rules migrate_shape.rules)))) (omega arith) in
+      let frames = row_by_id (codes "frames") rows kept in
+      let good_old = good_word migrate_shape.rules _ migrate_own.0 rows passed.good old.0 old.1 in
+      let good_new = good_word migrate_shape.rules _ migrate_own.2.0 rows passed.good new.0 new.1 in
+      let good_frames = good_word migrate_shape.rules _ migrate_own.2.2.0 rows passed.good frames.0 frames.1 in
+      record {
+        old = good_old.word;
+        old_is = good_old.first;
+        new = good_new.word;
+        new_is = good_new.first;
+        frames = number_accepted _ rows 16 4096 refl refl (omega arith) good_frames;
+      }
 
   -- what `storm` is given where nothing is wrong with it
   has_storm : (words : List Text) → level_fault storm_shape [] nothing_held words false [] ≡ [] → HasStorm (rows_after storm_shape.rules [] words)
@@ -279,26 +324,27 @@ module _ (classes : ClassWords) (are : AreClasses classes) where
 
   -- the text that says how its commands are used
   abbrev help_command : Shape
-  help_command = first_shape (rest_shapes (rest_shapes (rest_shapes (rest_shapes (rest_shapes (rest_shapes at_work.subs))))))
+  help_command = first_shape (rest_shapes (rest_shapes (rest_shapes (rest_shapes (rest_shapes (rest_shapes (rest_shapes at_work.subs)))))))
 
-  abbrev found_by : Bool → Bool → Bool → Bool → Bool → Bool → Bool → Option Shape
-  found_by is_plain is_format is_run is_dump is_verify is_storm is_help =
+  abbrev found_by : Bool → Bool → Bool → Bool → Bool → Bool → Bool → Bool → Option Shape
+  found_by is_plain is_format is_run is_dump is_verify is_migrate is_storm is_help =
       cond is_plain (Some plain_shape)
       (cond is_format (Some format_shape) (cond is_run (Some run_shape) (cond is_dump (Some dump_shape) (cond is_verify (Some verify_shape)
-      (cond is_storm (Some storm_shape) (cond is_help (Some help_command) None))))))
+      (cond is_migrate (Some migrate_shape) (cond is_storm (Some storm_shape) (cond is_help (Some help_command) None)))))))
 
-  entered_whole : (words : List Text) (is_plain is_format is_run is_dump is_verify is_storm is_help : Bool) → (is_help ≡ true → ⊥)
-      → option_map_or (λ s. level_fault s [] nothing_held words false []) (found_by is_plain is_format is_run is_dump is_verify is_storm is_help) [] ≡ []
-      → is_some (option_map (λ s. rows_at s words) (found_by is_plain is_format is_run is_dump is_verify is_storm is_help)) ≡ true
-      → IsWhole (option_map (λ s. rows_at s words) (found_by is_plain is_format is_run is_dump is_verify is_storm is_help))
-  entered_whole words true is_format is_run is_dump is_verify is_storm is_help no_help fine met = inl (refl, has_plain words fine)
-  entered_whole words false true is_run is_dump is_verify is_storm is_help no_help fine met = inr (inl (refl, has_format words fine))
-  entered_whole words false false true is_dump is_verify is_storm is_help no_help fine met = inr (inr (inl (refl, has_run words fine)))
-  entered_whole words false false false true is_verify is_storm is_help no_help fine met = inr (inr (inr (inl (refl, has_dump words fine))))
-  entered_whole words false false false false true is_storm is_help no_help fine met = inr (inr (inr (inr (inl (refl, has_verify words fine)))))
-  entered_whole words false false false false false true is_help no_help fine met = inr (inr (inr (inr (inr (refl, has_storm words fine)))))
-  entered_whole words false false false false false false true no_help fine met = absurd (no_help refl)
-  entered_whole words false false false false false false false no_help fine met = absurd (let bad : false ≡ true = met in cc)
+  entered_whole : (words : List Text) (is_plain is_format is_run is_dump is_verify is_migrate is_storm is_help : Bool) → (is_help ≡ true → ⊥)
+      → option_map_or (λ s. level_fault s [] nothing_held words false []) (found_by is_plain is_format is_run is_dump is_verify is_migrate is_storm is_help) [] ≡ []
+      → is_some (option_map (λ s. rows_at s words) (found_by is_plain is_format is_run is_dump is_verify is_migrate is_storm is_help)) ≡ true
+      → IsWhole (option_map (λ s. rows_at s words) (found_by is_plain is_format is_run is_dump is_verify is_migrate is_storm is_help))
+  entered_whole words true is_format is_run is_dump is_verify is_migrate is_storm is_help no_help fine met = inl (refl, has_plain words fine)
+  entered_whole words false true is_run is_dump is_verify is_migrate is_storm is_help no_help fine met = inr (inl (refl, has_format words fine))
+  entered_whole words false false true is_dump is_verify is_migrate is_storm is_help no_help fine met = inr (inr (inl (refl, has_run words fine)))
+  entered_whole words false false false true is_verify is_migrate is_storm is_help no_help fine met = inr (inr (inr (inl (refl, has_dump words fine))))
+  entered_whole words false false false false true is_migrate is_storm is_help no_help fine met = inr (inr (inr (inr (inl (refl, has_verify words fine)))))
+  entered_whole words false false false false false true is_storm is_help no_help fine met = inr (inr (inr (inr (inr (inl (refl, has_migrate words fine))))))
+  entered_whole words false false false false false false true is_help no_help fine met = inr (inr (inr (inr (inr (inr (refl, has_storm words fine))))))
+  entered_whole words false false false false false false false true no_help fine met = absurd (no_help refl)
+  entered_whole words false false false false false false false false no_help fine met = absurd (let bad : false ≡ true = met in cc)
 
   no_help_named : (word : Text) → bytes_eq word (codes "help") ≡ false → (bytes_eq (codes "help") word || false) ≡ true → ⊥
   no_help_named word other named = go (bytes_eq (codes "help") word) refl named
@@ -316,7 +362,7 @@ module _ (classes : ClassWords) (are : AreClasses classes) where
   stop_whole None fine met other = absurd (let bad : false ≡ true = met in cc)
   stop_whole (Some p) fine met other =
       entered_whole p.1 (bytes_eq (codes "plain") p.0 || false) (bytes_eq (codes "format") p.0 || false) (bytes_eq (codes "run") p.0 || false) (bytes_eq (codes "dump") p.0 || false)
-      (bytes_eq (codes "verify") p.0 || false) (bytes_eq (codes "storm") p.0 || false) (bytes_eq (codes "help") p.0 || false) (no_help_named p.0 other) fine met
+      (bytes_eq (codes "verify") p.0 || false) (bytes_eq (codes "migrate") p.0 || false) (bytes_eq (codes "storm") p.0 || false) (bytes_eq (codes "help") p.0 || false) (no_help_named p.0 other) fine met
 
   top_own : AllOwn at_work.top.rules at_work.top.rules
   unfolding clap_on_literals

@@ -7,6 +7,6 @@ returns-in_default c =
     let no = c.in_default in
     record {
       words = c.requires.words
-          ∙ told_by_text c.args.why no.not-Memory no.not-Device no.not-Failed no.not-Damaged no.not-NotFormatted no.not-TooSmall no.not-BadParameter;
+          ∙ told_by_text c.args.why no.not-Memory no.not-Device no.not-Failed no.not-Damaged no.not-NotFormatted no.not-TooSmall no.not-BadParameter no.not-OldVersion;
       short = omega (arith, c.requires.short);
     }

@@ -68,7 +68,7 @@ use Rattle.gx_engine.specs.Writes.{AreWriting, AsksAt, AsksRoom, IsAtLook, IsDel
 use Rattle.gx_engine.proofs.LookMoves.{answered_again, answers, as_it_stays, at_work, goes_on, held, looks_at, may_have_found, moves_on, phase_again, put_kept, slot_now}
 use Rattle.gx_engine.proofs.Reading.{its_phase, read_at_hand, settled, stays, step_here, look_wants, was_kept}
 use Rattle.gx_engine.proofs.Serving.{same_device}
-use Rattle.gx_engine.proofs.Taking.{reads_of, worked_so}
+use Rattle.gx_engine.proofs.AtWork.{reads_of, worked_so}
 
 -- the events of what any call's look may come to
 pub memory_told : {B : Type 0} (s : ℕ) (call : Call B) → write_events s call (Replied (reply.Refused refusal.Memory)) ≡ Closes s call refusal.Memory ∷ []
@@ -180,16 +180,21 @@ stop_reads passes d e s old new (Help n) comes = reads_of old new _ comes.1 refl
 stop_reads passes d e s old new other comes = absurd comes
 
 -- an insert whose look ended in the move, and that descends
-pub descends_comes : {B D : Type 0} (Asks : ℕ → Type 0) (Lacks : Type 0) (Goes : Device → Parts B D → Type 0) (k : Keys B) (passes : ℕ → Contents → Bool) (d e : Device) (s : ℕ) (call : Call B) (work : Work B) (old mid new : Parts B D) → mid ≡ calling s call Rests (brought old mid)
+pub descends_comes : {B D : Type 0} (Asks : ℕ → Type 0) (Lacks : Type 0) (Goes : Device → Parts B D → Type 0) (k : Keys B) (passes : ℕ → Contents → Bool) (d e : Device) (s : ℕ) (call : Call B) (was work : Work B) (old mid new : Parts B D) → mid ≡ calling s call was (brought old mid)
     → new ≡ calling s call work mid → Goes e new → WriteBy Asks Lacks Goes k passes d e s call old new More × OnlyReads old new
-descends_comes {B} {D} Asks Lacks Goes k passes d e s call work old mid new rest is goes =
-    let known : new ≡ calling s call work (brought old mid) = worked_so s call work old mid new rest is in
+descends_comes {B} {D} Asks Lacks Goes k passes d e s call was work old mid new at is goes =
+    let known : new ≡ calling s call work (brought old mid) = worked_so s call was work old mid new at is in
     ((work, known ∙ sym (ap (λ (x : Parts B D). calling s call work (record old { volume = x.volume })) known), ap (λ (x : Parts B D). x.volume.most) known, goes), reads_of old new _ known refl)
 
 -- the same move, as its events
 pub write_so : {B D : Type 0} (c : Class B) (r : Reading (Entry B) (Page B)) (f : Format B) (passes : ℕ → Contents → Bool) (d e : Device) (s : ℕ) (call : Call B) (old new : Parts B D) (outcome : Outcome B)
     → Moves c r f passes d e s old new outcome (write_events s call outcome) → MovesSo c r f passes d e s old new outcome (AreWriting s call outcome)
 write_so c r f passes d e s call old new outcome moves bodies i h = (write_events s call outcome, are_writing s call outcome, moves bodies i h)
+
+-- a write that goes on, as its events
+pub more_write : {B D : Type 0} (c : Class B) (r : Reading (Entry B) (Page B)) (f : Format B) (passes : ℕ → Contents → Bool) (d e : Device) (s : ℕ) (call : Call B) (old new : Parts B D) (outcome : Outcome B) → outcome ≡ More
+    → Moves c r f passes d e s old new More (Works ∷ []) → Moves c r f passes d e s old new outcome (write_events s call outcome)
+more_write {B} {D} c r f passes d e s call old new outcome is moves = subst (λ (x : Outcome B). Moves c r f passes d e s old new x (write_events s call x)) (sym is) moves
 
 -- a write that looks, and is at no look, rests
 pub rests_yet : {B : Type 0} (was : Work B) → is_looking was ≡ true → ((look : Look B) → was ≢ Looks look) → was ≡ Rests

@@ -67,4 +67,4 @@ returns-clause-runs g c =
     let two = run_joined s one gates c.args.disk.now c.lay_parameters.new.disk c.close_gates.new.disk c.in_ok-lay_parameters.ensures.runs c.in_ok-close_gates.ensures.runs in
     let three = run_joined s (one ++ gates) (pages root) c.args.disk.now c.close_gates.new.disk c.lay_pages.new.disk two c.in_ok-lay_pages.ensures.runs in
     let four = run_joined s (one ++ (gates ++ pages root)) body c.args.disk.now c.lay_pages.new.disk c.lay_body.new.disk three c.in_ok-lay_body.ensures.runs in
-    goes_on s (one ++ (gates ++ (pages root ++ body))) opening c.args.disk.now c.lay_body.new.disk c.open.new.disk c.open.result four c.open.ensures.runs
+    goes_on s (one ++ (gates ++ (pages root ++ body))) opening c.args.disk.now c.lay_body.new.disk c.open_first_gate.new.disk c.open_first_gate.result four c.open_first_gate.ensures.runs

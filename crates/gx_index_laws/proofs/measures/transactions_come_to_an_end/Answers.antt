@@ -5,13 +5,13 @@ use Rattle.gx_index_laws.proofs.Measuring.{undo_begins, undo_right, undo_restore
 use Rattle.gx_index_laws.proofs.measures.transactions_come_to_an_end.Goals as goal
 
 pub returns-clause-begins : goal.returns-clause-begins
-returns-clause-begins g c = λ k l old w s locks notes at e leaf is. undo_begins k l old w s locks notes at e leaf is
+returns-clause-begins g c = λ k old s notes e leaf of is. undo_begins k of.lawful old of.whole s of.locks notes of.at e leaf is
 
 pub returns-clause-right : goal.returns-clause-right
-returns-clause-right g c = λ k l old w s locks notes at e leaf is none. undo_right k l old w s locks notes at e leaf is none
+returns-clause-right g c = λ k old s notes e leaf of is none. undo_right k of.lawful old of.whole s of.locks notes of.at e leaf is none
 
 pub returns-clause-restores : goal.returns-clause-restores
-returns-clause-restores g c = λ k l old w s locks notes at r e was is_noted anew. undo_restores k l old w s locks notes at r e was is_noted anew
+returns-clause-restores g c = λ k old s notes of r e was is_noted anew. undo_restores k of.lawful old of.whole s of.locks notes of.at r e was is_noted anew
 
 pub returns-clause-unsealed : goal.returns-clause-unsealed
 returns-clause-unsealed g c = λ k l old w s locks notes at. commit_has_left k l old w s locks notes at

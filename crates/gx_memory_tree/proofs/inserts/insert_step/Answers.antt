@@ -24,7 +24,7 @@ returns-in-Again-clause-goes_on g c = λ steady ins.
     let place = c.args.place in
     let law : IsLawful r = c.keys_are_lawful.ensures c.args.most (omega (arith, c.requires.most.0)) in
     let step = subst (λ (d : Descended g.row.K-Key.Denot). StepsDown g.K.KeyClass.cost g.K.KeyClass.joined c.args.most old read place.item entry.key d)
-    c.in-Again.is (c.in_ok-descend_step.ensures.descended steady) in
+    c.in-Again.is (c.in_ok-descend_step.ensures.tells.descended steady) in
     subst (λ n. GoesOn r IsKey (tree_of old) (tree_of read) entry place n) (sym c.top.ensures.top)
     (subst (λ (s : Store g.row.K-Key.Denot). GoesOn r IsKey (tree_of old) (tree_of s) entry place (from_top (tree_of s))) (sym step.1)
     (begins_again r law IsKey entry (tree_of old) place ins (split_since r (tree_of old) place step.0)))
@@ -38,7 +38,7 @@ returns-in-Down-clause-goes_on g c = λ steady ins.
     let place = c.args.place in
     let law : IsLawful r = c.keys_are_lawful.ensures c.args.most (omega (arith, c.requires.most.0)) in
     let step = subst (λ (d : Descended g.row.K-Key.Denot). StepsDown g.K.KeyClass.cost g.K.KeyClass.joined c.args.most old new place.item entry.key d)
-    c.in-Down.is (c.in_ok-descend_step.ensures.descended steady) in
+    c.in-Down.is (c.in_ok-descend_step.ensures.tells.descended steady) in
     subst (λ p. GoesOn r g.K.KeyClass.is_key (tree_of old) (tree_of new) entry place (record { item = c.in-Down.item; parent = p })) (sym c.page-page.ensures)
     (down_on r law g.K.KeyClass.is_key g.K.KeyClass.cost g.K.KeyClass.joined
     g.met.K.KeyClass.union_is_key g.met.K.KeyClass.union_covers_first g.met.K.KeyClass.union_covers_second g.met.K.KeyClass.union_is_least
@@ -53,7 +53,7 @@ returns-in-Widened-clause-goes_on g c = λ steady ins.
     let place = c.args.place in
     let law : IsLawful r = c.keys_are_lawful.ensures c.args.most (omega (arith, c.requires.most.0)) in
     let step = subst (λ (d : Descended g.row.K-Key.Denot). StepsDown g.K.KeyClass.cost g.K.KeyClass.joined c.args.most old new place.item entry.key d)
-    c.in-Widened.is (c.in_ok-descend_step.ensures.descended steady) in
+    c.in-Widened.is (c.in_ok-descend_step.ensures.tells.descended steady) in
     subst (λ p. GoesOn r g.K.KeyClass.is_key (tree_of old) (tree_of new) entry place (record { item = c.in-Widened.item; parent = p })) (sym c.page-page.ensures)
     (widened_on r law g.K.KeyClass.is_key g.K.KeyClass.cost g.K.KeyClass.joined
     g.met.K.KeyClass.union_is_key g.met.K.KeyClass.union_covers_first g.met.K.KeyClass.union_covers_second g.met.K.KeyClass.union_is_least
@@ -69,9 +69,9 @@ returns-in_ok-add_step-in-Leaf-clause-added g c = λ steady ins.
     let place = c.args.place in
     let law : IsLawful r = c.keys_are_lawful.ensures c.args.most (omega (arith, c.requires.most.0)) in
     let step = subst (λ (d : Descended g.row.K-Key.Denot). StepsDown g.K.KeyClass.cost g.K.KeyClass.joined c.args.most old read place.item entry.key d)
-    c.in-Leaf.is (c.in_ok-descend_step.ensures.descended steady) in
+    c.in-Leaf.is (c.in_ok-descend_step.ensures.tells.descended steady) in
     let appends = subst (λ (s : Store g.row.K-Key.Denot). Appends c.args.most (tree_of s) new c.page-page.result entry) step.1
-    (c.in_ok-add_step-in-Leaf.ensures.added (c.in_ok-descend_step.ensures.steady steady)) in
+    (c.in_ok-add_step-in-Leaf.ensures.tells.added (c.in_ok-descend_step.ensures.writes.steady steady)) in
     has_added r law g.K.KeyClass.is_key entry (tree_of old) new place ins c.known.ensures step.0.0
     (subst (λ p. Appends c.args.most (tree_of old) new p entry) c.page-page.ensures appends)
 
@@ -86,10 +86,10 @@ returns-in_ok-make_room-in-FullLeaf-clause-goes_on g c = λ steady ins.
     let place = c.args.place in
     let law : IsLawful r = c.keys_are_lawful.ensures c.args.most (omega (arith, c.requires.most.0)) in
     let step = subst (λ (d : Descended g.row.K-Key.Denot). StepsDown g.K.KeyClass.cost g.K.KeyClass.joined c.args.most old read place.item entry.key d)
-    c.in-FullLeaf.is (c.in_ok-descend_step.ensures.descended steady) in
+    c.in-FullLeaf.is (c.in_ok-descend_step.ensures.tells.descended steady) in
     let full = step.0.2 in
     let at = full_at r IsKey (tree_of old) entry place ins (omega (arith, full)) in
-    let makes = c.in_ok-make_room-in-FullLeaf.ensures.room (c.in_ok-descend_step.ensures.steady steady)
+    let makes = c.in_ok-make_room-in-FullLeaf.ensures.room (c.in_ok-descend_step.ensures.writes.steady steady)
     (subst (λ (s : Store g.row.K-Key.Denot). IsFullAt r (tree_of s) place) (sym step.1) at)
     (ap (λ (s : Store g.row.K-Key.Denot). (node_at s.nodes place.item.page).level) step.1 ∙ step.0.1) in
     room_on r law IsKey entry (tree_of old) new place ins c.in_ok-make_room-in-FullLeaf.field-0
@@ -106,10 +106,10 @@ returns-in_ok-split_place-in-FullInner-clause-goes_on g c = λ steady ins.
     let place = c.args.place in
     let law : IsLawful r = c.keys_are_lawful.ensures c.args.most (omega (arith, c.requires.most.0)) in
     let step = subst (λ (d : Descended g.row.K-Key.Denot). StepsDown g.K.KeyClass.cost g.K.KeyClass.joined c.args.most old read place.item entry.key d)
-    c.in-FullInner.is (c.in_ok-descend_step.ensures.descended steady) in
+    c.in-FullInner.is (c.in_ok-descend_step.ensures.tells.descended steady) in
     let full = step.0.2 in
     let at = full_at r IsKey (tree_of old) entry place ins (omega (arith, full)) in
-    let splits = c.in_ok-split_place-in-FullInner.ensures.split (c.in_ok-descend_step.ensures.steady steady)
+    let splits = c.in_ok-split_place-in-FullInner.ensures.split (c.in_ok-descend_step.ensures.writes.steady steady)
     (subst (λ (s : Store g.row.K-Key.Denot). IsFullAt r (tree_of s) place) (sym step.1) at) in
     let few = c.top-in-FullInner.ensures.few in
     subst (λ n. GoesOn r IsKey (tree_of old) new entry place n) (sym c.top-in-FullInner.ensures.top)
@@ -124,12 +124,12 @@ returns-in_err-make_room-in-FullLeaf-clause-damaged g c = λ steady ins e.
     let entry = c.args.entry.now in
     let place = c.args.place in
     let step = subst (λ (d : Descended g.row.K-Key.Denot). StepsDown g.K.KeyClass.cost g.K.KeyClass.joined c.args.most old read place.item entry.key d)
-    c.in-FullLeaf.is (c.in_ok-descend_step.ensures.descended steady) in
+    c.in-FullLeaf.is (c.in_ok-descend_step.ensures.tells.descended steady) in
     let full = step.0.2 in
     let at = full_at r g.K.KeyClass.is_key (tree_of old) entry place ins (omega (arith, full)) in
     let out : c.from_residual-in_err-make_room-in-FullLeaf.result ≡ Err c.in_err-make_room-in-FullLeaf.field-0.0 = search rules in
     let failed = same_err c.from_residual-in_err-make_room-in-FullLeaf.result c.make_room.result c.in_err-make_room-in-FullLeaf.field-0.0 (Step Damaged) out c.in_err-make_room-in-FullLeaf.was e in
-    c.make_room.ensures.damaged (c.in_ok-descend_step.ensures.steady steady)
+    c.make_room.ensures.damaged (c.in_ok-descend_step.ensures.writes.steady steady)
     (subst (λ (s : Store g.row.K-Key.Denot). IsFullAt r (tree_of s) place) (sym step.1) at)
     (ap (λ (s : Store g.row.K-Key.Denot). (node_at s.nodes place.item.page).level) step.1 ∙ step.0.1) failed
 
@@ -141,12 +141,12 @@ returns-in_err-split_place-in-FullInner-clause-damaged g c = λ steady ins e.
     let entry = c.args.entry.now in
     let place = c.args.place in
     let step = subst (λ (d : Descended g.row.K-Key.Denot). StepsDown g.K.KeyClass.cost g.K.KeyClass.joined c.args.most old read place.item entry.key d)
-    c.in-FullInner.is (c.in_ok-descend_step.ensures.descended steady) in
+    c.in-FullInner.is (c.in_ok-descend_step.ensures.tells.descended steady) in
     let full = step.0.2 in
     let at = full_at r g.K.KeyClass.is_key (tree_of old) entry place ins (omega (arith, full)) in
     let out : c.from_residual-in_err-split_place-in-FullInner.result ≡ Err c.in_err-split_place-in-FullInner.field-0.0 = search rules in
     let failed = same_err c.from_residual-in_err-split_place-in-FullInner.result c.split_place.result c.in_err-split_place-in-FullInner.field-0.0 (Step Damaged) out c.in_err-split_place-in-FullInner.was e in
-    c.split_place.ensures.damaged (c.in_ok-descend_step.ensures.steady steady)
+    c.split_place.ensures.damaged (c.in_ok-descend_step.ensures.writes.steady steady)
     (subst (λ (s : Store g.row.K-Key.Denot). IsFullAt r (tree_of s) place) (sym step.1) at) failed
 
 pub returns-in_err-add_step-in-Leaf-clause-full : goal.returns-in_err-add_step-in-Leaf-clause-full

@@ -15,7 +15,7 @@ returns-in_err-split_step-clause-damaged g c = λ steady at e.
     let out : c.from_residual-in_err-split_step.result ≡ Err c.in_err-split_step.field-0.0 = search rules in
     let failed = same_err c.from_residual-in_err-split_step.result c.split_step.result c.in_err-split_step.field-0.0 (Step Damaged) out c.in_err-split_step.was e in
     let below : c.args.place.item.page ≢ 1 = search rules in
-    absurd (never_damaged_below r old c.args.place at below (search rules) (rw (sym c.page-page.ensures) (c.split_step.ensures.damaged steady failed)))
+    absurd (never_damaged_below r old c.args.place at below (search rules) (rw (sym c.page-page.ensures) (c.split_step.ensures.tells.damaged steady failed)))
 
 pub returns-clause-split : goal.returns-clause-split
 returns-clause-split g c = λ steady at.
@@ -23,7 +23,7 @@ returns-clause-split g c = λ steady at.
     let old = g.P.Pages.store c.args.pages.now in
     let below : c.args.place.item.page ≢ 1 = search rules in
     splits_below r old c.args.place at below g.K.KeyClass.is_key g.K.KeyClass.sides_of (g.P.Pages.store c.split_step.new.pages) c.in_ok-split_step.field-0
-    (rw (sym c.page-page.ensures) (c.in_ok-split_step.ensures.split steady)) c.in_ok-split_step.ensures.keys
+    (rw (sym c.page-page.ensures) (c.in_ok-split_step.ensures.tells.split steady)) c.in_ok-split_step.ensures.tells.keys
 
 pub returns-in_err-split_root_step-clause-full : goal.returns-in_err-split_root_step-clause-full
 returns-in_err-split_root_step-clause-full g c = grind (arith, common_steps)

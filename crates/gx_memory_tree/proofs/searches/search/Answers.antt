@@ -46,8 +46,8 @@ pages-smaller g c =
     let inv = c.pages.invariant in
     let done = c.in_ok-look_step.ensures in
     let some : 0 < length c.pages.look.stack.items = search rules in
-    let same = same_store (g.P.Pages.steady c.pages.pages) (g.P.Pages.store c.pages.pages) (g.P.Pages.store c.look_step.new.pages) done.stays inv.steady ∙ inv.same in
-    let step = subst (λ s. LookStep (tree_of s) w leads c.pages.look.stack.items c.look_step.new.look.stack.items c.pages.look.found.items c.look_step.new.look.found.items) same done.step in
+    let same = same_store (g.P.Pages.steady c.pages.pages) (g.P.Pages.store c.pages.pages) (g.P.Pages.store c.look_step.new.pages) done.tells.stays inv.steady ∙ inv.same in
+    let step = subst (λ s. LookStep (tree_of s) w leads c.pages.look.stack.items c.look_step.new.look.stack.items c.pages.look.found.items c.look_step.new.look.found.items) same done.tells.step in
     falls r t c.requires.most.2 w leads c.pages.look.stack.items c.look_step.new.look.stack.items c.pages.look.found.items c.look_step.new.look.found.items some inv.look step
 
 pub pages-preserved : goal.pages-preserved
@@ -59,8 +59,8 @@ pages-preserved g c =
     let inv = c.pages.invariant in
     let done = c.in_ok-look_step.ensures in
     let some : 0 < length c.pages.look.stack.items = search rules in
-    let same = same_store (g.P.Pages.steady c.pages.pages) (g.P.Pages.store c.pages.pages) (g.P.Pages.store c.look_step.new.pages) done.stays inv.steady ∙ inv.same in
-    let step = subst (λ s. LookStep (tree_of s) w leads c.pages.look.stack.items c.look_step.new.look.stack.items c.pages.look.found.items c.look_step.new.look.found.items) same done.step in
+    let same = same_store (g.P.Pages.steady c.pages.pages) (g.P.Pages.store c.pages.pages) (g.P.Pages.store c.look_step.new.pages) done.tells.stays inv.steady ∙ inv.same in
+    let step = subst (λ s. LookStep (tree_of s) w leads c.pages.look.stack.items c.look_step.new.look.stack.items c.pages.look.found.items c.look_step.new.look.found.items) same done.tells.step in
     let k = keys g.K.Key.Ord.cmp g.K.Key.Shape.overlap g.K.Key.Shape.inside in
     let lead : LeadsTo r t w leads = leads_to r t g.K.KeyClass.is_key c.requires.keys w (λ x. key_matches k c.args.query.now x.key) leads
     (g.K.KeyClass.may_match c.args.query.now) (λ x. not x.marked) c.matching-wanted.ensures.pairs c.matching-wanted.ensures.bounds
@@ -85,11 +85,11 @@ returns-in_err-look_step-clause-damaged g c = λ e.
     let w = wants g.K.Probing.passes c.matching-wanted.result.keys c.matching-wanted.result.row in
     let inv = c.pages.invariant in
     let some : 0 < length c.pages.look.stack.items = search rules in
-    let same = same_store (g.P.Pages.steady c.pages.pages) (g.P.Pages.store c.pages.pages) (g.P.Pages.store c.look_step.new.pages) c.look_step.ensures.stays inv.steady ∙ inv.same in
+    let same = same_store (g.P.Pages.steady c.pages.pages) (g.P.Pages.store c.pages.pages) (g.P.Pages.store c.look_step.new.pages) c.look_step.ensures.tells.stays inv.steady ∙ inv.same in
     let out : c.from_residual-in_err-look_step.result ≡ Err c.in_err-look_step.field-0.0 = search rules in
     let failed = same_err c.from_residual-in_err-look_step.result c.look_step.result c.in_err-look_step.field-0.0 (Step Damaged) out c.in_err-look_step.was e in
     next_is_used t w c.pages.look.stack.items (pairs_found c.pages.look.found.items) inv.look some
-    (λ rest item h u. c.look_step.ensures.damaged failed rest item h (subst (λ s. Used (tree_of s) item.page) (sym same) u))
+    (λ rest item h u. c.look_step.ensures.tells.damaged failed rest item h (subst (λ s. Used (tree_of s) item.page) (sym same) u))
 
 pub returns-clause-all : goal.returns-clause-all
 returns-clause-all g c = λ test.

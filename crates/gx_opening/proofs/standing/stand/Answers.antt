@@ -1,7 +1,7 @@
 use Rattle.std.proofs.Common.{◌≤◌, ◌∙◌, inl, inr, refl, Result, Err}
 use Rattle.std.proofs.lemmas.Result.{err_from_is_err_and}
 use Rattle.gx_geom.specs.declared.refusal.Refusal.{Refusal}
-use Rattle.gx_disk.specs.declared.layout.TheConstants.{MIN_SECTORS}
+use Rattle.gx_disk.specs.declared.layout.TheConstants.{LEAST_SECTORS}
 use Rattle.gx_found_log.specs.declared.found.FoundLog.{FoundLog}
 use Rattle.gx_machine.specs.declared.entry.Entry.{Entry}
 use Rattle.gx_machine.specs.Keys.{Members}
@@ -25,7 +25,7 @@ returns-clause-safe g c = λ honest.
     let p = c.in_ok-parameters.parameters in
     let settles = c.in_ok-parameters.ensures.settles honest in
     let allowed = c.in_ok-parameters.ensures.allowed in
-    let enough : MIN_SECTORS ≤ a.sectors = c.requires in
+    let enough : LEAST_SECTORS ≤ a.sectors = c.requires in
     let formatted = formatted_so shape proper said f _ a b p enough settles in
     let lays = c.in_ok-log.ensures.lays (limits_of p) refl refl (c.what_stands_is_legal.ensures.lawful (limits_of p)) (c.in_ok-parameters.ensures.counted.honest ∙ honest) settles.settled in
     stood_safe shape proper said f 0 a b e p formatted.says settles.only lays.leaves)
@@ -43,7 +43,7 @@ returns-clause-stood g c = λ honest.
     let p = c.in_ok-parameters.parameters in
     let settles = c.in_ok-parameters.ensures.settles honest in
     let allowed = c.in_ok-parameters.ensures.allowed in
-    let enough : MIN_SECTORS ≤ a.sectors = c.requires in
+    let enough : LEAST_SECTORS ≤ a.sectors = c.requires in
     let formatted = formatted_so shape proper said f _ a b p enough settles in
     let lays = c.in_ok-log.ensures.lays (limits_of p) refl refl (c.what_stands_is_legal.ensures.lawful (limits_of p)) (c.in_ok-parameters.ensures.counted.honest ∙ honest) settles.settled in
     (formatted, laid_so shape proper said f 0 a b e p formatted.says settles.only c.in_ok-log.log lays))
@@ -61,7 +61,7 @@ returns-in_err-log-clause-safe g c = λ honest.
     let p = c.in_ok-parameters.parameters in
     let settles = c.in_ok-parameters.ensures.settles honest in
     let allowed = c.in_ok-parameters.ensures.allowed in
-    let enough : MIN_SECTORS ≤ a.sectors = c.requires in
+    let enough : LEAST_SECTORS ≤ a.sectors = c.requires in
     let formatted = formatted_so shape proper said f _ a b p enough settles in
     let lays = c.in_err-log.ensures.lays (limits_of p) refl refl (c.what_stands_is_legal.ensures.lawful (limits_of p)) (c.in_ok-parameters.ensures.counted.honest ∙ honest) settles.settled in
     stood_safe shape proper said f 0 a b e p formatted.says settles.only lays.leaves)
@@ -80,7 +80,7 @@ returns-in_err-log-clause-stood g c = λ honest.
     let p = c.in_ok-parameters.parameters in
     let settles = c.in_ok-parameters.ensures.settles honest in
     let allowed = c.in_ok-parameters.ensures.allowed in
-    let enough : MIN_SECTORS ≤ a.sectors = c.requires in
+    let enough : LEAST_SECTORS ≤ a.sectors = c.requires in
     let formatted = formatted_so shape proper said f _ a b p enough settles in
     let lays = c.in_err-log.ensures.lays (limits_of p) refl refl (c.what_stands_is_legal.ensures.lawful (limits_of p)) (c.in_ok-parameters.ensures.counted.honest ∙ honest) settles.settled in
     inr (unlaid_so shape proper said f _ a b e p formatted.says settles.only c.in_err-log.field-0.0 c.in_err-log.ensures.memory formatted c.in_err-log.ensures.faults lays)))
@@ -89,7 +89,7 @@ pub returns-in_err-parameters-clause-damaged : goal.returns-in_err-parameters-cl
 returns-in_err-parameters-clause-damaged g c = λ honest.
     let q = err_from_is_err_and c.from_residual.result c.from_residual.ensures.1 in
     rw (q.1, q.2) ((let a = g.D.SectorDisk.state c.args.disk.now in
-    let enough : MIN_SECTORS ≤ a.sectors = c.requires in
+    let enough : LEAST_SECTORS ≤ a.sectors = c.requires in
     λ is. absurd (never_damaged _ a.sectors a.seen c.in_err-parameters.field-0.0 ((c.in_err-parameters.ensures.settles honest).told enough) is)))
 
 pub returns-in_err-log-clause-damaged : goal.returns-in_err-log-clause-damaged
@@ -105,7 +105,7 @@ returns-in_err-log-clause-damaged g c = λ honest.
     let e = state c.lay_log.new.disk in
     let p = c.in_ok-parameters.parameters in
     let settles = c.in_ok-parameters.ensures.settles honest in
-    let enough : MIN_SECTORS ≤ a.sectors = c.requires in
+    let enough : LEAST_SECTORS ≤ a.sectors = c.requires in
     let formatted = formatted_so shape proper said f _ a b p enough settles in
     let lays = c.in_err-log.ensures.lays (limits_of p) refl refl (c.what_stands_is_legal.ensures.lawful (limits_of p)) (c.in_ok-parameters.ensures.counted.honest ∙ honest) settles.settled in
     unlaid_left shape proper said f _ a b e p formatted.says settles.only c.in_err-log.field-0.0 (c.in_err-log.ensures.device.0 ∙ c.in_ok-parameters.ensures.counted.sectors) formatted lays))
@@ -142,7 +142,7 @@ returns-clause-order g c = λ honest.
     let p = c.in_ok-parameters.parameters in
     let settles = c.in_ok-parameters.ensures.settles honest in
     let allowed = c.in_ok-parameters.ensures.allowed in
-    let enough : MIN_SECTORS ≤ a.sectors = c.requires in
+    let enough : LEAST_SECTORS ≤ a.sectors = c.requires in
     let lays = c.in_ok-log.ensures.lays (limits_of p) refl refl (c.what_stands_is_legal.ensures.lawful (limits_of p)) (c.in_ok-parameters.ensures.counted.honest ∙ honest) settles.settled in
     laid_in_order shape proper said f state a (state c.lay_log.new.disk) c.formatted_behind.new.disk p (formatted_so shape proper said f _ a b p enough settles).says
     (synced_so _ a b p c.in_ok-parameters.ensures.counted c.in_ok-parameters.ensures.synced settles) c.in_ok-log.log lays)
@@ -161,7 +161,7 @@ returns-in_err-log-clause-order g c = λ honest.
     let p = c.in_ok-parameters.parameters in
     let settles = c.in_ok-parameters.ensures.settles honest in
     let allowed = c.in_ok-parameters.ensures.allowed in
-    let enough : MIN_SECTORS ≤ a.sectors = c.requires in
+    let enough : LEAST_SECTORS ≤ a.sectors = c.requires in
     let lays = c.in_err-log.ensures.lays (limits_of p) refl refl (c.what_stands_is_legal.ensures.lawful (limits_of p)) (c.in_ok-parameters.ensures.counted.honest ∙ honest) settles.settled in
     let why = c.in_err-log.field-0.0 in
     unlaid_in_order shape proper said f state a e c.formatted_behind.new.disk p (formatted_so shape proper said f _ a b p enough settles).says

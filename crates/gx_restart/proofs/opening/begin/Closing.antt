@@ -4,6 +4,7 @@ use Rattle.std.specs.Prelude.{IfErr, IfOk, MatchResult, Result, Ok, Err}
 use Rattle.std.proofs.lemmas.Bool.{leb-true}
 use Rattle.std.proofs.Math.Path.{fun_ext}
 use Rattle.gx_disk.specs.declared.layout.TheConstants.{PAGES_AT, PAGE_SECTORS}
+use Rattle.gx_glog.specs.declared.extent.TheConstants.{PLACES}
 use Rattle.gx_geom.specs.declared.refusal.Refusal.{Refusal}
 use Rattle.gx_geom.specs.declared.refusal.Refusal.TheVariants as refusal
 use Rattle.gx_disk.specs.Device.{Device}
@@ -122,7 +123,7 @@ module _ {E P : Type 0} (k : Known E P) (l : known.IsLawful k) (r : Reading E P)
   pub moved_stands : (image : List ℕ) → durable.Stands k r (found area log) image → durable.Stands k r (found other log) image
   moved_stands image s = record { head = s.head; bodies = s.bodies; told = s.told; undamaged = s.undamaged; sizes = s.sizes; stands = moved_kept (area_of r k.pages image) (records_of s.bodies) s.stands; fit = s.fit }
 
-gates_before : (x : Extent) (s : ℕ) → PAGES_AT ≤ s → gates_of x + 32 ≤ s
+gates_before : (x : Extent) (s : ℕ) → PAGES_AT ≤ s → gates_of x + PLACES ≤ s
 gates_before A s from = omega (arith, from)
 gates_before BExtent s from = omega (arith, from)
 
@@ -175,7 +176,7 @@ module _ {B : Type 0} (shape : Members B) (is_key : B → Bool) (said : List ℕ
   bodies_there : AreBodies r (open_bodies m.seen) bodies
   bodies_there = subst (λ (b : List (List ℕ)). AreBodies r b bodies) (sym (st.laid.same.bodies ∙ bodies_are a.seen)) st.laid.is.log.told
 
-  module _ (e : Device) (honest : m.honest ≡ true) (size : 2134016 ≤ length m.seen) (inside : PAGES_AT + PAGE_SECTORS * s.parameters.pages ≤ m.sectors) (sectors : e.sectors ≡ m.sectors) where
+  module _ (e : Device) (honest : m.honest ≡ true) (size : 512 * PAGES_AT ≤ length m.seen) (inside : PAGES_AT + PAGE_SECTORS * s.parameters.pages ≤ m.sectors) (sectors : e.sectors ≡ m.sectors) where
     -- what a log was found on was only laid since
     found_there : IsFoundGood k r m.sectors m.seen m.pending bodies
     found_there = record {
@@ -297,7 +298,7 @@ module _ {B : Type 0} (shape : Members B) (is_key : B → Bool) (said : List ℕ
         → HasNotBegun shape is_key said f s.parameters a.seen m e why
     not_begun frames start from why is closes = record { cause = inl is; leaves = closing_leaves (Err why) (closes_from frames start from (Err why) closes) }
 
-  module _ {D : Type 0} (state : D → Device) (disk : D) (honest : m.honest ≡ true) (size : 2134016 ≤ length m.seen) (inside : PAGES_AT + PAGE_SECTORS * s.parameters.pages ≤ m.sectors)
+  module _ {D : Type 0} (state : D → Device) (disk : D) (honest : m.honest ≡ true) (size : 512 * PAGES_AT ≤ length m.seen) (inside : PAGES_AT + PAGE_SECTORS * s.parameters.pages ≤ m.sectors)
       (sectors : (state disk).sectors ≡ m.sectors) (still : (state disk).honest ≡ m.honest) (frames : ℕ) (start : Start B) (from : StartsFrom s frames start)
       (given : ClosesLaterOfRun {T = Unit {0}} {E = Refusal} start.extent start.bodies m (state disk) (Ok tt)) (cut : AreCutOff c.keys (analysis k log).touched) where
     begun_closes : ClosesLaterOfRun {T = Unit {0}} {E = Refusal} s.log.extent s.log.bodies m (state disk) (Ok tt)

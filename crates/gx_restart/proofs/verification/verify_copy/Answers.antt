@@ -1,4 +1,4 @@
-use Rattle.std.proofs.Common.{sym, ◌∙◌}
+use Rattle.std.proofs.Common.{sym, ◌∙◌, arith}
 use Rattle.gx_node.specs.Reading.{format_of}
 use Rattle.gx_opening.specs.Shown.{HoldsDamaged}
 use Rattle.gx_restart.specs.Verified.{IsDamagedCopy}
@@ -20,7 +20,7 @@ pub returns-in-Err-clause-refused : goal.returns-in-Err-clause-refused
 returns-in-Err-clause-refused g c = λ honest.
     rw c.told_of_copy.ensures
     (refused_so (record { partial_cmp = g.K.Key.PartialOrd.partial_cmp; eq = g.K.Key.PartialEq.eq; cmp = g.K.Key.Ord.cmp; overlap = g.K.Key.Shape.overlap; inside = g.K.Key.Shape.inside }) g.K.ReadKeys.is_proper g.K.ReadKeys.said (format_of g.K.KeyClass) g.D.SectorDisk.state _ c.args.copy c.in-Err.refused.disk
-    c.in-Err.refused.why (c.in-Err.ensures.refused honest c.requires.frames.0 c.requires.frames.1 c.requires.large))
+    c.in-Err.refused.why (c.in-Err.ensures.refused honest c.requires.frames.0 c.requires.frames.1 (omega (arith, c.requires.large))))
 
 pub returns-in-Err-clause-device : goal.returns-in-Err-clause-device
 returns-in-Err-clause-device g c = λ is. never_device c.in-Err.refused.why (sym c.told_of_copy.ensures ∙ is)

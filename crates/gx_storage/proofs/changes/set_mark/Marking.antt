@@ -1,9 +1,12 @@
 -- What the setting of a mark leaves.
-use Rattle.std.proofs.Common.{◌≡◌, subst, ℕ, Bool}
+use Rattle.std.proofs.Common.{◌≡◌, ◌≢◌, subst, ℕ, Bool, Result, Ok, Err}
 use Rattle.gx_disk.specs.Device.{Device}
-use Rattle.gx_node.specs.Trees.{Node, Pair}
+use Rattle.gx_node.specs.Trees.{Node, Pair, Used}
+use Rattle.gx_node.specs.declared.fault.StepFault.{StepFault}
+use Rattle.gx_node.specs.declared.fault.StepFault.TheVariants.{Damaged}
 use Rattle.gx_node.specs.Reading.{Format}
 use Rattle.gx_node.specs.Store.{Store, tree_of}
+use Rattle.gx_tree.specs.Calls.{TellsMark}
 use Rattle.gx_tree.specs.Seeking.{Seeks}
 use Rattle.gx_tree.specs.Writing.{SetsMark}
 use Rattle.gx_tree.specs.declared.seek.Sought.{Sought}
@@ -25,6 +28,26 @@ found_here wants node sought slot before is seeks = (slot, before, subst {A = So
 pub unmarked_right : {B : Type 0} (wants : Pair B → Bool) (old new : Store B) (a : ℕ) (marked : Bool) (sought : Sought) (next : ℕ) → sought ≡ Right next → new ≡ old
     → Seeks wants ((tree_of new).node a) sought → SetsMark wants old new a marked (Right next)
 unmarked_right wants old new a marked sought next is same seeks = (subst {A = Store _} (λ t. Seeks wants ((tree_of t).node a) (Right next)) same (subst {A = Sought} (λ s. Seeks wants ((tree_of new).node a) s) is seeks), same)
+
+-- the mark wasn't set, since the leaf wasn't brought or isn't one
+pub unmarked : {B F : Type 0} (wants : Pair B → Bool) (page : ℕ) (mark : Bool) (fault : StepFault F) (steady : Type 0) (old new : Store B) → (steady → new ≡ old)
+    → (fault ≡ Damaged → Used (tree_of new) page → ((tree_of new).node page).level ≢ 0) → TellsMark wants page mark (Err fault) steady old new
+unmarked {B} {F} wants page mark fault steady old new same damaged = record {
+  marked = λ is. tt;
+  refused = same;
+  damaged = λ is failed.
+      (let damage : fault ≡ Damaged = (let both : ◌≡◌ {A = Result Sought (StepFault F)} (Err fault) (Err Damaged) = failed in cc) in
+      subst {A = Store B} (λ t. Used (tree_of t) page → ((tree_of t).node page).level ≢ 0) (same is) (damaged damage));
+}
+
+-- it wasn't, since the pair isn't in the leaf
+pub unmarked_here : {B F : Type 0} (wants : Pair B → Bool) (page : ℕ) (mark : Bool) (next : ℕ) (steady : Type 0) (old new : Store B) → (steady → SetsMark wants old new page mark (Right next))
+    → TellsMark {F = F} wants page mark (Ok (Right next)) steady old new
+unmarked_here {B} {F} wants page mark next steady old new passes = record {
+  marked = passes;
+  refused = λ is. tt;
+  damaged = λ is failed. absurd (let never : ◌≡◌ {A = Result Sought (StepFault F)} (Ok (Right next)) (Err Damaged) = failed in cc);
+}
 
 -- since before the event began
 pub marked_since : {B D : Type 0} (f : Format B) (state : D → Device) (v : Volume D) (size : ℕ) (u : Shelf D) (wants : Pair B → Bool) (new : Store B) (a : ℕ) (marked : Bool) (sought found : Sought)

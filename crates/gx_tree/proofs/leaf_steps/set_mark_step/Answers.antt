@@ -14,22 +14,26 @@ change-requires-clause-fits g c =
     let read = g.P.Pages.store c.seek_step.new.pages in
     let ready = g.P.Pages.store c.prepare_page.new.pages in
     mark_fits wanted read ready c.args.page c.in-Here.slot c.in-Here.before c.prepare_page.ensures.same
-    (subst (λ (s : Sought). Seeks wanted (node_at read.nodes c.args.page) s) c.in-Here.is c.in_ok-slot.ensures.sought)
+    (subst (λ (s : Sought). Seeks wanted (node_at read.nodes c.args.page) s) c.in-Here.is c.in_ok-slot.ensures.tells.sought)
 
-pub returns-in_ok-prepare_page-in-Here-clause-marked :
-    goal.returns-in_ok-prepare_page-in-Here-clause-marked
-returns-in_ok-prepare_page-in-Here-clause-marked g c =
+pub returns-in_ok-prepare_page-in-Here-clause-tells : goal.returns-in_ok-prepare_page-in-Here-clause-tells
+returns-in_ok-prepare_page-in-Here-clause-tells g c =
     let old = g.P.Pages.store c.args.pages.now in
     let read = g.P.Pages.store c.seek_step.new.pages in
     let ready = g.P.Pages.store c.prepare_page.new.pages in
     let new = g.P.Pages.store c.change.new.self in
-    λ steady. mark_is_set (wants g.K.Probing.passes c.args.wanted.now.keys c.args.wanted.now.row) old read ready new c.args.page c.in-Here.slot c.in-Here.before c.args.marked
-    (same_store (g.P.Pages.steady c.args.pages.now) old read c.seek_step.ensures.stays steady) c.prepare_page.ensures.same c.in_ok-slot.ensures.held.1
-    (subst (λ (s : Sought). Seeks (wants g.K.Probing.passes c.args.wanted.now.keys c.args.wanted.now.row) (node_at read.nodes c.args.page) s) c.in-Here.is c.in_ok-slot.ensures.sought)
-    c.change.ensures.edited c.change.ensures.others
+    let wanted = wants g.K.Probing.passes c.args.wanted.now.keys c.args.wanted.now.row in
+    record {
+      marked = λ steady. mark_is_set wanted old read ready new c.args.page c.in-Here.slot c.in-Here.before c.args.marked
+          (same_store (g.P.Pages.steady c.args.pages.now) old read c.seek_step.ensures.tells.stays steady) c.prepare_page.ensures.same c.in_ok-slot.ensures.held.1
+          (subst (λ (s : Sought). Seeks wanted (node_at read.nodes c.args.page) s) c.in-Here.is c.in_ok-slot.ensures.tells.sought)
+          c.change.ensures.edited c.change.ensures.others;
+      refused = search rules;
+      damaged = search rules;
+    }
 
-pub returns-in-Right-clause-marked : goal.returns-in-Right-clause-marked
-returns-in-Right-clause-marked g c = search rules
+pub returns-in-Right-clause-tells : goal.returns-in-Right-clause-tells
+returns-in-Right-clause-tells g c = record { marked = search rules; refused = search rules; damaged = search rules }
 
 pub prepare_page-requires : goal.prepare_page-requires
 prepare_page-requires g c = grind (arith, common_steps)

@@ -12,6 +12,6 @@ returns c = (
   refl,
   record {
     file_is = a_word (found_of c.args.given.now) (codes "FILE") c.unwrap.result.now (let found = c.get_str.ensures in rw c.unwrap.ensures at found);
-    frames_are = c.number.ensures 16 4096 c.requires.frames;
+    frames_are = c.frames_of.ensures;
   },
 )

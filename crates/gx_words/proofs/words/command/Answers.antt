@@ -17,5 +17,7 @@ returns c =
     ∙ ap₂ with_subcommand with_run (ap (λ (a : App). a.top) c.in_ok-dump.ensures.0) in
     let with_verify = c.in_ok-subcommand-5.ensures.shape c.in_ok-verify.ensures.1
     ∙ ap₂ with_subcommand with_dump (ap (λ (a : App). a.top) c.in_ok-verify.ensures.0) in
-    IfOk-weaker c.subcommand-6.result _ _
-    (λ r adds. adds.shape c.in_ok-storm.ensures.1 ∙ ap₂ with_subcommand with_verify (ap (λ (a : App). a.top) c.in_ok-storm.ensures.0)) c.subcommand-6.ensures
+    let with_migrate = c.in_ok-subcommand-6.ensures.shape c.in_ok-migrate.ensures.1
+    ∙ ap₂ with_subcommand with_verify (ap (λ (a : App). a.top) c.in_ok-migrate.ensures.0) in
+    IfOk-weaker c.subcommand-7.result _ _
+    (λ r adds. adds.shape c.in_ok-storm.ensures.1 ∙ ap₂ with_subcommand with_migrate (ap (λ (a : App). a.top) c.in_ok-storm.ensures.0)) c.subcommand-7.ensures

@@ -18,7 +18,7 @@ returns-clause-sought g c =
     let n : Note g.row.K-Key.Denot = record { entry = c.args.entry.now; before = c.args.marked; leaf = c.args.leaf } in
     rw (← c.self.view_is, ← c.transaction-transaction.ensures)
     (seeking _ _ _ _ g.K.KeyClass.is_key _ _ _ _ _ _ _ c.transaction-transaction.result n c.args.leaf c.set_mark.result
-    did.logged did.unlogged did.marked did.own did.why did.damaged)
+    did.logged did.unlogged did.tells did.own did.why)
 
 pub returns-clause-device : goal.returns-clause-device
 returns-clause-device g c =

@@ -6,7 +6,6 @@ use Rattle.gx_events.specs.Happenings.{Works}
 use Rattle.gx_phases.specs.States.{phase_at}
 use Rattle.gx_engine.specs.declared.work.Work.TheVariants.{Looks}
 use Rattle.gx_engine.specs.Looks.{LooksFor}
-use Rattle.gx_engine.specs.Moves.{calling}
 use Rattle.gx_engine.specs.States.{Parts}
 use Rattle.gx_engine.specs.Writes.{AsksRoom, LacksPages, MakesRoom}
 use Rattle.gx_engine.proofs.Calling.{then_read}
@@ -22,8 +21,8 @@ write_look-requires-clause-looks g c = (Insert c.args.entry, c.requires.looks.0,
 pub begin_descent-requires-clause-works : goal.begin_descent-requires-clause-works
 begin_descent-requires-clause-works g c =
     let looks : LooksFor c.args.entry (Insert c.args.entry) c.requires.looks.0 (phase_at (c.args.session - 1) c.args.self.now.sessions.phases) = record { writes = refl; at = c.requires.looks.1; looking = c.requires.looks.2 } in
-    let rest = c.in-Ok.ensures.rest (Insert c.args.entry) c.requires.looks.0 looks in
-    ap (λ (x : Parts g.row.K-Key.Denot g.row.D.Denot). x.sessions.failed) rest.1 ∙ c.requires.works
+    let ends = c.in-Ok.ensures.ends (Insert c.args.entry) c.requires.looks.0 looks in
+    ap (λ (x : Parts g.row.K-Key.Denot g.row.D.Denot). x.sessions.failed) ends.only ∙ c.requires.works
 
 pub returns-in-Ok-clause-comes : goal.returns-in-Ok-clause-comes
 returns-in-Ok-clause-comes g c =
@@ -31,11 +30,11 @@ returns-in-Ok-clause-comes g c =
     let d = g.D.SectorDisk.state c.args.self.now.volume.shelf.disk in
     let e = g.D.SectorDisk.state c.begin_descent.new.self.volume.shelf.disk in
     let looks : LooksFor c.args.entry (Insert c.args.entry) c.requires.looks.0 (phase_at (c.args.session - 1) c.args.self.now.sessions.phases) = record { writes = refl; at = c.requires.looks.1; looking = c.requires.looks.2 } in
-    let rest = c.in-Ok.ensures.rest (Insert c.args.entry) c.requires.looks.0 looks in
-    let descends = c.begin_descent.ensures.descends c.args.entry rest.0 in
+    let ends = c.in-Ok.ensures.ends (Insert c.args.entry) c.requires.looks.0 looks in
+    let descends = c.begin_descent.ensures.descends c.args.entry ends.look ends.at in
     rw (c.begin_descent.ensures.outcome)
     (descends_comes (AsksRoom k (format_of g.K.KeyClass) g.K.KeyClass.KEY d c.args.session (Insert c.args.entry) c.args.self.now) (LacksPages k (format_of g.K.KeyClass) d c.args.session (Insert c.args.entry) c.args.self.now)
-    (MakesRoom k (format_of g.K.KeyClass) d c.args.session (Insert c.args.entry) c.args.self.now) k (is_node (format_of g.K.KeyClass)) d e c.args.session (Insert c.args.entry) descends.0 c.args.self.now c.write_look.new.self c.begin_descent.new.self rest.1 descends.1
+    (MakesRoom k (format_of g.K.KeyClass) d c.args.session (Insert c.args.entry) c.args.self.now) k (is_node (format_of g.K.KeyClass)) d e c.args.session (Insert c.args.entry) (Looks ends.look) descends.0 c.args.self.now c.write_look.new.self c.begin_descent.new.self ends.only descends.1
     (look_made k (format_of g.K.KeyClass) d c.args.session (Insert c.args.entry) c.args.self.now e c.begin_descent.new.self
     (λ steady. ap (λ (x : Parts g.row.K-Key.Denot g.row.D.Denot). x.volume.shelf.used) descends.1 ∙ stays_used (format_of g.K.KeyClass) d.seen (g.D.SectorDisk.state c.write_look.new.self.volume.shelf.disk).seen c.args.self.now.volume.shelf c.write_look.new.self.volume.shelf _ c.in-Ok.ensures.stays)
     (record { work = c.requires.looks.0; at = c.requires.looks.1; looks = c.requires.looks.2 }))).0
@@ -45,18 +44,17 @@ returns-in-Ok-clause-reads g c =
     let k = keys g.K.Key.Ord.cmp g.K.Key.Shape.overlap g.K.Key.Shape.inside in
     let d = g.D.SectorDisk.state c.args.self.now.volume.shelf.disk in
     let looks : LooksFor c.args.entry (Insert c.args.entry) c.requires.looks.0 (phase_at (c.args.session - 1) c.args.self.now.sessions.phases) = record { writes = refl; at = c.requires.looks.1; looking = c.requires.looks.2 } in
-    let rest = c.in-Ok.ensures.rest (Insert c.args.entry) c.requires.looks.0 looks in
-    let descends = c.begin_descent.ensures.descends c.args.entry rest.0 in
+    let ends = c.in-Ok.ensures.ends (Insert c.args.entry) c.requires.looks.0 looks in
+    let descends = c.begin_descent.ensures.descends c.args.entry ends.look ends.at in
     (descends_comes (AsksRoom k (format_of g.K.KeyClass) g.K.KeyClass.KEY d c.args.session (Insert c.args.entry) c.args.self.now) (LacksPages k (format_of g.K.KeyClass) d c.args.session (Insert c.args.entry) c.args.self.now)
-    (λ x y. Unit {0}) k (is_node (format_of g.K.KeyClass)) d d c.args.session (Insert c.args.entry) descends.0 c.args.self.now c.write_look.new.self c.begin_descent.new.self rest.1 descends.1 tt).1
+    (λ x y. Unit {0}) k (is_node (format_of g.K.KeyClass)) d d c.args.session (Insert c.args.entry) (Looks ends.look) descends.0 c.args.self.now c.write_look.new.self c.begin_descent.new.self ends.only descends.1 tt).1
 
 pub returns-in-Ok-clause-moves : goal.returns-in-Ok-clause-moves
 returns-in-Ok-clause-moves g c l =
     let looks : LooksFor c.args.entry (Insert c.args.entry) c.requires.looks.0 (phase_at (c.args.session - 1) c.args.self.now.sessions.phases) = record { writes = refl; at = c.requires.looks.1; looking = c.requires.looks.2 } in
-    let rest = c.in-Ok.ensures.rest (Insert c.args.entry) c.requires.looks.0 looks in
-    let on = reached_more _ (c.a_class_is_lawful.ensures l) _ _ _ g.D.SectorDisk.state _ c.args.session c.args.self.now
-    (calling c.args.session (Insert c.args.entry) (Looks c.in-Ok.look) c.write_look.new.self) c.begin_descent.new.self
-    (c.in-Ok.ensures.reaches (Insert c.args.entry) c.requires.looks.0 looks l) (c.begin_descent.ensures.moves c.args.entry rest.0 l) in
+    let ends = c.in-Ok.ensures.ends (Insert c.args.entry) c.requires.looks.0 looks in
+    let on = reached_more _ (c.a_class_is_lawful.ensures l) _ _ _ g.D.SectorDisk.state _ c.args.session c.args.self.now c.write_look.new.self c.begin_descent.new.self
+    (c.in-Ok.ensures.reaches (Insert c.args.entry) c.requires.looks.0 looks l) (c.begin_descent.ensures.moves c.args.entry ends.look ends.at ends.done l) in
     rw (c.begin_descent.ensures.outcome) (λ bodies i h. (Works ∷ [], refl, on bodies i h))
 
 pub returns-in-Ok-clause-device : goal.returns-in-Ok-clause-device

@@ -15,7 +15,7 @@ returns-clause-sought g c =
     let did = c.set_mark.ensures in
     rw (← c.self.view_is, ← c.transaction-transaction.ensures)
     (seeking _ _ _ _ g.K.KeyClass.is_key _ _ _ _ _ _ _ c.transaction-transaction.result c.args.note.now c.args.leaf c.set_mark.result
-    did.logged did.unlogged did.marked did.own did.why did.damaged)
+    did.logged did.unlogged did.tells did.own did.why)
 
 pub returns-clause-told : goal.returns-clause-told
 returns-clause-told g c = rw (← c.self.view_is) c.set_mark.ensures.told

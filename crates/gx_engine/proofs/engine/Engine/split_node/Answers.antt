@@ -8,7 +8,7 @@ pub returns-clause-splits : goal.returns-clause-splits
 returns-clause-splits g c =
     let did = c.split-split.ensures in
     rw (← c.self.view_is, ← c.page.ensures)
-    (splitting _ _ _ _ _ _ _ _ _ g.K.KeyClass.sides_of c.page.result c.args.parent c.split-split.result did.logged did.unlogged did.split did.own did.why did.full did.damaged)
+    (splitting _ _ _ _ _ _ _ _ _ g.K.KeyClass.sides_of c.page.result c.args.parent c.split-split.result did.logged did.unlogged did.tells.split did.own did.why did.full did.tells.damaged)
 
 pub returns-clause-device : goal.returns-clause-device
 returns-clause-device g c =

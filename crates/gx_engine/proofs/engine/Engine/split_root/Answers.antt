@@ -5,4 +5,4 @@ pub returns-clause-splits : goal.returns-clause-splits
 returns-clause-splits g c =
     let did = c.split_root-split.ensures in
     rw (← c.self.view_is)
-    (root_splitting _ _ _ _ _ _ _ _ _ g.K.KeyClass.sides_of c.split_root-split.result did.logged did.unlogged did.split did.own did.why did.full did.damaged)
+    (root_splitting _ _ _ _ _ _ _ _ _ g.K.KeyClass.sides_of c.split_root-split.result did.logged did.unlogged did.tells.split did.own did.why did.full did.tells.damaged)

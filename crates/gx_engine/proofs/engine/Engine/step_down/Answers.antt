@@ -15,7 +15,7 @@ pub returns-clause-step : goal.returns-clause-step
 returns-clause-step g c =
     let did = c.descend.ensures in
     rw (← c.self.view_is)
-    (stepping _ _ _ _ _ _ g.K.KeyClass.spelling g.K.KeyClass.KEY _ _ _ _ c.args.item.now c.args.coming.now c.descend.result did.logged did.unlogged did.descended did.own did.why did.damaged)
+    (stepping _ _ _ _ _ _ g.K.KeyClass.spelling g.K.KeyClass.KEY _ _ _ _ c.args.item.now c.args.coming.now c.descend.result did.logged did.unlogged did.tells.descended did.own did.why did.tells.damaged)
 
 pub returns-clause-device : goal.returns-clause-device
 returns-clause-device g c =

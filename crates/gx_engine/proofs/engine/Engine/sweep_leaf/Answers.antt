@@ -21,7 +21,7 @@ returns-clause-sweeps g c =
     let did = c.sweep.ensures in
     rw (← c.self.view_is, ← c.page.ensures)
     (leaf_sweeping _ _ _ _ _ _ _ _ _ (is_held k old) (λ entry answer post. search rules) c.page.result c.sweep.result did.logged did.unlogged
-    (λ steady. did.swept steady (is_held k old) (λ entry answer post. search rules)) did.own did.damaged)
+    (λ steady. did.tells.swept steady (is_held k old) (λ entry answer post. search rules)) did.own did.tells.damaged)
 
 pub returns-clause-device : goal.returns-clause-device
 returns-clause-device g c =

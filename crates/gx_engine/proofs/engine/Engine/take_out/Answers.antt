@@ -49,7 +49,7 @@ returns-in-Ok-true-clause-sweeps g c =
       slots = logged.slots;
       taken = λ steady. logged.exact steady (is_held k old) (λ entry answer post. search rules);
       logged = logged.logged;
-      swept = λ steady. swept_so _ _ _ _ c.in-Ok-true.field-0 c.in-Ok-true.field-0-test (did.swept steady (is_held k old) (λ entry answer post. search rules));
+      swept = λ steady. swept_so _ _ _ _ c.in-Ok-true.field-0 c.in-Ok-true.field-0-test (did.tells.swept steady (is_held k old) (λ entry answer post. search rules));
       only = refl;
     })
 
@@ -65,7 +65,7 @@ returns-in-Ok-true-clause-leads g c =
     let logged = sweep_so _ _ _ _ _ _ _ _ _ _ c.in-Ok-true.field-0 any said.logged in
     let did = logged.logged in
     rw (← c.self.view_is) (λ l. sweep_leads _ (c.a_class_is_lawful.ensures l) _ _ _ c.args.page _ _ old c.stands.ensures w (is_calm old.checkpoint (not_due old early).0) did.most (flies_on old.volume.log w.log did.logs)
-    (nodes_of f _ _ c.in_order.ensures) c.small_removals.ensures.removed logged.slots (λ steady. logged.exact steady (is_held k old) (λ entry answer post. search rules)) (did.keeps l) (λ steady. swept_so _ _ _ _ c.in-Ok-true.field-0 any (said.swept steady (is_held k old) (λ entry answer post. search rules))) (said.own any))
+    (nodes_of f _ _ c.in_order.ensures) c.small_removals.ensures.removed logged.slots (λ steady. logged.exact steady (is_held k old) (λ entry answer post. search rules)) (did.keeps l) (λ steady. swept_so _ _ _ _ c.in-Ok-true.field-0 any (said.tells.swept steady (is_held k old) (λ entry answer post. search rules))) (said.own any))
 
 pub returns-in-Ok-false-clause-sweeps : goal.returns-in-Ok-false-clause-sweeps
 returns-in-Ok-false-clause-sweeps g c =
@@ -79,7 +79,7 @@ returns-in-Ok-false-clause-sweeps g c =
     let did = (unswept_so _ _ _ _ _ _ _ _ _ _ c.in-Ok-false.field-0 c.in-Ok-false.field-0-test said.logged).logged in
     rw (← c.self.view_is) (
       (λ steady. absurd (never_none (is_held k old) (node_shown f d c.args.page old) some
-          (none_taken _ _ _ _ c.in-Ok-false.field-0 c.in-Ok-false.field-0-test (said.swept steady (is_held k old) (λ entry answer post. search rules))))),
+          (none_taken _ _ _ _ c.in-Ok-false.field-0 c.in-Ok-false.field-0-test (said.tells.swept steady (is_held k old) (λ entry answer post. search rules))))),
       as_brought old c.sweep.new.self old.sessions did.log did.most did.imaged,
     )
 
@@ -111,7 +111,7 @@ returns-in-Err-Damaged g c =
     let failed : c.sweep.result ≡ Err Damaged = search rules in
     let did = c.in-Err-Damaged.ensures.unlogged.unlogged in
     let full : IsSteady d old.volume.shelf.frames → CanBeRead (is_node f) d old.volume.shelf → MAX_ENTRIES < length (node_shown f d c.args.page old).pairs =
-    λ steady readable. more_than_fit f c.args.page d old (is_held k old) c.requires.from high some (c.sweep.ensures.damaged steady failed) in
+    λ steady readable. more_than_fit f c.args.page d old (is_held k old) c.requires.from high some (c.sweep.ensures.tells.damaged steady failed) in
     rw (← c.self.view_is, c.fail_event.ensures.failed, c.fail_event.ensures.outcome) (record {
       sweeps = (inr (refl, full), as_brought old c.sweep.new.self (failed_state old.sessions) did.log did.most did.imaged);
       leads = λ l. never_full _ (c.a_class_is_lawful.ensures l) _ _ _ c.args.page d _ old c.stands.ensures _ _ c.requires.from high c.most.ensures.few full;

@@ -1,5 +1,6 @@
-use Rattle.std.proofs.Common.{◌≡◌, ◌≤◌, ap, length, arith}
+use Rattle.std.proofs.Common.{◌≡◌, ◌*◌, ◌≤◌, ap, length, arith}
 use Rattle.std.proofs.lemmas.Grind.{common_steps}
+use Rattle.gx_disk.specs.declared.layout.TheConstants.{PAGES_AT}
 use Rattle.gx_machine.specs.Keys.{Members}
 use Rattle.gx_node.specs.Reading.{format_of}
 use Rattle.gx_recovery.specs.Damage.{records_of}
@@ -22,7 +23,7 @@ returns-in-Err-clause-begun g c = λ a honest st.
     let good = c.what_is_found_stands.ensures.good s.parameters (state a).seen c.args.disk s.log st.laid st.sound in
     let whole = g.met.D.SectorDisk.whole c.args.disk honest in
     let inside = c.requires.inside in
-    let size : 2134016 ≤ length m.seen = omega (arith, whole, inside) in
+    let size : 512 * PAGES_AT ≤ length m.seen = omega (arith, whole, inside) in
     not_begun shape proper said f _ (state a) m s st lc good (state c.close_later.new.disk) honest size inside c.in-Err.ensures.device.0 c.args.frames c.in-Ok.start c.in-Ok.ensures c.in-Err.why
     c.in-Err.ensures.refusal c.in-Err.ensures.closes)
 
@@ -39,7 +40,7 @@ returns-in-Ok-close_later-clause-begun g c = λ a honest st.
     let good = c.what_is_found_stands.ensures.good s.parameters (state a).seen c.args.disk s.log st.laid st.sound in
     let whole = g.met.D.SectorDisk.whole c.args.disk honest in
     let inside = c.requires.inside in
-    let size : 2134016 ≤ length m.seen = omega (arith, whole, inside) in
+    let size : 512 * PAGES_AT ≤ length m.seen = omega (arith, whole, inside) in
     let bodies = st.laid.is.log.bodies in
     let cut = c.a_log_tells_who_was_cut_off.ensures _ lc (records_of bodies) (bodies_log (known_for shape proper said f s.parameters) bodies st.laid.is.log.undamaged) in
     begun_so shape proper said f _ (state a) m s st lc good state c.close_later.new.disk honest size inside c.in-Ok-close_later.ensures.device.0 c.in-Ok-close_later.ensures.device.1

@@ -1,0 +1,5 @@
+pub mod Head
+pub mod Migrated
+pub mod Migrating
+pub mod Moved
+pub mod Setting

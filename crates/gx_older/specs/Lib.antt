@@ -1,0 +1,5 @@
+pub mod Class
+pub mod Laws
+pub mod Reads
+pub mod Renumbered
+pub mod Told

@@ -1,0 +1,39 @@
+-- `of` picks the past in which nothing was made. Assumes `Logic`.
+use Rattle.std.proofs.Common.{[], ◌∷◌, refl}
+use Rattle.std.proofs.raw_atomic.Walks.{proved}
+use base.Fml.{ftrue, flft}
+use mir.Syntax.{named}
+use types.Kit.{‵, ◌⊛◌, ◌$◌, ◌∵◌, !, qed, move, keep, split, join, fjoin, suffices, done}
+use types.Part.{agg}
+use types.Run.{enter, returns, no_more}
+use types.ByLocal.{alloc_all, pass_all, free_all, look_at, sets}
+use denote.Exit.{yes}
+use denote.Builtin.{RefOf}
+use denote.Ref.{shr_vals, shr_Tells}
+use denote.RattleType.{owns}
+use denote.Signature.{plain, types_at}
+use denote.Steps.{nothing}
+use denote.Triple.Walked.{says, Stays, stay_dropped, Goes-dropped, ends_at}
+use Rattle.gx_disk.proofs.Empty.{no_bytes, empty_made}
+use Rattle.gx_queue_disk.specs.contracts.image.Image as Image
+use Rattle.gx_queue_disk.specs.contracts.past.Past as Past
+use Rattle.gx_queue_disk.specs.contracts.past.Past.of as f
+use Rattle.gx_queue_disk.proofs.past.Past.of.Statement.{statement}
+use Rattle.gx_queue_disk.proofs.past.Past.of.Code as code
+
+abbrev stayed : Stays f.ended.signature.params f.ended.kept
+stayed = (stay_dropped _ yes, tt)
+
+pub of_spec : {M : Type 1} → statement M
+of_spec 𝓤 𝓛 𝓜 𝓡 wired =
+    let c = f.clauses 𝓛 𝓜.mem 𝓡.returns in
+    proved 𝓛 f.ended stayed c 𝓜 𝓡 (Goes-dropped 𝓛 1 (RefOf (0 ∷ []) tt (plain (λ _. Image.the_row)) (λ _. tt)) yes (λ κs x w. refl), tt)
+    f.Key.name code.function (code.unfolded 𝓤 𝓛.H 𝓜 𝓡 wired)
+    (λ κs. (shr_vals, tt)) (λ κs. (shr_Tells (named 0) κs.0 Image.the_row, tt)) (λ κs qs bounds a g are.
+    let none : (Past.the_row).Denot = record { start = a.0.now; drained = []; faults = 0; calls = 0 } in
+    qed 𝓛 (((‵ (flft κs.0 qs.0) ⊛ ‵ ftrue) ⊛ ‵ (owns (types_at f.ended.signature.params κs) a (shr_vals a.0, tt))) ∷ ‵ ftrue ∷ []) ∵
+    split ! $ keep ! (0 ∷ []) $
+    enter ! _ _ _ _ _ $ alloc_all ! (λ l. pass_all ! refl ((tt, tt), tt) $
+    sets ! (agg ! (no_more !)) refl (tt, tt) $ returns ! (look_at ! 0 refl) $ free_all ! refl $
+    suffices ! _ (ends_at 𝓛 f.ended stayed c ((κs, qs, bounds, a, (shr_vals a.0, tt)), g) no_bytes none (tt, tt) (tt, tt)) $ says ! refl $
+    nothing ! $ empty_made ! $ fjoin ! $ nothing ! $ nothing ! $ join ! $ move ! (2 ∷ 0 ∷ 1 ∷ []) $ done !))
