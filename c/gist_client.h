@@ -170,9 +170,11 @@ int gist_migrate(const char *program, const char *old, const char *path, unsigne
    GIST_DAMAGED: what it holds; GIST_MEMORY. */
 int gist_open(gist_index **index, const char *program, const char *path, unsigned frames, gist_end *end);
 
+#ifndef GIST_EMBEDDED
 /* Prints the tree of the index in the file `path` to a stream, as docs/SCRIPT.md has it. The index must not be open.
    The refusals of gist_open, after part of the tree maybe; GIST_SYSTEM also where the stream takes no more. */
 int gist_dump(const char *program, const char *path, FILE *to, gist_end *end);
+#endif
 
 /* Tests the index in the file `path` in a copy in memory, and doesn't change the file. GIST_OK: it is sound, and
    `counts`, where it isn't NULL, has what it holds. The index must not be open. The refusals of gist_open. */
@@ -252,8 +254,10 @@ int gist_search_many3(gist_index *index, unsigned session, enum gist_query query
 /* The session that the last GIST_BUSY was because of; 0 before any, and of NULL. */
 unsigned gist_busy(const gist_index *index);
 
+#ifndef GIST_EMBEDDED
 /* The number of the program's process; 0 of NULL. */
 long gist_pid(const gist_index *index);
+#endif
 
 #ifdef __cplusplus
 }

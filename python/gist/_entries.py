@@ -2,6 +2,7 @@
 
 from contextlib import suppress
 from itertools import chain, repeat
+from struct import Struct
 from typing import (Any, Dict, Iterator, List, NamedTuple, Sequence, Tuple,
                     Type, Union)
 
@@ -59,11 +60,15 @@ class Hits(Iterator[Tuple[int, AnyBox]]):
     __slots__ = ("count", "_entries")
 
     def __init__(self, count: int, lines: bytes,
-                 box: Type[AnyBox] = Box) -> None:
+                 box: Type[AnyBox] = Box, is_packed: bool = False) -> None:
         #: How many were found, as len() returns.
         self.count = count
-        self._entries = chain.from_iterable(
-            _entries(block, box) for block in _blocks(lines))
+        self._entries: Iterator[Tuple[int, AnyBox]]
+        if is_packed:
+            self._entries = _unpacked(lines, box)
+        else:
+            self._entries = chain.from_iterable(
+                _entries(block, box) for block in _blocks(lines))
 
     def __len__(self) -> int:
         return self.count
@@ -76,6 +81,14 @@ class Hits(Iterator[Tuple[int, AnyBox]]):
 
     def __next__(self) -> Tuple[int, AnyBox]:
         return next(self._entries)
+
+
+def _unpacked(entries: bytes, box: Type[AnyBox]
+              ) -> Iterator[Tuple[int, AnyBox]]:
+    """The entries of bytes as the library in process has them."""
+    layout = Struct(f"=Q{len(box._fields)}i")
+    for numbers in layout.iter_unpack(entries):
+        yield numbers[0], _new(box, numbers[1:])
 
 
 def _blocks(lines: bytes) -> Iterator[bytes]:

@@ -9,6 +9,7 @@ from typing import Iterator, NamedTuple, Optional
 
 from gist._entries import kind_of
 from gist._index import Index
+from gist._library import library
 from gist._numbers import numbers_of, opened
 from gist._process import AnyPath, lines_of, words_of
 from gist._refusals import InUse, ProtocolError
@@ -60,7 +61,8 @@ class Stat(NamedTuple):
 
 
 def open(path: AnyPath, frames: Optional[int] = None,
-         program: Optional[AnyPath] = None, wait: float = 0.0) -> Index:
+         program: Optional[AnyPath] = None, wait: float = 0.0,
+         embedded: bool = False) -> Index:
     """Opens the index in a file; what a crash cut off is undone first.
 
     frames, 16 to 4096, is how many pages of 4,096 bytes are held in memory:
@@ -68,13 +70,19 @@ def open(path: AnyPath, frames: Optional[int] = None,
     program is the path of gist, where it isn't the one that the environment
     variable GIST names, or the file gist beside this package's folder. wait
     is for how many seconds this tries again while another process has the
-    file open; then it raises InUse.
+    file open; then it raises InUse. With embedded this process has the index
+    itself, by the library in process (docs/LIBRARY.md), and no program is
+    started: GIST_LIBRARY names the library, or else the system finds it.
 
-    Raises OSError, as FileNotFoundError, for a file that can't be opened, and
-    OldVersion, NotFormatted, Damaged, TooSmall or BadParameter for what it
+    Raises OSError, as FileNotFoundError, for a file that can't be opened or a
+    library that isn't installed, and OldVersion, NotFormatted, Damaged, TooSmall or BadParameter for what it
     holds.
     """
-    words_of(program)
+    if not embedded:
+        words_of(program)
+    elif library() is None:
+        raise OSError(errno.ENOENT, "the library in process isn't installed, "
+                      "and GIST_LIBRARY doesn't name it", "libgist.so")
     pages, _, _ = numbers_of(path, os.O_RDWR)
     if frames is None:
         frames = min(max(pages, MIN_FRAMES), MAX_FRAMES)
@@ -82,7 +90,7 @@ def open(path: AnyPath, frames: Optional[int] = None,
     end = time.monotonic() + wait
     while True:
         try:
-            return Index(path, frames, program)
+            return Index(path, frames, program, embedded)
         except InUse:
             if time.monotonic() >= end:
                 raise

@@ -5,9 +5,10 @@ import time
 from itertools import islice
 from os import fspath
 from typing import (Any, Callable, Iterable, List, Optional, Sequence, Tuple,
-                    Type, TypeVar)
+                    Type, TypeVar, Union)
 
-from gist._entries import KINDS, Hits
+from gist._entries import KINDS, Hits, kind_of
+from gist._library import Library
 from gist._load import load
 from gist._numbers import numbers_of
 from gist._process import AnyPath, words_of
@@ -33,9 +34,21 @@ class Index:
     """
 
     def __init__(self, path: AnyPath, frames: int,
-                 program: Optional[AnyPath]) -> None:
+                 program: Optional[AnyPath],
+                 embedded: bool = False) -> None:
         #: The file's path, as it was given.
         self.path = path
+        if embedded:
+            self._program: Union[Program, Library] = Library(fspath(path),
+                                                             frames)
+            self._kind = kind_of(self._program.dimensions)
+        else:
+            self._start(path, frames, program)
+        self._sessions = Sessions(self._program, path, self._kind)
+
+    def _start(self, path: AnyPath, frames: int,
+               program: Optional[AnyPath]) -> None:
+        """Starts the program that has the index."""
         self._program = Program(words_of(
             program, "run", "--frames", f"{frames:d}", "--", fspath(path)))
         # (this changes nothing, and is answered once the index is open)
@@ -49,7 +62,6 @@ class Index:
             self._program.kill()
             raise ProtocolError(f"an index of class {number} was opened")
         self._kind = KINDS[number]
-        self._sessions = Sessions(self._program, path, self._kind)
 
     def __enter__(self) -> "Index":
         return self
@@ -62,7 +74,8 @@ class Index:
 
     @property
     def pid(self) -> int:
-        """The number of the program's process."""
+        """The number of the process that has the index: the program's, or
+        this one's where it is embedded."""
         return self._program.pid
 
     @property

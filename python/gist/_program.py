@@ -46,7 +46,8 @@ class Call:
     searches, at most SEARCHES.
     """
 
-    __slots__ = ("lines", "count", "is_search", "heads", "head", "answer")
+    __slots__ = ("lines", "count", "is_search", "heads", "head", "answer",
+                 "answers")
 
     def __init__(self, lines: bytes, count: int = 1,
                  is_search: bool = False) -> None:
@@ -62,6 +63,8 @@ class Call:
         #: All answers; of a call that was broken off the first line, or
         #: nothing where it never reached the program.
         self.answer: Optional[bytes] = None
+        #: The answers one by one, where the library in process gave them.
+        self.answers: List[bytes] = []
 
 
 class Program:

@@ -5,6 +5,7 @@ from typing import (Iterable, List, Optional, Sequence, Tuple, Type,
                     TypeVar)
 
 from gist._entries import Hits
+from gist._library import Found
 from gist._program import AHEAD, SEARCHES, Call, Program
 from gist._refusals import GistError, NoTransaction, ProtocolError, refusal
 from gist._sessions import Hold
@@ -57,6 +58,8 @@ class Reader:
         call = self._asking(*[f"OVERLAP {kind.corners_of(box)}"
                               for box in boxes], is_search=True)
         answers = self._exchange(call)
+        if call.answers:
+            return [self._hits(answer) for answer in call.answers]
         ends = call.heads[1:] + [len(answers)]
         return [self._hits(answers[at:end])
                 for at, end in zip(call.heads, ends)]
@@ -94,6 +97,9 @@ class Reader:
 
     def _hits(self, answer: bytes) -> Hits:
         """What a search found, by its answer; raises its refusal."""
+        if isinstance(answer, Found):
+            return Hits(answer.count, answer.entries, self._hold.kind.box,
+                        is_packed=True)
         head, _, lines = answer.partition(b"\n")
         count = self._result(head, b"found ")
         if not count.isdigit():

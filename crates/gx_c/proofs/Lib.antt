@@ -1,0 +1,6 @@
+mod Draining
+mod Numbers
+mod Stages
+mod Walks
+mod Words
+mod Writing
