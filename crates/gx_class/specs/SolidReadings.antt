@@ -14,7 +14,7 @@ use Rattle.gx_class.specs.SolidKeyLaws.{length-three_bytes, length-spelling, sam
 
 -- ---- a box's bytes
 
--- the three numbers behind some bytes, where more follow
+-- the three numbers behind some bytes, if more follow
 first_at : (x y z : ℤ) (back : List ℕ) → FitsSigned w32 x → number_of (take 4 (three_bytes x y z ++ back)) ≡ x
 first_at x y z back fits =
     ap (λ l. number_of (take 4 l)) (append_assoc (number_bytes x) (number_bytes y ++ number_bytes z) back)

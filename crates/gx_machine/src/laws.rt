@@ -120,8 +120,8 @@ pub fn sessions_never_conflict<B>()
         → AllIdle start → IsRun k start steps new → SessionsHold k new.sessions }
 {}
 
-/// The same of locks alone, step by step: where no session claims what another claims or watches, none does after
-/// any step.
+/// The same of locks alone, step by step: if no session claims what another claims or watches, none does after any
+/// step.
 pub fn each_step_keeps_locks_apart<B>()
     ensures { (k : Keys B) → IsLawful k → (old new : Machine B) (step : Step B)
         → IsStep k old step new → LocksApart k old.sessions → LocksApart k new.sessions }
