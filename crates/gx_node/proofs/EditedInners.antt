@@ -82,7 +82,7 @@ child_long IsKey spelling f laws c is =
     let long = laws.size c.key is in
     omega (arith, length-append (spelling c.key) (spell_32 c.page))
 
--- where more pages are taken, an inner node is one
+-- if more pages are taken, an inner node is one
 more_children : {B : Type 0} (f : Format B) (used more : ℕ) → used ≤ more → (items : List (List ℕ)) → list_all (is_child f used) items ≡ true → list_all (is_child f more) items ≡ true
 more_children f used more h [] e = refl
 more_children f used more h (item ∷ items) e =

@@ -102,7 +102,7 @@ RemovalsMean f = (slots : List ℕ) (page : Contents) → SlotsMean f slots page
 abbrev pub AreSlotsOf : {X : Type 0} → (X → Bool) → List X → List ℕ → Type 0
 AreSlotsOf test xs slots = (k : ℕ) → k < length xs → list_any (λ slot. slot == k) slots ≡ slice_index_or (map test xs) k false
 
--- where those go that pass a test, what stays is those that don't
+-- if those go that pass a test, what stays is those that don't
 abbrev pub RemovalsAreAFilter : Type 0 → Type 0
 RemovalsAreAFilter X = (test : X → Bool) (xs : List X) (slots : List ℕ) → AreSlotsOf test xs slots
     → staying (sides_of (length xs) slots) xs ≡ filter (λ x. not (test x)) xs

@@ -12,7 +12,7 @@ use gx_page::Page;
 
 /// A change of a node, made in place on its page.
 pub trait Edit<K: KeyClass> {
-    /// The nodes on which it can be made, where there are so many pages.
+    /// The nodes on which it can be made, if there are so many pages.
     ghost fits: { Self → ℕ → Node K.Key → Type 0 };
 
     /// The nodes that the change may lead to.

@@ -14,7 +14,7 @@ pub const PAIR_TAIL: usize = 9;
 /// How many bytes an inner node's entry has behind its key, those of the child's page.
 pub const CHILD_TAIL: usize = 4;
 
-/// The key that bytes spell, or none where they spell no key of the class. Bytes of another length spell none.
+/// The key that bytes spell, or none if they spell no key of the class. Bytes of another length spell none.
 pub fn read_key<K: KeyClass>(bytes: &[u8]) -> Option<K::Key>
     ensures { result ≡ K.reading bytes.now }
 {

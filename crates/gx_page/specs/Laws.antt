@@ -48,7 +48,7 @@ PlaceInImage = (v : Contents) (size slot : ℕ) → IsWellFormed v → AllOfLeng
 
 -- ---- room
 
--- where so many items of a greatest length fit a page with their slots, one more of them fits a page that has fewer
+-- if so many items of a greatest length fit a page with their slots, one more of them fits a page that has fewer
 abbrev pub FewFit : Type 0
 FewFit = (items : List (List ℕ)) (item : List ℕ) (slot most size : ℕ) → slot ≤ length items → NoneLonger size items → length item ≤ size
     → length items < most → most * (4 + size) ≤ 4064 → Fits (insert items slot item)

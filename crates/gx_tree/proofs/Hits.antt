@@ -44,7 +44,7 @@ module _ {X : Type 0} (p w : X → Bool) (only : (x : X) → p x ≡ false → w
       ∙ taken x (filter w (drop (suc hit) xs)) (w x)
       ∙ ap (λ n. filter w (x ∷ []) ++ filter w (drop n xs)) one
 
-  -- where there is no further hit nothing is left
+  -- if there is no further hit nothing is left
   pub none_left : (xs : List X) (from : ℕ) → IsNextHit (map p xs) from None → filter w (drop from xs) ≡ []
   none_left [] zero next = refl
   none_left [] (suc from) next = refl
