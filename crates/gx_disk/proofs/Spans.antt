@@ -36,7 +36,7 @@ pub put_behind : (at : ℕ) (new xs : List ℕ) (b : ℕ) → at + length new �
 unfolding put
 put_behind at new xs b above fits = drop-put_mid at (length new) xs new b above fits refl
 
--- The first m bytes put back give the list back, where only they had changed, and bytes that were rewritten with the
+-- The first m bytes put back give the list back, if only they had changed, and bytes that were rewritten with the
 -- same values.
 pub put_restores : (at m : ℕ) (xs ys : List ℕ) → at + m ≤ length xs → take at ys ≡ take at xs → drop m (drop at ys) ≡ drop m (drop at xs) → put at (take m (drop at xs)) ys ≡ xs
 unfolding put
@@ -44,7 +44,7 @@ put_restores at m xs ys fits front rest =
     let size : length (take m (drop at xs)) ≡ m = length-take-le m (drop at xs) (omega (arith, length-drop at xs)) in
     rw (size, front, rest, take-append-drop m (drop at xs)) (take-append-drop at xs)
 
--- spans of n sectors are the same where each of the sectors is
+-- spans of n sectors are the same if each of the sectors is
 pub spans_same : (n first : ℕ) (xs ys : List ℕ) → ((s : ℕ) → IsWithin first n s → sector_of xs s ≡ sector_of ys s) → span_of xs first (512 * n) ≡ span_of ys first (512 * n)
 unfolding span_of sector_of
 spans_same zero first xs ys same = refl

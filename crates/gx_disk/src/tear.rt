@@ -65,7 +65,7 @@ fn after_kept<'a>(call: &PastCall, kept: &'a [u8]) -> &'a [u8]
     }
 }
 
-// A sector's first overwritten bytes since these calls began, where any were kept.
+// A sector's first overwritten bytes since these calls began, if any were kept.
 fn old_bytes<'a>(calls: &[PastCall], kept: &'a [u8], sectors: usize, s: usize) -> Option<&'a [u8]>
     requires fits { fit_all sectors calls.now ≡ true }
     requires sized { total_kept calls.now ≡ length kept.now }

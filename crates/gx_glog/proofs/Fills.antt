@@ -44,7 +44,7 @@ sized at n xs front small room =
     ap (take 4) here ∙ ap (λ k. take k (drop at (put at (u32_bytes n) xs))) (sym four) ∙ put_back at (u32_bytes n) xs fits in
     (length-put at (u32_bytes n) xs fits, rw first (u32_again n small), λ k from. put_behind at (u32_bytes n) xs k (omega arith) (omega arith))
 
--- where no byte from a place on is other than 0, none from a later one on is
+-- if no byte from a place on is other than 0, none from a later one on is
 pub later_zero : (end n : ℕ) (xs : List ℕ) → IsZero (drop end xs) → IsZero (drop (end + n) xs)
 later_zero end n xs zeros k =
     ap (λ ys. get_or ys k 0) (sym (drop-drop n end xs)) ∙ get_or-drop n (drop end xs) k 0 ∙ zeros (n + k)

@@ -44,7 +44,7 @@ pub body_same : (extent : Extent) (k : ℕ) (xs ys : List ℕ) → ((s : ℕ) �
 unfolding body_of
 body_same extent k xs ys same = spans_same BODY_SECTORS (bodies_of extent + BODY_SECTORS * k) xs ys same
 
--- bodies are the same where their sectors are
+-- bodies are the same if their sectors are
 pub bodies_same : (extent : Extent) (n : ℕ) (xs ys : List ℕ) → ((k : ℕ) → k < n → body_of xs extent k ≡ body_of ys extent k) → bodies_in xs extent n ≡ bodies_in ys extent n
 unfolding bodies_in
 bodies_same extent zero xs ys same = refl

@@ -72,7 +72,8 @@ selector_read extent bytes before now selector size written =
     let here : take 512 (drop (512 * 2) now.seen) ≡ bytes = ap (λ n. take n (drop (512 * 2) now.seen)) (sym selector.whole) ∙ reads in
     selects_by extent (take 512 (drop (512 * 2) now.seen)) (ap (λ (sector : List ℕ). get_or sector 0 0) here ∙ selector.selects)
 
--- What a call of a turn leaves as it was, also where it fails: the extent that it leads from, and what is known of the other.
+-- What a call of a turn leaves as it was, even if it fails: the extent that it leads from, and what is known of the
+-- other.
 record Stays (t : Turn) (extent : Extent) (head : List ℕ) (before now : Device) : Type 0 where
   pub size : length now.seen ≡ length before.seen
   pub kept : KeptExtent before.seen now.seen before.pending now.pending extent
@@ -368,7 +369,7 @@ module _ (extent : Extent) (used gated : ℕ) (head filling : List ℕ) (before 
   abbrev at : List ℕ → Turn → Log
   at tails t = log_at t extent used gated Idle head filling tails
 
-  -- where the log may turn, it still may, whichever call is due
+  -- if the log may turn, it still may, whichever call is due
   stays_turning : (t next : Turn) (tails after : List ℕ) → IsSound (at after next) → (1 ≤ turning next → filling ≡ []) → MayTurn (at tails t) before.seen before.pending → Stays t extent head before now
       → HaveTails after now.seen now.pending → Leads next extent (other_of extent) head now.seen now.pending → MayTurn (at after next) now.seen now.pending
   stays_turning t next tails after sound quiet may stay have leads = record {
@@ -380,7 +381,7 @@ module _ (extent : Extent) (used gated : ℕ) (head filling : List ℕ) (before 
     tails = have;
   }
 
-  -- where the log is on the device, it still is
+  -- if the log is on the device, it still is
   stays_on : (t next : Turn) (tails after : List ℕ) → IsSound (at after next) → (1 ≤ turning next → filling ≡ []) → On (at tails t) before.seen before.pending → Stays t extent head before now
       → HaveTails after now.seen now.pending → Leads next extent (other_of extent) head now.seen now.pending → On (at after next) now.seen now.pending
   stays_on t next tails after sound quiet on stay have leads = record {

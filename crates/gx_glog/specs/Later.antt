@@ -51,7 +51,7 @@ pub record IsClosedBehind (extent : Extent) (n : ℕ) (d : Device) : Type 0 wher
   pub selected : IsSelected extent d.seen d.pending
   pub batches : HasBatches extent n n d.seen d.pending
 
--- What closing the gates behind place n leaves of a synced device with n batches, also where a call fails: at each
+-- What closing the gates behind place n leaves of a synced device with n batches, even if a call fails: at each
 -- moment each image has the log that was found, and only the later gates differ. At Ok all of these are closed and
 -- settled.
 pub record ClosesLater {T E : Type 0} (extent : Extent) (n : ℕ) (old new : Device) (result : Result T E) : Type 0 where
@@ -65,8 +65,8 @@ abbrev pub ClosesLaterOfRun : {T E : Type 0} → Extent → ℕ → Device → D
 ClosesLaterOfRun extent n old new result = old.honest ≡ true → IsSettled old → HasRun extent n old.seen old.pending → IsSelected extent old.seen old.pending
     → ClosesLater extent n old new result
 
--- The device calls that it takes, and the sectors that they may touch: none where each later gate reads closed, and then the device was only
--- read; else a write and a sync.
+-- The device calls that it takes, and the sectors that they may touch: none if each later gate reads closed, and then
+-- the device was only read; else a write and a sync.
 pub record CallsForLater {T E : Type 0} (extent : Extent) (n : ℕ) (old new : Device) (result : Result T E) : Type 0 where
   pub none : ReadsClosedFrom (n + 1) extent old.seen → (new.calls ≡ old.calls) × Looks old new
   pub two : ReadsOpenFrom (n + 1) extent old.seen → OnOk result (new.calls ≡ old.calls + 2)

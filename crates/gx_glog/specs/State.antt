@@ -19,9 +19,9 @@ pub record Log : Type 0 where
   pub used : ℕ
   -- how many of its batches are gated
   pub gated : ℕ
-  -- the device call that the batch in flight waits for, Idle where there is none
+  -- the device call that the batch in flight waits for, Idle if there is none
   pub stage : Stage
-  -- the device call that a turn to the other extent waits for, Closed where none of it was made
+  -- the device call that a turn to the other extent waits for, Closed if none of it was made
   pub turn : Turn
   -- the records of the batch in flight, or while there is none the head: those that a turn puts first into the other extent
   pub flight : List ℕ
@@ -63,8 +63,8 @@ turning turn.GateSync = 1
 turning turn.Selector = 1
 turning turn.Done = 1
 
--- Places are taken by gated batches and the one in flight; a batch or a head on its way has records and fits its body; a
--- turn and a batch aren't on their way together; where each place is taken, nothing waits for one. No tail begins within
+-- Places are taken by gated batches and the one in flight; a batch or a head on its way has records and fits its body;
+-- a turn and a batch aren't on their way together; if each place is taken, nothing waits for one. No tail begins within
 -- the records of a batch or a head on its way.
 pub record IsSound (log : Log) : Type 0 where
   pub places : log.used ≡ log.gated + in_flight log.stage
@@ -116,7 +116,8 @@ GoesFrom BodySync old new result = Made old new result
 GoesFrom Gate old new result = Made old new result
 GoesFrom GateSync old new result = Made old new result
 
--- The batch in flight goes on by the call that is due. Where there is none, what fills begins a batch, or nothing is logged and nothing happens.
+-- The batch in flight goes on by the call that is due. If there is none, what fills begins a batch, or nothing is
+-- logged and nothing happens.
 abbrev pub Goes : Log → Log → Result Stage Refusal → Type 0
 Goes old new result = GoesFrom old.stage old new result
 

@@ -165,7 +165,7 @@ impl Glog {
 
     /// Makes the next device call of the batch in flight, or of a new one with all that fills: body, sync, gate, sync.
     /// Of the body it writes as many sectors as its records take, or as may be other than zero there, if these are
-    /// more; so the place reads as the whole body. Returns which call it was, and Idle where nothing is logged and none
+    /// more; so the place reads as the whole body. Returns which call it was, and Idle if nothing is logged and none
     /// was made. Refused if the device call fails (`Device`); it is then still due.
     pub fn log_step<D: SectorDisk>(&mut self, disk: &mut D) -> Result<Stage, Refusal>
         requires { PAGES_AT ≤ (D.state disk.old).sectors }

@@ -171,7 +171,7 @@ impl Glog {
         ensures keeps { (D.state disk.old).honest ≡ true
             → On self.old (D.state disk.old).seen (D.state disk.old).pending
             → KeepsTurning self.old self.new (D.state disk.old) (D.state disk.new) result }
-        // The same where later gates of the old extent may be open.
+        // The same if later gates of the old extent may be open.
         ensures may_turn { (D.state disk.old).honest ≡ true
             → MayTurn self.old (D.state disk.old).seen (D.state disk.old).pending
             → KeepsMayTurn self.old self.new (D.state disk.old) (D.state disk.new) result }

@@ -119,7 +119,7 @@ Answers passes d old new page (Err NoCleanFrame) = NoFrame old new page
 Answers passes d old new page (Err DeviceFault) = Unread old new page
 Answers passes d old new page (Err Damaged) = Refuted passes d old new page
 
--- One page was brought. None goes for it where it was kept, and at most one where it wasn't.
+-- One page was brought. None goes for it if it was kept, and at most one if it wasn't.
 pub record BringsOne {A : Type 0} (passes : Contents → Bool) (d e : Device) (old new : State) (page : ℕ) (result : Result A PoolFault) : Type 0 where
   pub brings : Brings passes d.honest d.seen old new
   pub alone : ComesAlone old new page

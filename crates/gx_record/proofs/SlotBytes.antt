@@ -40,7 +40,7 @@ slots_back (high ∷ low ∷ bytes) are =
     ap (λ (l : List ℕ). l ++ slots_bytes (slots_in bytes)) one ∙ ap (λ (l : List ℕ). high ∷ low ∷ l) others
     ∙ ap (λ (n : ℕ). take n (high ∷ low ∷ bytes)) size
 
--- all of the bytes, where none is left over
+-- all of the bytes, if none is left over
 pub slots_back_whole : (count : ℕ) (bytes : List ℕ) → AreBytes bytes → length bytes ≡ SLOT_NUMBER * count → slots_bytes (slots_in bytes) ≡ bytes
 slots_back_whole count bytes are long =
     let size = length-whole count bytes long in

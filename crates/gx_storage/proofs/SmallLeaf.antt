@@ -46,7 +46,7 @@ by_level : {B : Type 0} (f : Format B) (c : Contents) (leaf : Bool) → (if leaf
 by_level f c true = refl
 by_level f c false = refl
 
--- a page's node has its level, and is a leaf's where that is 0
+-- a page's node has its level, and is a leaf's if that is 0
 pub node_level : {B : Type 0} (f : Format B) (c : Contents) → (node_of f c).level ≡ c.level
 node_level f c = by_level f c (c.level == 0)
 

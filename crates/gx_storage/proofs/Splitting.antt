@@ -279,7 +279,7 @@ module _ {B D : Type 0} (f : Format B) (state : D → Device) (v : Volume D) (si
   pub begun_pages : u.pages ≡ v.shelf.pages
   begun_pages = ap (λ (x : Shelf D). x.pages) is
 
-  -- where a refusal as damaged is false of what the steps see then, it is false of what they saw before
+  -- if a refusal as damaged is false of what the steps see then, it is false of what they saw before
   pub damaged_since : (r : Rules B) (page parent : ℕ) → IsNeverDamaged r (store_of f (state u.disk).seen u) page parent → IsNeverDamaged r (store_of f (state v.shelf.disk).seen v.shelf) page parent
   damaged_since r page parent never = subst {A = Store B} (λ s. IsNeverDamaged r s page parent) (store_begun f state v size u is) never
 

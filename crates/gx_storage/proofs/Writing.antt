@@ -163,7 +163,7 @@ module _ {D : Type 0} (passes : ℕ → Contents → Bool) (state : D → Device
   pub steady_begun : (u : Shelf D) → u ≡ begun v size → IsSteady (state v.shelf.disk) v.shelf.frames → IsSteady (state u.disk) u.frames
   steady_begun u is steady = subst {A = Shelf D} (λ x. IsSteady (state x.disk) x.frames) (sym is) steady
 
-  -- the event's record has room, where the store says so
+  -- the event's record has room, if the store says so
   pub takes_then : has_room v.log size ≡ t.has_room → t.has_room ≡ true → v.log.turn ≡ Closed → CanTake v.log size
   takes_then same is still = takes_if v.log size (same ∙ is) still
 

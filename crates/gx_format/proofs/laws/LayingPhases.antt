@@ -121,7 +121,7 @@ laid_of parameters root seen size read = record {
 
 -- ---- the magic is written
 
--- the sectors beyond sector 0 have it, so an image has, where they are settled
+-- the sectors beyond sector 0 have it, so an image has, if they are settled
 laid_image : (parameters : Parameters) (root : Contents) (seen : List ℕ) (pending : ℕ → Bool) (image : List ℕ) → ((s : ℕ) → 1 ≤ s → pending s ≡ false) → IsImage seen pending image
     → IsLaid parameters root seen → IsLaid parameters root image
 laid_image parameters root seen pending image settled may laid = record {
