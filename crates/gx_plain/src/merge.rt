@@ -79,7 +79,7 @@ fn merge_down<B: Shape>(more: &[Entry<B>], set: &mut [Entry<B>], count: usize)
     }
 }
 
-/// Puts each of these entries in its place, in one pass where the set has none of them. There is room for them all.
+/// Puts each of these entries in its place, in one pass if the set has none of them. There is room for them all.
 pub fn merge<B: Shape>(more: &[Entry<B>], set: &mut Vec<Entry<B>>)
     requires more { InOrder (keys_of B.Shape) more.now }
     requires in_order { InOrder (keys_of B.Shape) set.old.items }

@@ -36,7 +36,7 @@ module _ {B : Type 0} (k : Keys B) where
   one_more true next = omega arith
   one_more false next = omega arith
 
-  -- asking, where the numbers last
+  -- asking, if the numbers last
   ask_is : (s : ℕ) (call : Call B) (old : Index B) → is_used_up old ≡ false
       → ask_index k s call old ≡ (
         (ask k s call old.machine).0,
