@@ -130,13 +130,13 @@ is_calm Off off turns = absurd (let no : ◌≡◌ {A = Checkpoint} Off Turning 
 is_calm Running off turns = absurd (let no : true ≡ false = off in cc)
 is_calm Turning off turns = absurd (let no : true ≡ false = off in cc)
 
--- where no checkpoint runs the log doesn't turn
+-- if no checkpoint runs the log doesn't turn
 pub is_still : {D : Type 0} (x : Checkpoint) (v : Volume D) → StandsIn x v → runs x ≡ false → v.log.turn ≡ Closed
 is_still Off v stands off = stands
 is_still Running v stands off = stands
 is_still Turning v stands off = absurd (let no : true ≡ false = off in cc)
 
--- where a page may be written the log doesn't turn
+-- if a page may be written the log doesn't turn
 pub writes_still : {D : Type 0} (x : Checkpoint) (v : Volume D) (page : ℕ) → StandsIn x v → is_gated v.shelf.frames.gated (stamp_of (kept v.shelf.frames page)) ≡ true
     → (x ≢ Turning) × (v.log.turn ≡ Closed)
 writes_still Off v page stands gated = (λ turns. (let no : ◌≡◌ {A = Checkpoint} Off Turning = turns in cc), stands)

@@ -90,7 +90,7 @@ abbrev pub PageIsWritten : {B D : Type 0} → ℕ → Device → Device → Part
 PageIsWritten page d e old new true outcome = IsEnded old new outcome
 PageIsWritten page d e old new false outcome = (result : Result Bool Refusal) × PageGoes page d e old.volume new.volume result × PageComes old new outcome result
 
--- the index's events that it is: the page area is another, where it was written or may have been; a fault
+-- the index's events that it is: the page area is another, if it was written or may have been; a fault
 abbrev pub page_events : {B : Type 0} → Outcome B → List (Happening B)
 page_events More = Works ∷ []
 page_events (Refused DeviceRefusal) = Works ∷ Fails ∷ []

@@ -43,7 +43,7 @@ abbrev pub from_of : Option ℕ → ℕ
 from_of None = 0
 from_of (Some last) = last + 1
 
--- a session's transaction has a number from this one on, and one below that of another session's, where there is one
+-- a session's transaction has a number from this one on, and one below that of another session's, if there is one
 abbrev pub is_less : {B W : Type 0} → State B W → ℕ → Option ℕ → Bool
 is_less sessions t None = true
 is_less sessions t (Some other) = nat_lt t (transaction_of other sessions)

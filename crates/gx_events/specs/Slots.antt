@@ -47,7 +47,7 @@ with_slot s slot slots = slice_set slots (s - 1) slot
 abbrev pub entries_of : {B : Type 0} → List (Note B) → List (Entry B)
 entries_of notes = map (λ n. n.entry) notes
 
--- whether an entry was live before, where it is noted: the first note of it says
+-- whether an entry was live before, if it is noted: the first note of it says
 abbrev pub noted : {B : Type 0} → Keys B → Entry B → List (Note B) → Option Bool
 noted k e [] = None
 noted k e (n ∷ notes) = if same_entry k e n.entry then Some n.was_live else noted k e notes

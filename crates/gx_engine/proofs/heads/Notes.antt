@@ -347,7 +347,7 @@ numbers_came r one ys size x v u w short goes has (Err fault) more = λ closed.
     let both = length-append v.log.flight (spelling x) in
     omega (arith, long, now, both, short)
 
--- the numbers and the notes come, where these are the sessions' numbers and the pages'
+-- the numbers and the notes come, if these are the sessions' numbers and the pages'
 module _ {B D W P : Type 0} (r : Reading (Entry B) P) (sessions : State B W) (v u w : Volume D) (n counter used next : ℕ) (latest : n ≡ sessions.latest) (its_counter : counter ≡ v.shelf.counter)
     (its_used : used ≡ v.shelf.used) (its_next : next ≡ sessions.next) where
   abbrev x : Rec
