@@ -25,7 +25,7 @@ pub page_slice : (bytes : List ℕ) (n at first page : ℕ) → n ≡ PAGE_SIZE 
 unfolding span_of
 page_slice bytes n at first page size place is = rw (size, place, is) refl
 
--- each call of two lists passes a test where each of both does
+-- each call of two lists passes a test if each of both does
 pub all_joined : (test : Call → Bool) (xs ys : List Call) → all_are test xs ≡ true → all_are test ys ≡ true → all_are test (xs ++ ys) ≡ true
 all_joined test [] ys first then = then
 all_joined test (x ∷ xs) ys first then = and_both (test x) (all_are test xs) (all_are test (xs ++ ys)) first (λ rest. all_joined test xs ys rest then)

@@ -156,7 +156,7 @@ module _ {B : Type 0} (shape : Members B) (is_key : B → Bool) (said : List ℕ
     pub formatted : IsFormatted shape is_key said f class d parameters
     pub unsound : IsSoundIndex parameters d.seen → ⊥
 
-  -- so it is left where it was refused as damaged
+  -- so it is left if it was refused as damaged
   abbrev pub LeavesDamaged : (class : ℕ) → disk.Device → Refusal → Type 0
   LeavesDamaged class d why = why ≡ refusal.Damaged → HoldsDamaged class d
 

@@ -76,7 +76,7 @@ module _ {E P : Type 0} (k : Known E P) (r : Reading E P) where
         log = subst (λ (s : List ℕ). LogLaid k r s c result) looks.rests.seen laid.log;
       }
 
-  -- reading alone, where it is refused
+  -- reading alone, if it is refused
   pub read_refused : (a b : Device) (why : Refusal) → IsSettled a → Looks a b → LogRead {E = E} {P = P} k r a.seen (Err why) → LaysLog k r a b (Err why)
   read_refused a b why settled looks read = record {
     leaves = looks_keep a b looks;
