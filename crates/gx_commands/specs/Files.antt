@@ -24,13 +24,13 @@ use Rattle.gx_commands.specs.declared.opener.Access.TheVariants.{Create, Write, 
 use Rattle.gx_commands.specs.declared.devices.Kind.{Kind}
 use Rattle.gx_commands.specs.declared.opener.Opener.{Opener}
 
--- A file that couldn't be opened: the user is told its name and why.
+-- A file that couldn't be opened: its name and the cause are reported to the user.
 pub record HasNoDevice (file : List ℕ) (fault : DiskFault) (from to : Outputs) (status : ℕ) : Type 0 where
   pub status_is : status ≡ 1
   pub told : Prints (refusal_line NoDevice) from.replies to.replies
   pub heard : TellsPerson (named file (fault_text fault)) from.person to.person
 
--- the user is told why the last call of a file that failed did so, if one did
+-- if a call of a file failed, why the last one did is reported to the user
 abbrev pub TellsCause : List ℕ → Option DiskFault → Stream → Stream → Type 0
 TellsCause file None old new = new ≡ old
 TellsCause file (Some fault) old new = TellsPerson (named file (fault_text fault)) old new

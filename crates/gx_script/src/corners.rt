@@ -60,7 +60,7 @@ fn is_short(number: i64) -> bool
     -2147483648 <= number && number <= 2147483647
 }
 
-// the number at this place, where each is in that range
+// the number at this place, if each is in that range
 fn short_at(numbers: &[i64], i: usize) -> i32
     requires there { i < length numbers.now }
     requires short { list_all is_short numbers.now ≡ true }
