@@ -93,7 +93,7 @@ module _ {B : Type 0} (c : Class B) (l : IsLawful c) where
     pub live_by_pair : is_live c t e ≡ not y.marked
     live_by_pair = live_by y.marked refl
 
-  -- where the live pairs of an entry count alike, it is as live
+  -- if the live pairs of an entry count alike, it is as live
   pub live_alike : (old new : Tree B) (e : Entry B) → standing (is_live_of c e) new ≡ standing (is_live_of c e) old → is_live c new e ≡ is_live c old e
   unfolding is_live
   live_alike old new e same = ap (λ n. nat_lt 0 n) same

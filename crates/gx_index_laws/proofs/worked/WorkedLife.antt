@@ -106,7 +106,7 @@ adding_by area used counter a x content low high is bottom room none covers = re
   covered = covers;
 }
 
--- the key is covered where the root names a leaf by a greater one
+-- the key is covered if the root names a leaf by a greater one
 covers_two : (t : Tree ℕ) (key : ℕ) → t.used ≡ 2 → (t.node 1).children ≡ child 9 2 ∷ [] → (t.node 2).children ≡ [] → nat_le key 9 ≡ true
     → EntriesCover numbers.rules t 2 key
 covers_two t key used top bottom low zero u = absurd (let h = u.0 in omega (arith, h))
