@@ -94,7 +94,7 @@ fn cut(disk: &mut Device, alloc: Global, line: &Line<'_>) {
     *disk = whole(inner);
 }
 
-/// A sector's first byte, 0 where it can't be read.
+/// A sector's first byte, 0 if it can't be read.
 pub(crate) fn first_of<D: SectorDisk>(disk: &mut D, sector: u64) -> u8 {
     if sector >= disk.sectors() {
         return 0;

@@ -110,7 +110,7 @@ fn place(number: u64) -> u8 {
     u8::try_from(number).unwrap_or(PLACES)
 }
 
-/// A line about the log as a device has it: of the extent that it names where it asks for a place, else of the selected
+/// A line about the log as a device has it: of the extent that it names if it asks for a place, else of the selected
 /// one.
 pub(crate) fn call<R: Print, D: SectorDisk>(
     rt: &R,

@@ -231,7 +231,7 @@ fn three_pages<R: Print>(
     spell_three(rt, text, [&first, &second, &third])
 }
 
-/// The record of the first commit where there are so many bytes.
+/// The record of the first commit if there are so many bytes.
 fn short<R: Print>(rt: &R, text: &mut [u8], line: &Line<'_>) -> Result<(), RunFault> {
     match text.get_mut(..to_usize(line.numbers[1])) {
         Some(front) => spell(rt, &Record::Commit { tx: 1, n: 1 }, front),

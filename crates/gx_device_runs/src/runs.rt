@@ -199,7 +199,7 @@ fn run_with_faults<D: SectorDisk>(run: &mut Run, disk: &mut D, stream: u64) -> O
 enum End {
     /// No step failed, and all reads as it was last given.
     Passed,
-    /// One step failed, or the end; all reads as it was last given but where the end failed.
+    /// One step failed, or the end; all reads as it was last written, unless the end failed.
     Failed,
     /// Something was lost.
     Lost,

@@ -11,7 +11,7 @@ pub(crate) struct Line<'a> {
     pub(crate) name: &'a str,
     /// Those behind it, empty ones behind the last. The first of them mostly says what is asked for.
     pub(crate) words: [&'a str; WORDS],
-    /// Each of these as a number, 0 where it is none.
+    /// Each of these as a number, 0 if it is none.
     pub(crate) numbers: [u64; WORDS],
 }
 
@@ -44,7 +44,7 @@ impl<'a> Line<'a> {
     }
 }
 
-/// A number as a page's, or as how many of anything; the greatest where it is greater.
+/// A number as a page's, or as how many of anything; the greatest if it is greater.
 pub(crate) fn to_u32(number: u64) -> u32 {
     u32::try_from(number).unwrap_or(u32::MAX)
 }
@@ -54,7 +54,7 @@ pub(crate) fn to_usize(number: u64) -> usize {
     usize::try_from(number).unwrap_or(usize::MAX)
 }
 
-/// A byte of two hexadecimal digits, 0 where the word is none.
+/// A byte of two hexadecimal digits, 0 if the word is none.
 pub(crate) fn byte(word: &str) -> u8 {
     u8::from_str_radix(word, 16).unwrap_or(0)
 }

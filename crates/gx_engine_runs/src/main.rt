@@ -11,8 +11,8 @@
 //! tree with the last set. With three numbers more, `fails` makes such a run of boxes for each of so many calls of the
 //! device, from a first one on by a stride, of which each fails once, made and not: from then on each event is refused.
 //! `stops` does so with a machine that stops at the call, and a crash by which what wasn't synced is old, is new, old
-//! and new in turn, or torn. What stands then is the set of a commit, from the last that was acknowledged to the last
-//! that was sealed.
+//! and new in turn, or torn. What the plain reader then finds is the set of a commit, from the last that was
+//! acknowledged to the last that was sealed.
 //!
 //! An empty line, and one that begins with `#`, is printed unchanged. The program ends at the first difference, with
 //! status 1.

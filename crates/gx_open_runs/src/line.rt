@@ -101,7 +101,7 @@ fn print_numbers<R: Print>(rt: &R, numbers: [u64; 4]) -> Result<(), RunFault> {
     Ok(())
 }
 
-// Prints what is found where a call stops, made and not.
+// Prints what is found when the device stops at a call, made and not.
 fn print_call<R: Print>(
     rt: &R,
     alloc: Global,
@@ -136,7 +136,7 @@ fn calls_of_line(
 }
 
 /// Prints, for each call of the device that a line makes, from 1 on, which it is, and the number that an opening finds
-/// where the device stops there, by what the crash leaves.
+/// if the device stops there, by what the crash leaves.
 pub(crate) fn print_line<R: Print>(
     rt: &R,
     alloc: Global,

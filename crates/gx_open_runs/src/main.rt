@@ -8,7 +8,7 @@
 //! - `stops FRAMES FIRST STRIDE`: the device stops for good at each call, from a first one on by a stride up to a run
 //! that meets no stop; each with the call made and not, and with four crashes: all that wasn't synced is old, is new,
 //! old and new in turn, or torn.
-//! - `again FRAMES CALL DONE LEFT FIRST STRIDE`: the script stops at this call, made where DONE is 1, with this crash
+//! - `again FRAMES CALL DONE LEFT FIRST STRIDE`: the script stops at this call, made if DONE is 1, with this crash
 //! (`old`, `new`, `mixed`, `torn`), and then so does the opening behind it, at each call. The number that is found
 //! stays.
 //! - `fails FRAMES FIRST STRIDE`, `fails_again FRAMES CALL DONE LEFT FIRST STRIDE`: likewise each call fails, once or

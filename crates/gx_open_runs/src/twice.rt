@@ -74,8 +74,8 @@ fn stopped(
     Ok(Found { disk, unsynced })
 }
 
-// Stops the second opening, at each of its writes and syncs and with each crash. Where all was synced the crashes are
-// the same.
+// Stops the second opening, at each of its writes and syncs and with each crash. If all was synced the crashes are the
+// same.
 fn stop_second(
     alloc: Global,
     setting: Setting<'_>,

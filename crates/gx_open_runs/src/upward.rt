@@ -77,7 +77,7 @@ impl Start {
 pub(crate) struct Runs<'a> {
     setting: Setting<'a>,
     start: Start,
-    // how many calls of the device are made where none fails
+    // how many calls of the device are made if none fails
     calls: u64,
     ends: Endings,
 }

@@ -21,7 +21,7 @@ fn node(nodes: &[Node], page: u32) -> Option<&Node> {
 }
 
 /// The chain of leaves from page 2 on, as far as it leads over leaves in use, none of them twice, and the page behind
-/// these; 0 where it ends.
+/// these; 0 if it ends.
 fn chain(alloc: Global, nodes: &[Node]) -> Result<(Vec<u32>, u32), Damage> {
     let mut chain = Vec::new(alloc);
     let mut page = 2;

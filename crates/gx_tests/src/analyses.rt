@@ -189,7 +189,7 @@ fn numbers(analysis: &Analysis<Entry<Box2>>) -> (u64, u64, u32, u64) {
     )
 }
 
-/// The first three touches: transaction, row, mark and leaf; zeros where there are fewer.
+/// The first three touches: transaction, row, mark and leaf; zeros if there are fewer.
 fn touches(analysis: &Analysis<Entry<Box2>>) -> [(u64, u64, bool, u32); 3] {
     let mut kept = [(0, 0, false, 0); 3];
     for (place, t) in kept.iter_mut().zip(analysis.touched()) {

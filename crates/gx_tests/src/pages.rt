@@ -69,7 +69,7 @@ fn try_put(rt: &impl Abort, page: &mut Page, slot: usize, item: &[u8]) -> bool {
     page.insert(slot, item)
 }
 
-/// Puts the item in; fails where the page has no room.
+/// Puts the item in; fails if the page has no room.
 fn put_item(rt: &impl Abort, page: &mut Page, slot: usize, item: &[u8]) {
     holds(rt, try_put(rt, page, slot, item));
 }

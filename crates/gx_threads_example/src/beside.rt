@@ -51,7 +51,7 @@ struct Plan {
 }
 
 /// Commits one insert after another: so many at most, or until nobody is left that has to end. With a pause behind each
-/// where one is wanted. Returns how many.
+/// if one is wanted. Returns how many.
 fn commit<E: Events<Box2>, R: Run<Box2>, W: Wait + Clock>(
     rt: &W,
     shared: &Shared<Box2, E, R>,

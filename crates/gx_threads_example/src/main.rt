@@ -1,9 +1,9 @@
 //! Threads over one index in a file, as a service has them: the index is opened, shared by threads, closed, settled,
 //! and opened again.
 //!
-//! A line of `stdin` has two numbers: how many threads there are, 1 to 8, and how many transactions each makes. Behind
-//! them a file may be named; an index is made in it, and what it held is lost. Without a file the device is one in
-//! memory.
+//! A line of `stdin` has two numbers: how many threads there are, 1 to 8, and how many transactions each makes. After
+//! them a file may be named; the program makes an index in it, and what it held is lost. Without a file the device is
+//! one in memory.
 //!
 //! Behind the word `single` a transaction has one insert, behind `pair` a search and an insert, in place of three
 //! inserts and a search. Behind `told` it has one insert too, and each commit is printed once it is acknowledged, so

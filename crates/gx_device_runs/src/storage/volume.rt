@@ -85,7 +85,7 @@ impl<D: SectorDisk, K: ReadKeys> Volume<D, K> {
         self.storage.sync()
     }
 
-    /// Puts a record into the head of a turn, once nothing is in flight. `TooSmall` where it doesn't go there.
+    /// Puts a record into the head of a turn, once nothing is in flight. `TooSmall` if it doesn't go there.
     pub(crate) fn put_head(&mut self, logged: &Record<'_>) -> Result<(), Refusal>
         requires in_range { IsInRange (rec_of logged.now) }
     {
@@ -98,7 +98,7 @@ impl<D: SectorDisk, K: ReadKeys> Volume<D, K> {
         }
     }
 
-    /// Makes the next call of a turn. `CallOpen` where it may not begin.
+    /// Makes the next call of a turn. `CallOpen` if it may not begin.
     pub(crate) fn turn_step(&mut self) -> Result<Turn, Refusal> {
         if !self.storage.may_turn() {
             return Err(Refusal::CallOpen);
