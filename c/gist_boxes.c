@@ -30,19 +30,19 @@ _Static_assert(offsetof(gist_entry, box) == ROW && offsetof(gist_entry3, box) ==
 _Static_assert(sizeof(hits) == sizeof(gist_hits) && offsetof(hits, count) == offsetof(gist_hits, count), "hits");
 _Static_assert(sizeof(hits) == sizeof(gist_hits3) && offsetof(hits, count) == offsetof(gist_hits3, count), "hits");
 
-/* GIST_OK where this process may use the index, and its boxes are of this shape. */
+/* GIST_OK if this process may use the index, and its boxes are of this shape. */
 static int takes(const gist_index *index, const shape *of) {
     int told = gist_index_usable(index);
     return told == GIST_OK && index->dimensions != of->dimensions ? GIST_BAD_PARAMETER : told;
 }
 
-/* Writes the words with which a line begins, and returns what stands behind them. */
+/* Writes the words with which a line begins, and returns the place after them. */
 static char *print_words(char *line, unsigned session, const char *command) {
     line = gist_write_text(gist_write_number(line, session), " ");
     return gist_write_text(line, command);
 }
 
-/* Writes a box, ends the line, and returns what stands behind it. */
+/* Writes a box, ends the line, and returns the place after it. */
 static char *print_box(char *line, const shape *of, const char *box) {
     int32_t corners[MOST_CORNERS];
     memcpy(corners, box, of->box);

@@ -80,12 +80,12 @@ static size_t announced(const char *line) {
     return gist_index_last_number(line, &found) ? (size_t)found : 0;
 }
 
-/* The next line feed of what was read, or NULL where none has come. */
+/* The next line feed of what was read, or NULL if none has come. */
 static const char *next_feed(const gist_index *index, size_t from) {
     return memchr(index->bytes + from, '\n', index->length - from);
 }
 
-/* Leaves the line that isn't whole yet, where there is no room for more. */
+/* Leaves the line that isn't whole yet, if there is no room for more. */
 static void drop_lines(gist_index *index, size_t begins) {
     index->length = begins > 0 ? index->length - begins : 0;
     memmove(index->bytes, index->bytes + begins, index->length);

@@ -30,7 +30,7 @@ void gist_run_close_input(gist_run *it);
 void gist_run_forget(gist_run *it);
 
 /* Waits for its end, says how it ended, and closes what is left of it. `last` is the last line that it printed. Returns
-   GIST_OK where it ended well, the refusal with which it ended, or GIST_ENDED. */
+   GIST_OK if it ended well, the refusal with which it ended, or GIST_ENDED. */
 int gist_run_finish(gist_run *it, const char *last, gist_end *end);
 
 /* The status for what a line says behind `refused `, or GIST_PROTOCOL. */
@@ -39,11 +39,11 @@ int gist_run_refusal(const char *words);
 /* Refuses a call whose arguments make no sense: GIST_SYSTEM, with EINVAL. */
 int gist_run_invalid(void);
 
-/* As many frames as the index in a file has pages, 16 to 4096; 64 where the file can't be read. */
+/* As many frames as the index in a file has pages, 16 to 4096; 64 if the file can't be read. */
 unsigned gist_run_frames(const char *path);
 
-/* Of which boxes the index in a file is: GIST_OK where `*dimensions` is 2 or 3, GIST_SYSTEM where the file can't be
-   read, and GIST_PROTOCOL where it is of other keys. */
+/* Of which boxes the index in a file is: GIST_OK if `*dimensions` is 2 or 3, GIST_SYSTEM if the file can't be
+   read, and GIST_PROTOCOL if it is of other keys. */
 int gist_run_dimensions(const char *path, unsigned *dimensions);
 
 #endif

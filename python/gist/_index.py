@@ -67,7 +67,7 @@ class Index:
 
     @property
     def dimensions(self) -> int:
-        """2 where its boxes are four numbers, as Box; 3 where they are six,
+        """2 if its boxes are four numbers, as Box; 3 if they are six,
         as Box3."""
         return self._kind.dimensions
 
@@ -86,7 +86,7 @@ class Index:
     def search(self, box: Sequence[int]) -> Hits:
         """Finds the entries whose box shares a point with this one.
 
-        It is a transaction of its own. Where another one is in the way, this
+        It is a transaction of its own. If another one is in the way, this
         tries again for five seconds, and then raises Busy.
         """
         return self.retry(lambda t: t.overlap(box), reading=True, tries=None,

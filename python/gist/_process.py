@@ -41,7 +41,7 @@ def lines_of(words: List[str]) -> Iterator[str]:
             except GeneratorExit:
                 process.terminate()
                 raise
-            # (where SIGCHLD is ignored the status is lost, and is 0 here)
+            # (if SIGCHLD is ignored the status is lost, and is 0 here)
             if process.wait() != 0 or last.startswith(b"refused "):
                 raise fault_of(process.returncode, last, sentence_of(faults))
 
@@ -51,7 +51,7 @@ def start(words: List[str], stdin: int, faults: BinaryIO,
     """Starts the program; its standard error goes to the file of faults.
 
     It is in a session of its own, so that a Ctrl-C meant for this process
-    doesn't end it in the middle of a transaction. Where it is the launcher of
+    doesn't end it in the middle of a transaction. If it is the launcher of
     a repository in which nothing is built, it says so and builds nothing.
     """
     return subprocess.Popen(words, stdin=stdin, stdout=subprocess.PIPE,

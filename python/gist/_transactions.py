@@ -150,8 +150,8 @@ class Transaction(Reader):
     """A transaction: its changes are kept as a whole, or not at all.
 
     `Index.transaction` begins one. At the end of a with block it is
-    committed, or given up where an exception leaves the block. A call that
-    is refused raises the refusal and changes nothing; where that is caught,
+    committed, or given up if an exception leaves the block. A call that
+    is refused raises the refusal and changes nothing; if that is caught,
     the transaction goes on. It is used by one thread at a time.
     """
 
@@ -187,7 +187,7 @@ class Transaction(Reader):
         """Ends the transaction, keeps its changes and returns its number.
 
         When this returns, they are in the file and outlive a crash; when it
-        raises Device or Ended, they are kept whole or not at all. Where an
+        raises Device or Ended, they are kept whole or not at all. If an
         exception of another kind broke it off, as KeyboardInterrupt, call it
         again: it commits what wasn't committed, and returns the number.
         """

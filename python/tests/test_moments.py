@@ -314,7 +314,7 @@ class Forks(Case):
 
     @staticmethod
     def status_of_a_child(index: gist.Index) -> int:
-        """What a child ends with: 0 where each call raises Ended at once."""
+        """What a child ends with: 0 if each call raises Ended at once."""
         child = os.fork()
         if child == 0:
             signal.alarm(3)

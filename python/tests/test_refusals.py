@@ -1,4 +1,4 @@
-"""Each refusal, by the program where a script can meet it."""
+"""Each refusal, by the program if a script can meet it."""
 
 import os
 import pickle
