@@ -1,7 +1,7 @@
 #!/usr/bin/env python3
 """Looks at README and docs/: each page's words, names in backquotes, links, dates, and how many lines a file has.
 
-Prints nothing where all is well.
+Prints nothing if all is well.
 """
 import pathlib
 import re

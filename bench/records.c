@@ -86,7 +86,7 @@ static size_t size_of(const Record *record) {
     }
 }
 
-// Writes a record of any kind at the front. The bytes that it has, or 0 where there is no room.
+// Writes a record of any kind at the front. The bytes that it has, or 0 if there is no room.
 __attribute__((noinline)) static size_t c_written(const Record *record, uint8_t *out, size_t room) {
     size_t size = size_of(record);
     if (room < size)

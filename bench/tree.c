@@ -356,7 +356,7 @@ static uint32_t slot_of(uint8_t *page, uint32_t child) {
     return slot;
 }
 
-// The sibling gets the sequence number and the rightlink that the node had. Nothing is done where the parent has no place.
+// The sibling gets the sequence number and the rightlink that the node had. Nothing is done if the parent has no place.
 static void split_below(uint32_t number, uint32_t parent) {
     bool sides[MOST];
     Box covers[2];

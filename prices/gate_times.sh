@@ -5,7 +5,7 @@
 # that are tried in this run. The last line has
 # the whole gate's processor seconds, its time by the clock, and its own last line. `gate_table.sh` makes a table of it. The
 # argument, if there is one, is the revision; RT_JOBS says how many crates are proved side by side (as many as there are
-# processors). Run it alone on the machine. The gate's own output goes to the file GATE_OUTPUT, if one is named. Where GATE_CRATES names
+# processors). Run it alone on the machine. The gate's own output goes to the file GATE_OUTPUT, if one is named. If GATE_CRATES names
 # crates, these and those below them are gated alone.
 set -euo pipefail
 top="$(cd "$(dirname "${BASH_SOURCE[0]}")/.." && pwd)"

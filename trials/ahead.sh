@@ -1,6 +1,6 @@
 #!/usr/bin/env bash
 # Looks at the early syncs of threads over one file, of which no contract speaks: most syncs are early, and the device
-# makes none of these again; and where an early one fails once, and the next would succeed, every waiting commit is
+# makes none of these again; and if an early one fails once, and the next would succeed, every waiting commit is
 # answered `device` or `failed`, no sync is begun any more, and the file opens with all commits that were acknowledged.
 # Takes the paths of `gx_threads_example` and of the program, or proves and builds those of this checkout. The last line
 # counts.

@@ -14,8 +14,8 @@
 #
 #   trials/kill.sh [KILLS [SEED [KILLS-OF-THREADS [KILLS-OF-MIGRATIONS]]]]
 #
-# PROGRAM and THREADS, where they are set, are the paths of the program and of gx_threads_example; else those of this checkout are proved and
-# built. KILLS is 200, SEED 1, KILLS-OF-THREADS 40 and KILLS-OF-MIGRATIONS 100 where they aren't given. The last line counts the kills.
+# PROGRAM and THREADS, if they are set, are the paths of the program and of gx_threads_example; else those of this checkout are proved and
+# built. KILLS is 200, SEED 1, KILLS-OF-THREADS 40 and KILLS-OF-MIGRATIONS 100 if they aren't given. The last line counts the kills.
 set -euo pipefail
 top="$(cd "$(dirname "${BASH_SOURCE[0]}")/.." && pwd)"
 if [ -n "${PROGRAM-}" ]; then

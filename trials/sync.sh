@@ -47,7 +47,7 @@ is_settled() {
 ends_refused() { awk 'gone && !/^reply$/ { bad = 1 } /^refused$/ { gone = 1 } END { exit !(gone && !bad) }' calls; }
 
 # Whether the last run was answered as the ample one, whose replies are in `ample`, up to some call, that one by 11
-# and the rest by 12; or by 11 alone as it opened; or amply, where what failed was the last sync of all.
+# and the rest by 12; or by 11 alone as it opened; or amply, if what failed was the last sync of all.
 is_told() {
     awk 'NR == FNR { ample[FNR] = $0; next }
         FNR == 1 && $0 == "refused 11 device" { early = 1; next }
