@@ -80,8 +80,8 @@ pub fn busy_names_the_least_conflict<B>()
         → (ask k s call m).0 ≡ asked.Open → NoneConflicts k s call m.sessions }
 {}
 
-/// Where the keys have an order, each kept set is in order after any run that begins so. A machine with nothing
-/// committed begins so.
+/// If the keys have an order, each kept set is in order after any run that begins so. A machine with nothing committed
+/// begins so.
 pub fn kept_sets_stay_in_order<B>()
     ensures run { (k : Keys B) → IsLawful k → (old new : Machine B) (steps : List (Step B))
         → KeptInOrder k old → IsRun k old steps new → KeptInOrder k new }

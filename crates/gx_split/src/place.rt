@@ -61,7 +61,7 @@ fn refresh_all<M: Measure>(second: bool, covers: &Covers<M>, waiting: &mut [Wait
     }
 }
 
-/// A key goes to a group, and the others' growths are those beside its new cover: as they were, if it covered the key.
+/// A key goes to a group, and the others' growths are those beside its new cover: unchanged, if it covered the key.
 fn assign_key<M: Measure>(
     second: bool,
     key: &M,
