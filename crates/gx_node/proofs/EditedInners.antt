@@ -16,7 +16,7 @@ use Rattle.gx_node.proofs.Parts.{IsLawful}
 use Rattle.gx_node.proofs.Children.{child_again}
 use Rattle.gx_node.proofs.Edited.{map-staying, staying_pass, append_pass, set_pass, get_pass}
 
--- the new page is an inner node with these children, and all else as it was
+-- the new page is an inner node with these children, and all else is unchanged
 pub record IsEdited {B : Type 0} (f : Format B) (used : ℕ) (page new : Contents) (children : List (Child B)) : Type 0 where
   pub inner : is_inner f used new ≡ true
   pub node : inner_of f new ≡ with_children (inner_of f page) children

@@ -1,5 +1,5 @@
-//! Trees that agree on the pages in use are alike, whatever their other pages are. A tree is a function of all numbers;
-//! who keeps its pages may show those in use alone.
+//! Trees that agree on the pages in use are alike, whatever their other pages are. A tree has a node for every number;
+//! a store may show only the pages in use.
 ghost use Rattle.std.specs.Prelude.{◌≡◌, ℕ, Bool, List};
 ghost use Rattle.gx_node.specs.Trees.{Pair, Tree, Rules, IsLawful, Used, standing};
 ghost use Rattle.gx_node.specs.Legal.{Legal};

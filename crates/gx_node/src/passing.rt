@@ -6,7 +6,8 @@ use std::marker::Model;
 /// How many slots are scanned before their hits are looked at.
 pub const BLOCK: usize = 64;
 
-/// Slots of a block, in order. They are gathered without a jump on what passes: if many do, none can be foretold.
+/// Slots of a block, in order. They are gathered without a branch on what passes: if many pass, no branch is predicted
+/// well.
 #[derive(Drop)]
 pub struct Passing {
     slots: [u16; BLOCK],

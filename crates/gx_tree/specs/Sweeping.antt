@@ -14,7 +14,7 @@ pub record Planned : Type 0 where
   pub page : ℕ
   pub sides : List Bool
 
--- the slots of what goes, rising, if the first side is that of this slot
+-- the slots of what goes, rising, where the first side is that of this slot
 unfoldable pub slots_from : ℕ → List Bool → List ℕ
 slots_from n [] = []
 slots_from n (true ∷ sides) = n ∷ slots_from (suc n) sides
