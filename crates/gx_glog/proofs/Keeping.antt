@@ -324,7 +324,7 @@ append_may_turn log bytes seen pending still place fits may = record {
   tails = may.tails;
 }
 
--- what an append keeps, whatever it answers
+-- what an append keeps, whatever it returns
 pub append_keeps_on : (bytes : List ℕ) (old new : Log) (answer : Appended) (seen : List ℕ) (pending : ℕ → Bool) → old.used < PLACES → Appends bytes old new answer → On old seen pending → On new seen pending
 append_keeps_on bytes old new (At place) seen pending room appends on =
     let P : Log → Type 0 = λ l. On l seen pending in

@@ -72,7 +72,7 @@ selector_read extent bytes before now selector size written =
     let here : take 512 (drop (512 * 2) now.seen) ≡ bytes = ap (λ n. take n (drop (512 * 2) now.seen)) (sym selector.whole) ∙ reads in
     selects_by extent (take 512 (drop (512 * 2) now.seen)) (ap (λ (sector : List ℕ). get_or sector 0 0) here ∙ selector.selects)
 
--- What a call of a turn leaves as it was, even if it fails: the extent that it leads from, and what is known of the
+-- What a call of a turn leaves unchanged, even if it fails: the extent that it leads from, and what is known of the
 -- other.
 record Stays (t : Turn) (extent : Extent) (head : List ℕ) (before now : Device) : Type 0 where
   pub size : length now.seen ≡ length before.seen

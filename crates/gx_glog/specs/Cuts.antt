@@ -78,7 +78,7 @@ pub record KeepsBodies (old new : Log) (before now : disk.Device) (result : Resu
   pub gated : GatesBodies (gated_bodies old before.seen) old.flight (gated_bodies new now.seen) result
   pub moments : Leaves (ShowsBodies old.stage (gated_bodies old before.seen) old.flight) before now
 
--- the same of a step of a turn, if an image may have the head's body alone from the selector's write on
+-- the same of a step of a turn: there an image may have the head's body alone from the selector's write on
 pub record KeepsBodiesTurning (old new : Log) (before now : disk.Device) (result : Result Turn Refusal) : Type 0 where
   pub gated : SelectsBodies (gated_bodies old before.seen) old.flight (gated_bodies new now.seen) result
   pub moments : Leaves (ShowsBodiesIn old.turn old.stage (gated_bodies old before.seen) old.flight) before now

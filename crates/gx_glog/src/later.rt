@@ -54,7 +54,7 @@ fn close_from<D: SectorDisk>(disk: &mut D, extent: Extent, from: u8) -> Result<(
 /// it count. Refused with `Device` if a call fails, and only then.
 ///
 /// On an honest device, with everything durable and this extent selected, each image at each moment has the same log
-/// and the same pages, also if a call fails. At Ok a log that starts there is on the device.
+/// and the same pages, even if a call fails. At Ok a log that starts there is on the device.
 pub fn close_later<D: SectorDisk>(disk: &mut D, extent: Extent, bodies: u8) -> Result<(), Refusal>
     requires bodies { bodies ≤ PLACES }
     requires device { PAGES_AT ≤ (D.state disk.old).sectors }

@@ -13,7 +13,7 @@ abbrev pub ◌>>=◌ : {A B : Type 0} → Option A → (A → Option B) → Opti
 None >>= f = None
 (Some x) >>= f = f x
 
--- what a function answered, seen by view, is what reading gives
+-- what a function returned, seen by view, is what reading gives
 abbrev pub Reads : {X Y : Type 0} → (X → Y) → Option X → Option Y → Type 0
 Reads view None read = read ≡ None
 Reads view (Some x) read = read ≡ Some (view x)

@@ -1,4 +1,4 @@
-//! Reading a record from the front of bytes, field by field. Each function answers what it read and the bytes after it.
+//! Reading a record from the front of bytes, field by field. Each function returns what it read and the bytes after it.
 ghost use Rattle.std.specs.Prelude.{◌≡◌, ◌≤◌};
 ghost use Rattle.gx_record.specs.Reading.{Reads, bytes_at, number_8_at, number_4_at, number_2_at, mark_at, page_at};
 ghost use Rattle.gx_record.specs.Reading.{is_image_of, image_at, numbered_at, rising_at, images_at, pages_at};

@@ -1,4 +1,4 @@
-//! Writing a record's spelling, field by field. Each function that writes answers the place behind what it wrote.
+//! Writing a record's spelling, field by field. Each function that writes returns the place after what it wrote.
 ghost use Rattle.std.specs.Prelude.{◌≡◌, ◌+◌, ◌≤◌, ◌++◌, ◌∷◌, ◌*◌, [], length};
 ghost use Rattle.std.specs.List.{AllByRecursion};
 ghost use Rattle.gx_record.specs.Bytes.{u64_bytes, u32_bytes, u16_bytes, mark_byte};

@@ -101,7 +101,7 @@ module _ {B D : Type 0} (k : Known (Entry B) (Page B)) (r : Reading (Entry B) (P
       let some : IsSome (stamp_of (kept v.shelf.frames p)) = rw was refl in
       ap (λ (o : Option Kept). bytes_by o (bytes_of e.seen p)) (same.dirty some)
 
-  -- and is stored as it was
+  -- and is stored unchanged
   pub now_stored : (p : ℕ) → IsAsItWas d e v.shelf.frames t.frames p → stored r k.pages t.frames e.seen p ≡ stored r k.pages v.shelf.frames d.seen p
   now_stored p same =
       stored_same r k.pages v.shelf.frames t.frames e.seen p (bytes_still p (stamp_of (kept v.shelf.frames p)) refl same)

@@ -110,6 +110,6 @@ module _ {B D : Type 0} (k : Known (Entry B) (Page B)) (said : List ℕ → B) (
       node_there (standing_node f v.shelf.frames d.seen) v.shelf.used page low high
       ∙ ap (node_of f) (stands_shown v.shelf.frames d.seen page keeps.steady.backed ∙ sym (bytes_shown said f (kept v.shelf.frames page) (bytes_of d.seen page) (keeps.formed page)))
 
--- a page that is held is shown as it is kept
+-- what is shown of a page that is held is what its frame keeps
 pub node_held : {B D : Type 0} (f : Format B) (seen : List ℕ) (t : Shelf D) (page : ℕ) (j : Kept) → IsHeld t page → kept t.frames page ≡ Some j → (tree_of (store_of f seen t)).node page ≡ node_of f j.page
 node_held f seen t page j held is = node_there (standing_node f t.frames seen) t.used page held.from held.to ∙ ap (node_of f) (stands_kept t.frames seen page j held.stays is)

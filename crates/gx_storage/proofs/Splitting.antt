@@ -106,7 +106,7 @@ module _ (P : ℕ → Type 0) where
 -- ---- some pages with their record
 
 module _ {D : Type 0} (passes : ℕ → Contents → Bool) (state : D → Device) (v : Volume D) (size : ℕ) (t : Shelf D) where
-  -- a store has gone on since its event began, with each page as it was but these
+  -- a store has gone on since its event began, with each page unchanged but these
   pub record SteppedBut (pages : List ℕ) : Type 0 where
     pub goes_on : GoesOn passes (state v.shelf.disk) (state t.disk) (begun v size) t
     pub others : (q : ℕ) → is_among q pages ≡ false → IsAsItWas (state v.shelf.disk) (state t.disk) v.shelf.frames t.frames q

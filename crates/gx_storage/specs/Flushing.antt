@@ -119,7 +119,7 @@ module _ {B : Type 0} (k : Known (Entry B) (Page B)) (r : Reading (Entry B) (Pag
   StepsLog d e v w result = (bodies : List (List (Record (Entry B) (Page B)))) (s : Logged (Entry B) (Page B)) → IsLawful k → Keeps k r f passes d v bodies s
       → Becomes d e w (bodies_stepped result bodies (with_batch v.log.stage v.log.filling s)) s (stepped result (with_batch v.log.stage v.log.filling s))
 
-  -- The records are the same, over the page area that is read now, which is as it was on each page that no gated record
+  -- The records are the same, over the page area that is read now, which is unchanged on each page that no gated record
   -- gives.
   pub record Rewrites {D : Type 0} (d e : Device) (w : Volume D) (bodies : List (List (Record (Entry B) (Page B)))) (s : Logged (Entry B) (Page B)) : Type 0 where
     pub keeps : Keeps k r f passes e w bodies (rewritten r k.pages e.seen s)
