@@ -122,7 +122,7 @@ may_commit (phase.Open call work) = 1
 may_commit (phase.Undoing restored work) = 0
 may_commit (phase.Waiting number) = 0
 
--- a session that waits for its commit, waits for one that is sealed
+-- a session waits for no commit that isn't sealed
 abbrev pub WaitsForSealed : {B W : Type 0} → ℕ → Phase B W → Type 0
 WaitsForSealed latest p = (number : ℕ) → p ≡ phase.Waiting number → number ≤ latest
 
