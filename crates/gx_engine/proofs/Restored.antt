@@ -39,7 +39,7 @@ module _ {B : Type 0} (k : Keys B) where
   has_last e x [] = refl
   has_last e x (y ∷ ys) = ap (λ b. same_entry k e y || b) (has_last e x ys) ∙ or_swap (same_entry k e y) (same_entry k e x) (has k e ys)
 
-  -- if the notes are written again they are restored as they were
+  -- a note that gets another leaf counts as restored if it did before
   pub moved_done : (notes : List (Note B)) (place restored : ℕ) (n : Note B) (leaf : ℕ) (done : List (Entry B)) → slice_get notes place ≡ Some n
       → AreDone k notes restored done → AreDone k (moved place n leaf notes) restored done
   moved_done notes place restored n leaf done at are e =

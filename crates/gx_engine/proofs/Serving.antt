@@ -84,7 +84,7 @@ pub slot_is : {B : Type 0} (k : Keys B) (old : State B (Work B)) (i : index.Stat
     → slot_at s i.slots ≡ slot_of (phase_at (s - 1) old.phases) (held_at (s - 1) old.table)
 slot_is {B} k old i kept of s is = ap (λ (xs : List (Slot B)). slot_at s xs) of.slots ∙ slot_here s old.phases old.table is (kept.phases ∙ sym kept.table)
 
--- A device is as large as it was, and what was settled on it is.
+-- A device has as many sectors as before, and what was settled on it is.
 pub record StaysSettled (d e : Device) : Type 0 where
   pub sectors : e.sectors ≡ d.sectors
   pub settled : (s : ℕ) → d.pending s ≡ false → e.pending s ≡ false

@@ -29,7 +29,7 @@ noted BodySync e = e
 noted Gate e = e
 noted GateSync e = record e { sessions = synced_state e.in_flight e.sessions }
 
--- and what it answers
+-- and what it returns
 abbrev pub log_outcome : {B : Type 0} → Stage → Outcome B
 log_outcome Idle = Nothing
 log_outcome Body = More

@@ -1,4 +1,4 @@
--- The head of the renewed log, as it is put in memory: the numbers, and the sessions' notes in the order of their
+-- The head of the renewed log, as it is written in memory: the numbers, and the sessions' notes in the order of their
 -- transactions.
 use Rattle.std.specs.Prelude.{ℕ, ◌≡◌, ◌⊎◌, ◌+◌, ◌-◌, ◌*◌, ◌<◌, ◌≤◌, nat_le, nat_lt, Bool, true, ◌&&◌, Option, None, Some, Result, Ok, Err, List, ◌∷◌, ◌++◌, length}
 use Rattle.gx_machine.specs.declared.entry.Entry.{Entry}
@@ -60,7 +60,7 @@ IsNextOf sessions from upto (Some s) =
     × ((a : ℕ) → is_session a ≡ true → a ≤ upto → has_transaction (phase_at (a - 1) sessions.phases) ≡ true
     → (transaction_of a sessions < from) ⊎ (transaction_of s sessions ≤ transaction_of a sessions))
 
--- Where sessions have noted what a log's transactions have touched: a note of each touch comes, by transaction and entry.
+-- If sessions have noted what a log's transactions have touched: a note of each touch comes, by transaction and entry.
 abbrev pub PutsTouches : {B D W : Type 0} {P : Type 0} → Reading (Entry B) P → State B W → Volume D → Volume D → Result (Unit {0}) StoreFault → Type 0
 PutsTouches {B} r sessions v w result = (xs : List (Touch (Entry B))) → AreNoted sessions xs → PutsAll r (notes_of xs) (note_record * length xs) v w result
 

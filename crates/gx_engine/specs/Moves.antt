@@ -51,7 +51,7 @@ module _ {B : Type 0} (c : Class B) (r : Reading (Entry B) (Page B)) (f : Format
   Moves d e s old new outcome events = (bodies : List (List (Record (Entry B) (Page B)))) (i : index.State B) → Holds c r f passes d old bodies i
       → Moved d e s old new outcome i events
 
-  -- the same, if it depends on that index which events these were
+  -- the same, of events of a kind that depends on that index
   abbrev pub MovesSo : {D : Type 0} → Device → Device → ℕ → Parts B D → Parts B D → Outcome B → (List (Happening B) → Type 0) → Type 0
   MovesSo d e s old new outcome AreSo = (bodies : List (List (Record (Entry B) (Page B)))) (i : index.State B) → Holds c r f passes d old bodies i
       → (events : List (Happening B)) × AreSo events × Moved d e s old new outcome i events

@@ -35,7 +35,7 @@ notes_kept (Working locks notes call) = notes
 notes_kept (Undoing locks notes) = notes
 notes_kept (Waiting number) = []
 
--- a slot by its session's number; there is nothing to say of one that isn't there
+-- a slot by its session's number; `Free` for a number that no session has
 abbrev pub slot_at : {B : Type 0} → ℕ → List (Slot B) → Slot B
 slot_at s slots = if is_session s then slice_index_or slots (s - 1) Free else Free
 

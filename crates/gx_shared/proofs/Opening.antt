@@ -433,7 +433,7 @@ module _ {B : Type 0} (k : Keys B) where
   handed_same reply.Aborted handed h none = h
   handed_same (reply.Refused why) handed h none = h
 
-  -- a reply as it is returned ends the call as the reply does
+  -- the reply that is returned ends the call as the engine's reply does
   pub handed_ends : (s : ℕ) (r handed : Reply B) (m n : Machine B) → IsHanded r handed → Ends k s r m n → Ends k s handed m n × (is_fault handed ≡ is_fault r)
   handed_ends s (reply.Found entries) handed m n h e = elim h [
     | inl p ↦ (subst (λ (x : Reply B). Ends k s x m n) (sym p) e, ap (λ (x : Reply B). is_fault x) p)
