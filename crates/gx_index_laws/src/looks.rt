@@ -42,8 +42,8 @@ pub fn work_turns<B>()
 {}
 
 /// What a look turns into, so that `work_turns` may take it. If an insert's look has ended with nothing found, it is a
-/// descent from the root; no pair of the entry is in the tree then, and none comes while the descent is at work. Where
-/// a leaf has a wanted pair, it is a seek of that pair; and a seek whose pair isn't in its leaf goes to the right.
+/// descent from the root; no pair of the entry is in the tree then, and none comes while the descent is at work. If a
+/// leaf has a wanted pair, it is a seek of that pair; and a seek whose pair isn't in its leaf goes to the right.
 pub fn a_look_turns_into_a_descent_or_a_seek<B>()
     ensures descends { (c : Class B) → IsLawful c → (old : State B) → IsWhole c old → (s : ℕ) (e : Entry B)
         → old.work s ≡ Looks [] [] → open_call (slot_at s old.slots) ≡ Some (Insert e)
