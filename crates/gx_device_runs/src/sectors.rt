@@ -5,7 +5,7 @@ use gx_disk::{DiskFault, SectorDisk};
 use gx_glog::PLACES;
 use std::io::ErrorKind;
 
-/// What a call answers, as a word.
+/// What a call returns, as a word.
 pub(crate) fn word_of(answer: Result<(), DiskFault>) -> &'static str {
     match answer {
         Ok(()) => "done",

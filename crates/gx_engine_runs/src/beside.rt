@@ -128,7 +128,7 @@ impl<K: Drawn> Beside<K> {
         }
     }
 
-    // A call that was answered as it was asked.
+    // A call that was answered at once.
     fn answered_at_once(
         &mut self,
         session: u8,

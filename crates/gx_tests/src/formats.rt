@@ -66,7 +66,7 @@ pub(crate) fn formatted<R: Abort + AllocGlobal>(
     disk
 }
 
-/// What a format for nine pages answers over an index of eight that stops before a call, or behind it if it is done,
+/// What a format for nine pages returns over an index of eight that stops before a call, or behind it if it is done,
 /// and what a crash leaves then.
 fn stopped<R: Abort + AllocGlobal>(
     rt: &R,

@@ -18,10 +18,10 @@ use gx_storage::Storage;
 use gx_store::StoreFault;
 use gx_tree::{Descended, RootSplit, Sought, Split, SplitFault, StepFault, TraversalItem};
 
-/// Why a call of the pages answers nothing.
+/// Why a call of the pages was refused.
 pub(crate) type Fault = StepFault<StoreFault>;
 
-/// Why a split answers nothing.
+/// Why a split was refused.
 pub(crate) type NoSplit = SplitFault<StoreFault>;
 
 /// Pages with their log.
