@@ -78,7 +78,7 @@ enum gist_status {
     GIST_ENDED = 32,    /* the program has ended, and with it all that was open; what was answered as committed stays */
     GIST_PROTOCOL = 33, /* the program answered what no gist of this kind answers; it was ended */
     GIST_SYSTEM = 34,   /* errno says why: EINVAL, an argument that is NULL or no value of its enum; ECHILD, another
-                           process opened the index; else a call of the system failed. The index is as it was */
+                           process opened the index; else a call of the system failed. The index is unchanged */
 };
 
 /* How the program ended: its status, or minus the signal that killed it; and why, as a text: what it wrote to standard

@@ -21,7 +21,7 @@ _new: Any = tuple.__new__
 class Box(NamedTuple):
     """A box with its edges, of 32-bit integers: x1 <= x2 and y1 <= y2.
 
-    Where a box is asked for, any four integers in this order will do.
+    If a box is asked for, any four integers in this order will do.
     """
 
     x1: int

@@ -74,7 +74,7 @@ class Index:
     def transaction(self, wait: Optional[float] = 0.0) -> Transaction:
         """Begins a transaction in one of the sessions that are free.
 
-        Where none is free this waits for one, so many seconds at most, or
+        If none is free this waits for one, so many seconds at most, or
         as long as it takes (None); then it raises NoSession.
         """
         return self._begin(Transaction, wait)
@@ -123,7 +123,7 @@ class Index:
               within: Optional[float] = None) -> _Result:
         """Does work(transaction), commits, and returns what it returned.
 
-        Where another transaction is in the way (Busy), it is all given up and
+        If another transaction is in the way (Busy), it is all given up and
         done anew after a short pause: so many times in all, and for so many
         seconds; None is no bound. With reading, work is given a Reader.
         """

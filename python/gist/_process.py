@@ -50,7 +50,7 @@ def start(words: List[str], stdin: int, faults: BinaryIO,
           bufsize: int) -> "subprocess.Popen[bytes]":
     """Starts the program; its standard error goes to the file of faults.
 
-    It is in a session of its own, so that a Ctrl-C meant for this process
+    It has its own session, so that a Ctrl-C meant for this process
     doesn't end it in the middle of a transaction. If it is the launcher of
     a repository in which nothing is built, it says so and builds nothing.
     """

@@ -71,7 +71,7 @@ class Sessions:
               wait: Optional[float]) -> None:
         """Begins a transaction in a free session.
 
-        Where none is free this waits for one, so many seconds at most, or
+        If none is free this waits for one, so many seconds at most, or
         as long as it takes (None); then it raises NoSession.
         """
         end = None if wait is None else time.monotonic() + wait

@@ -208,7 +208,7 @@ class Transaction(Reader):
     def abort(self) -> None:
         """Ends the transaction, and drops its changes.
 
-        Where a commit was broken off and yet made, this raises NoTransaction,
+        If a commit was broken off and yet made, this raises NoTransaction,
         and `number` is the commit's.
         """
         hold = self._hold

@@ -262,7 +262,7 @@ class Pipes(Case):
 
 
 class Threads(Case):
-    """Threads share an index, each with transactions of its own."""
+    """Threads share an index, and each has its own transactions."""
 
     def test_twelve_threads_over_eight_sessions(self) -> None:
         self.new(2048, 100)
