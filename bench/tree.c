@@ -27,7 +27,7 @@ typedef struct {
     Box key;
 } Entry;
 
-// A page that is to be read, and the counter of splits as it was when the page's number was read.
+// A page that is to be read, and the counter of splits at the time when the page's number was read.
 typedef struct {
     uint32_t page;
     uint64_t seen;

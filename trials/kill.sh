@@ -9,7 +9,7 @@
 # file, which has only what was synced (keep_synced.c): what a stop of the machine leaves at least. A disk that lies is noticed.
 #
 # `gist migrate` brings an index of the format's first version into another file, over nothing or over another index. After each kill the
-# first file is byte for byte as it was, and the other is as it was, is refused, or holds the whole index; so does what was synced of it.
+# first file has the same bytes, and the other is unchanged, is refused, or holds the whole index; so does what was synced of it.
 # Before that each of its calls that changes the new file is killed in turn, and has an error in turn. Needs strace.
 #
 #   trials/kill.sh [KILLS [SEED [KILLS-OF-THREADS [KILLS-OF-MIGRATIONS]]]]

@@ -329,7 +329,7 @@ on_file "its tree: none" 1 'refused 14 not formatted
 ' "^gist: " dump zeros
 on_file "zeros, verified" 1 'refused 14 not formatted
 ' "^gist: " verify zeros
-# Files that version 1 made, and one of this version's length with its letters: each is refused by these, and left as it is. One that was
+# Files that version 1 made, and one of this version's length with its letters: each is refused by these, and left unchanged. One that was
 # cut shorter than any index of that version has is refused by its length, whatever it begins with.
 python3 - "$top/trials/version1" <<- 'END'
 	import base64, lzma, sys
