@@ -6,8 +6,8 @@
 
    Caveats:
 
-   - Threads: an index is used by one thread at a time; threads that share one put a lock of theirs around its calls.
-     Different indexes have nothing in common, and nothing is global.
+   - Threads: an index is used by one thread at a time; threads that share one have to put a lock around its calls.
+     Different indexes share nothing, and there is no global state.
 
    - Fork: an index belongs to the process that opened it. In a child that was forked off, each call answers
      GIST_SYSTEM with errno ECHILD, and gist_close frees what the child has and leaves its parent's index alone. A
@@ -158,8 +158,9 @@ int gist_format(const char *program, const char *path, unsigned pages, unsigned 
 
 /* Brings the index of the format's first version that the file `old` holds into the file `path`, which is made if it
    isn't there. `old` is only read: keep it until the new index is verified. `flags` is 0 or GIST_OVERWRITE, as for
-   gist_format; with GIST_OK `migrated`, if it isn't NULL, says what came. Neither file may be open. If it fails, a
-   file that was made for it is removed. GIST_NOT_FORMATTED: `old` holds no such index; and the refusals of gist_open. */
+   gist_format; with GIST_OK `migrated`, if it isn't NULL, says what the new file has. Neither file may be open. If it
+   fails, a file that was made for it is removed. GIST_NOT_FORMATTED: `old` holds no such index; and the refusals of
+   gist_open. */
 int gist_migrate(const char *program, const char *old, const char *path, unsigned flags, gist_migrated *migrated,
                  gist_end *end);
 
@@ -183,7 +184,7 @@ int gist_stat(const char *program, const char *path, gist_stats *stats, gist_end
 
 /* Gives up what is open, waits until the program has ended, and frees the index, whatever the status: GIST_OK if the
    program ended well, else why it ended, be it now or before; `end` is as above. NULL is closed already. In a process
-   that was forked off it frees alone, and answers GIST_OK. */
+   that was forked off it only frees, and answers GIST_OK. */
 int gist_close(gist_index *index, gist_end *end);
 
 /* The dimensions of its boxes, which the file says: 2, in the plane, or 3, in space; 0 of NULL. */
@@ -249,7 +250,7 @@ int gist_search_many(gist_index *index, unsigned session, enum gist_query query,
 int gist_search_many3(gist_index *index, unsigned session, enum gist_query query, const gist_box3 *boxes, size_t count,
                       gist_hits3 *hits, size_t *done);
 
-/* The session that the last GIST_BUSY was because of; 0 before any, and of NULL. */
+/* The session that the last GIST_BUSY named; 0 before any, and of NULL. */
 unsigned gist_busy(const gist_index *index);
 
 /* The number of the program's process; 0 of NULL. */

@@ -28,7 +28,7 @@ _Kind = TypeVar("_Kind", bound=Reader)
 class Index:
     """An open index; `gist.open` opens one.
 
-    Threads may share it: each call is a whole by itself, one at a time, and
+    Threads may share it: each call is made as a whole, one at a time, and
     each thread makes its calls in transactions of its own.
     """
 
