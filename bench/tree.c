@@ -2,8 +2,8 @@
 // The arguments are what is asked and how often: `inserts`, so many boxes in a new tree; `pages`, the same, and a sum of all
 // pages' bytes; `queries`, so many windows looked for in a tree of a hundred thousand boxes; `marks`, so many of its pairs
 // looked for and marked. It prints a sum of what was done.
-// Nobody else is at work, but each page that is read is tested as if: whether it is taken, and whether it was split since
-// its number was read.
+// No other session is at work, but each page that is read is tested as if one were: whether it is taken, and whether it
+// was split since its number was read.
 #include <stdbool.h>
 #include <stdint.h>
 #include <stdio.h>
