@@ -55,7 +55,7 @@ fn draw_session(draw: &mut Pcg32) -> u8 {
     session_of(below(draw, SESSIONS))
 }
 
-/// A session's event: its call goes on, or it asks one; now and then it asks if one is open.
+/// A session's event: its call goes on, or it asks one; now and then it asks one although a call is open.
 fn session_event<K: Drawn>(beside: &Beside<K>, draw: &mut Pcg32) -> Event<K::Key> {
     let session = draw_session(draw);
     let at = beside.at(session);

@@ -53,7 +53,7 @@ impl Way {
         }
     }
 
-    /// Stops with each crash, if the call is made or isn't.
+    /// Stops with each crash, of a call that is made, and of one that isn't.
     pub(crate) fn stops() -> [Way; 8] {
         [
             Way::stop(false, Left::Old),
@@ -67,7 +67,7 @@ impl Way {
         ]
     }
 
-    /// Failures, once or for ever, if the call is made or isn't.
+    /// Failures, once or for ever, of a call that is made, and of one that isn't.
     pub(crate) fn fails() -> [Way; 4] {
         [
             Way::fail(Fuse::Once, false),
