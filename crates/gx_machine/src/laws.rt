@@ -140,8 +140,8 @@ pub fn durable_keeps_the_last_set<B>()
         × (new.sessions ≡ old.sessions) }
 {}
 
-/// A set that is kept before a step and after it has the same number: sealing adds one behind, becoming durable drops
-/// some in front, and a crash leaves one. The last committed set is that of the newest number.
+/// A set that is kept before a step and after it has the same number: sealing adds one at the end, becoming durable
+/// drops some in front, and a crash leaves one. The last committed set is that of the newest number.
 pub fn sets_keep_their_numbers<B>()
     ensures step { (k : Keys B) (old new : Machine B) (step : Step B) (number : ℕ) → IsStep k old step new
         → new.oldest ≤ number → number ≤ newest old → number ≤ newest new → set_of number new ≡ set_of number old }
