@@ -27,7 +27,7 @@ BlocksAreAFilter X = (test : X → Bool) (xs : List X) (from : ℕ) → from ≤
 abbrev pub costs_less : ℕ × ℕ → ℕ × ℕ → Bool
 costs_less a b = nat_lt a.0 b.0 || ((a.0 == b.0) && nat_lt a.1 b.1)
 
--- these slots are found from a slot on, each from behind the one before, and then none
+-- these slots are found from a slot on, each search beginning after the slot before, and then none
 abbrev pub AreHits : List Bool → ℕ → List ℕ → Type 0
 AreHits hits from [] = IsNextHit hits from None
 AreHits hits from (slot ∷ slots) = IsNextHit hits from (Some slot) × AreHits hits (slot + 1) slots

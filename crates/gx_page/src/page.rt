@@ -148,8 +148,8 @@ impl Page {
         self.block.slice(from, from + size)
     }
 
-    /// Puts an item of 1 to 4,060 bytes in front of a slot, or behind the last. False if the page has no room for it
-    /// and its slot, and the page is then unchanged.
+    /// Puts an item of 1 to 4,060 bytes in front of a slot, or after the last. False if the page has no room for it and
+    /// its slot, and the page is then unchanged.
     pub fn insert(&mut self, slot: usize, bytes: &[u8]) -> bool
         requires slot { slot ≤ length self.old.items }
         requires item { (1 ≤ length bytes.now) × (length bytes.now ≤ 4060) }
