@@ -31,7 +31,7 @@ put_before at new xs b n below fits =
     let front = take-append-le (b + n) (take at xs) rest (omega (arith, length-take-le at xs fits)) ∙ take-take (b + n) at xs below in
     sym (drop-take b n (take at xs ++ rest)) ∙ ap (drop b) front ∙ drop-take b n xs
 
--- what lies behind is unchanged
+-- what comes after is unchanged
 pub put_behind : (at : ℕ) (new xs : List ℕ) (b : ℕ) → at + length new ≤ b → at ≤ length xs → drop b (put at new xs) ≡ drop b xs
 unfolding put
 put_behind at new xs b above fits = drop-put_mid at (length new) xs new b above fits refl
@@ -94,7 +94,7 @@ put_trimmed at m new xs fits few same =
     ∙ sym (drop-append-le m (take (length new) D) rest (omega arith)) ∙ ap (drop m) (take-append-drop (length new) D) in
     put_restores at m xs (put at new xs) (omega arith) front tail
 
--- lists that agree on k bytes from m on, and on those behind, agree from m on
+-- lists that agree on k bytes from m on, and on those after them, agree from m on
 pub rest_agrees : (m k n : ℕ) (xs ys : List ℕ) → n ≡ m + k → take k (drop m xs) ≡ take k (drop m ys) → drop n xs ≡ drop n ys → drop m xs ≡ drop m ys
 rest_agrees m k n xs ys end here behind =
     let parts : (zs : List ℕ) → take k (drop m zs) ++ drop n zs ≡ drop m zs =

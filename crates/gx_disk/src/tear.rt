@@ -54,7 +54,7 @@ fn kept_at(call: &PastCall, kept: &[u8], s: usize) -> Option<usize>
 }
 
 #[tactic(auto, unfolding(crate::specs::Memory::size_kept))]
-// The overwritten bytes behind those of one call.
+// The overwritten bytes after those of one call.
 fn after_kept<'a>(call: &PastCall, kept: &'a [u8]) -> &'a [u8]
     requires { size_kept call.now ≤ length kept.now }
     ensures { result.now ≡ drop (size_kept call.now) kept.now }

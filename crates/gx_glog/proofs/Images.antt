@@ -38,11 +38,11 @@ module _ (seen : List ℕ) (pending : ℕ → Bool) (extent : Extent) (gated use
   image_opened : (k : ℕ) → k < gated → is_open image extent k ≡ true
   image_opened k less = image_gate true seen pending extent k image (has.opened k less) may
 
-  -- the bodies of an image whose gate behind the gated ones is closed
+  -- the bodies of an image whose gate after the gated ones is closed
   pub closed_log : gated ≤ PLACES → (gated < PLACES → is_open image extent gated ≡ false) → open_bodies image ≡ bodies_in seen extent gated
   closed_log few closed = bodies_are extent gated image selects few image_opened closed ∙ image_bodies seen pending extent gated image has.bodies may
 
-  -- the bodies of an image whose gate behind the gated ones is open, over a body that has these records
+  -- the bodies of an image whose gate after the gated ones is open, over a body that has these records
   open_log : (flight : List ℕ) → gated < PLACES → used ≡ gated + 1 → HasRecords flight (body_of seen extent gated) → IsBodySettled pending extent gated → is_open image extent gated ≡ true
       → open_bodies image ≡ bodies_in seen extent gated ++ (flight ∷ [])
   open_log flight few places body settled is_opened =
@@ -58,7 +58,7 @@ module _ (seen : List ℕ) (pending : ℕ → Bool) (extent : Extent) (gated use
   by_gate flight false gate few places body settled = inl (closed_log (omega arith) (λ less. gate))
   by_gate flight true gate few places body settled = inr (open_log flight few places body settled gate)
 
-  -- the bodies of an image if the one behind the gated ones is settled: its gate decides
+  -- the bodies of an image if the one after the gated ones is settled: its gate decides
   pub either_log : (flight : List ℕ) → gated < PLACES → used ≡ gated + 1 → HasRecords flight (body_of seen extent gated) → IsBodySettled pending extent gated
       → AreBodiesOf (bodies_in seen extent gated) flight image
   either_log flight few places body settled = by_gate flight (is_open image extent gated) refl few places body settled

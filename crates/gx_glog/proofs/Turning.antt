@@ -201,7 +201,7 @@ LeadsNext turn.GateSync extent head now = Leads turn.Selector extent (other_of e
 LeadsNext turn.Selector extent head now = Leads turn.Done extent (other_of extent) head now.seen now.pending
 LeadsNext turn.Done extent head now = HasHead (other_of extent) head now.seen now.pending × IsSelected (other_of extent) now.seen now.pending
 
--- the place of the head that a turn is to write has its tail behind the head, as all places have theirs
+-- the place of the head that a turn is to write has its tail after the head, as all places have theirs
 record HaveHead (t : Turn) (extent : Extent) (head tails seen : List ℕ) (pending : ℕ → Bool) : Type 0 where
   pub are : AreTails tails
   pub covers : 1 ≤ turning t → sectors_of head ≤ tail_of tails (other_of extent) 0
@@ -263,7 +263,7 @@ tails_after turn.GateSync extent head tails = tails
 tails_after turn.Selector extent head tails = tails
 tails_after turn.Done extent head tails = tails
 
--- they begin behind the head, and each place reads zero from its own on
+-- they begin after the head, and each place reads zero from its own on
 record TailsNext (t : Turn) (extent : Extent) (head tails seen : List ℕ) (pending : ℕ → Bool) : Type 0 where
   pub are : AreTails (tails_after t extent head tails)
   pub covers : sectors_of head ≤ tail_of (tails_after t extent head tails) (other_of extent) 0

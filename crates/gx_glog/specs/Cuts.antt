@@ -17,7 +17,7 @@ unfoldable pub bodies_in : List ℕ → Extent → ℕ → List (List ℕ)
 bodies_in bytes extent zero = []
 bodies_in bytes extent (suc n) = bodies_in bytes extent n ++ (records_in (body_of bytes extent n) ∷ [])
 
--- the bytes of the records in each body of an image's log: those behind the leading open gates of the selected extent
+-- the bytes of the records in each body of an image's log: those after the leading open gates of the selected extent
 unfoldable pub open_bodies : List ℕ → List (List ℕ)
 open_bodies image = bodies_in image (selected_of image) (open_run image (selected_of image) 0 PLACES)
 

@@ -37,7 +37,7 @@ pub record HasBatches (extent : Extent) (gated used : ℕ) (seen : List ℕ) (pe
   pub closed : (k : ℕ) → used ≤ k → k < PLACES → IsGate false seen pending extent k
 
 -- What is known of the place in flight while a call is due. Until its gate is written it is closed; once the body is
--- written, the place reads as that body to its end, with zeros behind the records; from the gate's write on, which may
+-- written, the place reads as that body to its end, with zeros after the records; from the gate's write on, which may
 -- fail and leave it in any state, the body is settled.
 abbrev pub Flies : Stage → Extent → ℕ → List ℕ → List ℕ → (ℕ → Bool) → Type 0
 Flies Idle extent k flight seen pending = Unit {0}

@@ -30,7 +30,7 @@ pub record Log : Type 0 where
   -- for each place of both extents, the sector of it from which on it reads zero
   pub tails : List ℕ
 
--- a log that starts behind so many batches of an extent: the bytes behind their records aren't known, nor those of the
+-- a log that starts after so many batches of an extent: the bytes after their records aren't known, nor those of the
 -- other places
 abbrev pub starting : Extent → ℕ → Log
 starting extent n =
@@ -78,7 +78,7 @@ pub record IsSound (log : Log) : Type 0 where
   pub batch : 1 ≤ in_flight log.stage → sectors_of log.flight ≤ tail_of log.tails log.extent log.gated
   pub head : 1 ≤ turning log.turn → sectors_of log.flight ≤ tail_of log.tails (other_of log.extent) 0
 
--- What fills is in flight, at the next place, whose tail begins behind it. A head that was there is dropped, and a turn
+-- What fills is in flight, at the next place, whose tail begins after it. A head that was there is dropped, and a turn
 -- given up.
 abbrev pub begun : Log → Log
 begun log =
@@ -91,7 +91,7 @@ begun log =
       tails = widened log.extent log.gated (sectors_of log.filling) log.tails;
     }
 
--- once the body is synced, its place's tail begins right behind its records
+-- once the body is synced, its place's tail begins right after its records
 abbrev pub after : Stage → Log → Log
 after Body log = record log { stage = BodySync }
 after BodySync log =
@@ -142,7 +142,7 @@ after_turn turn.GateSync log = record log { turn = turn.Selector }
 after_turn turn.Selector log = record log { turn = turn.Done }
 after_turn turn.Done log = record log { extent = other_of log.extent; used = 1; gated = 1; turn = turn.Closed; flight = [] }
 
--- the turn's call that was due is made; after the last one the log goes on in the other extent, behind the head
+-- the turn's call that was due is made; after the last one the log goes on in the other extent, after the head
 abbrev pub turned : Log → Log
 turned log = after_turn log.turn log
 

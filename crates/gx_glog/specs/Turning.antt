@@ -22,7 +22,7 @@ use Rattle.gx_glog.specs.Standing.{On, MayTurn, gated_of, ShowsIn}
 use Rattle.gx_glog.specs.Steps.{Calls}
 use Rattle.gx_glog.specs.Tails.{tail_of}
 
--- The record's bytes come behind those of the head, whose place is 0. There is no room for it if they don't fit, nor
+-- The record's bytes come after those of the head, whose place is 0. There is no room for it if they don't fit, nor
 -- while a turn is under way, whose head is complete, and nothing then changes.
 abbrev pub PutsFirst : List ℕ → Log → Log → Appended → Type 0
 PutsFirst bytes old new (At place) = (length old.flight + length bytes ≤ BODY_ROOM) × (place ≡ 0) × (new ≡ record old { flight = old.flight ++ bytes }) × (old.turn ≡ turn.Closed)

@@ -86,8 +86,7 @@ pub(crate) fn settle<D: SectorDisk, S: Copy>(disk: &mut D, stage: S) -> Result<S
 }
 
 impl Glog {
-    // Puts the filling batch in flight, at the next place, whose tail begins behind it. Drops a head that was put
-    // there.
+    // Puts the filling batch in flight, at the next place, whose tail begins after it. Drops a head that was put there.
     fn begin_batch(&mut self)
         requires idle { self.old.stage ≡ Stage.Idle }
         requires some { 1 ≤ length self.old.filling }
@@ -102,7 +101,7 @@ impl Glog {
         self.turn = Turn::Closed;
     }
 
-    // Notes that the due call was made. Once the body is synced, its place's tail begins behind its records.
+    // Notes that the due call was made. Once the body is synced, its place's tail begins after its records.
     fn advance(&mut self)
         ensures { self.new ≡ done self.old }
     {

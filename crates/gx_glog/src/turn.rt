@@ -78,7 +78,7 @@ fn write_selector<D: SectorDisk>(disk: &mut D, extent: Extent) -> Result<Turn, R
 }
 
 impl Glog {
-    /// Puts a record into body 0 of the other extent, behind those that were put there before; the place is 0. A turn
+    /// Puts a record into body 0 of the other extent, after those that were put there before; the place is 0. A turn
     /// makes it the log's first batch there, and a batch that begins before drops it. `NoRoom` if it doesn't fit, and
     /// while a turn is under way. Nothing is written to the device.
     pub fn put_first(&mut self, logged: &Record<'_>) -> Appended

@@ -298,8 +298,8 @@ impl<T: PageTest> Pool<T> {
         self.frames.set_gated(batch);
     }
 
-    /// Notes that a checkpoint has ended: the log goes on behind batch 0, which is gated, in the other extent. All
-    /// pages were written before.
+    /// Notes that a checkpoint has ended: the log goes on after batch 0, which is gated, in the other extent. All pages
+    /// were written before.
     pub fn turned(&mut self)
         requires { NoneDirty self.old.frames }
         ensures { self.new ≡ record self.old { frames = record self.old.frames { gated = 0 } } }

@@ -83,7 +83,7 @@ pub two_bytes : (high low : ℕ) → u16_of (high ∷ low ∷ []) ≡ high * 256
 unfolding u16_of
 two_bytes high low = omega arith
 
--- whether slots rise, by the first of them and those behind it
+-- whether slots rise, by the first of them and those after it
 pub rise_step : (least slot : ℕ) (bytes : List ℕ) → 2 ≤ length bytes → slot ≡ get_or bytes 0 0 * 256 + get_or bytes 1 0
     → rise_from least (slots_in bytes) ≡ leb least slot && rise_from (slot + 1) (slots_in (take (length bytes - 2) (drop 2 bytes)))
 rise_step least slot [] some e = absurd (omega (arith, some))

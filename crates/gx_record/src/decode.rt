@@ -129,7 +129,7 @@ fn three_at(bytes: &[u8]) -> Option<(PageImages<'_>, &[u8])>
     Some((PageImages::Three(first, second, third), rest))
 }
 
-/// One to three pages, behind their count.
+/// One to three pages, after their count.
 #[tactic(auto, unfolding(crate::specs::Reading::images_at))]
 fn images_at(bytes: &[u8]) -> Option<(PageImages<'_>, &[u8])>
     ensures { Reads (λ x. (images x.0, x.1.now)) result (images_at bytes.now) }
@@ -298,7 +298,7 @@ fn rising_slots_at(bytes: &[u8], count: usize) -> Option<(Slots<'_>, &[u8])>
     Some((slots, rest))
 }
 
-/// One slot to the most, behind their count.
+/// One slot to the most, after their count.
 #[tactic(auto, unfolding(crate::specs::Reading::slots_at))]
 fn slots_at(bytes: &[u8]) -> Option<(Slots<'_>, &[u8])>
     ensures { Reads (λ x. (slots_of x.0, x.1.now)) result (slots_at bytes.now) }

@@ -66,7 +66,7 @@ module _ {B : Type 0} (IsKey : B → Type 0) (spelling : B → List ℕ) (f : Fo
       same_contents b (with_items a items) (ap (λ (n : Node B). n.level) is) (ap (λ (n : Node B). n.nsn) is) (ap (λ (n : Node B). n.right) is) number
       ((hold b well leaf).items ∙ ap (λ (n : Node B). map (pair_bytes spelling) n.pairs) is ∙ spelled)
 
-  -- a pair behind the last is an item behind the last
+  -- a pair after the last is an item after the last
   module _ (used : ℕ) (a b : Contents) (old new : Node B) (row : ℕ) (key : B) (well : IsWellFormed a) (well_now : IsWellFormed b) (node : is_node f used a ≡ true) (node_now : is_node f used b ≡ true)
       (number : b.number ≡ a.number) (is_old : old ≡ node_of f a) (is_new : new ≡ node_of f b) (leaf : old.level ≡ 0)
       (made : new ≡ node_with old old.nsn old.right (old.pairs ++ record { row = row; key = key; marked = false } ∷ []) old.children) where

@@ -69,7 +69,7 @@ abbrev pub Recorded : {D : Type 0} → Rec → Volume D → Volume D → Result 
 Recorded x v w (Ok done) = Logs x v.log w.log × (w ≡ record v { log = w.log })
 Recorded x v w (Err fault) = (fault ≡ NoRoom) × HasNoRoom x v.log × (w ≡ v)
 
--- a record came behind those of the head, or there was no room for it
+-- a record came after those of the head, or there was no room for it
 pub record GoesInHead (x : Rec) (old new : Log) : Type 0 where
   pub still : old.turn ≡ Closed
   pub fits : length old.flight + length (spelling x) ≤ BODY_ROOM

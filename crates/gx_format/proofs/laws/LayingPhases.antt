@@ -212,7 +212,7 @@ module _ {D : Type 0} (state : D → Device) (whole : (d : D) → (state d).hone
         three.1,
       )
 
-  -- what comes behind the first phase
+  -- what comes after the first phase
   behind : (parameters : Parameters) (root : Contents) (old a new : D) (result : Result (Unit {0}) Refusal) → (state a).honest ≡ true → MIN_SECTORS ≤ (state a).sectors → IsCleared (state a)
       → Runs state (laying parameters root ++ naming) a new result
       → Leaves (IsOldOrFresh (state old) parameters root) (state a) (state new) × (result ≡ Ok tt → IsFresh parameters root (state new).seen × IsSettled (state new))
