@@ -57,7 +57,7 @@ pub record FindsNoPage {B D : Type 0} (old new : Parts B D) (outcome : Outcome B
 abbrev pub WritesDirty : {B D : Type 0} → Device → Device → Parts B D → Parts B D → Outcome B → Type 0
 WritesDirty d e old new outcome = WritesNext d e old new outcome ⊎ FindsNoPage old new outcome
 
--- the volume over its device now, with the present log behind another head
+-- the volume over its device now, with the present log and another head
 abbrev pub settled_volume : {D : Type 0} → Volume D → Volume D → Volume D
 settled_volume v w = record v { log = record v.log { flight = w.log.flight }; shelf = record v.shelf { disk = w.shelf.disk } }
 

@@ -21,7 +21,7 @@ use Rattle.gx_engine.specs.Noted.{AreNoted, has_transaction}
 abbrev pub note_record : ℕ
 note_record = NOTE_BESIDE_KEY + MAX_KEY
 
--- These records came behind those of a head, in so many bytes at most.
+-- These records came after those of a head, in so many bytes at most.
 pub record Puts {E P : Type 0} (r : Reading E P) (records : List (Record E P)) (size : ℕ) (old new : Log) : Type 0 where
   pub bytes : List ℕ
   pub log : new ≡ record old { flight = old.flight ++ bytes }
@@ -64,7 +64,7 @@ IsNextOf sessions from upto (Some s) =
 abbrev pub PutsTouches : {B D W : Type 0} {P : Type 0} → Reading (Entry B) P → State B W → Volume D → Volume D → Result (Unit {0}) StoreFault → Type 0
 PutsTouches {B} r sessions v w result = (xs : List (Touch (Entry B))) → AreNoted sessions xs → PutsAll r (notes_of xs) (note_record * length xs) v w result
 
--- the same behind the numbers
+-- the same after the numbers
 abbrev pub PutsHead : {B D W : Type 0} {P : Type 0} → Reading (Entry B) P → State B W → Volume D → Volume D → Result (Unit {0}) StoreFault → Type 0
 PutsHead {B} r sessions v w result = (xs : List (Touch (Entry B))) → AreNoted sessions xs
     → PutsAll r (Counters sessions.latest v.shelf.counter v.shelf.used sessions.next ∷ notes_of xs) (COUNTERS_RECORD + note_record * length xs) v w result

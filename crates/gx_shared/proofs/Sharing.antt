@@ -204,7 +204,7 @@ own_next : {B : Type 0} (s : ℕ) (named next : Event B) → InCall s named → 
 own_next s named next own (inl same) = subst (λ e. InCall s e) (sym same) own
 own_next s named next own (inr move) = subst (λ e. InCall s e) (sym move) (inl refl)
 
--- Amid a call: the holds up to now are noted behind those of before, and this event comes behind them.
+-- Amid a call: the holds up to now are noted after those of before, and this event comes after them.
 pub record IsAmid {B : Type 0} (start : Known B) (call : Call B) (now : Known B) (event : Event B) : Type 0 where
   pub earlier : List (Hold B)
   pub now_is : now ≡ (start.0, earlier ++ start.1)

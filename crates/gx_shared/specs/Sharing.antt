@@ -75,11 +75,11 @@ pub record IsRun {B E : Type 0} (k : Keys B) (engine : Ghosts E B) (old : E × L
   pub made : is_work event ≡ false → IsMade engine.makes old event given new
   pub hold : is_work event ≡ false → engine.granted → IsHold k engine.sees old event given new
 
--- the event that comes behind an outcome in a call of the session: that which the outcome names, or a move in its place
+-- the event that comes after an outcome in a call of the session: that which the outcome names, or a move in its place
 abbrev pub Comes : {B : Type 0} → ℕ → Outcome B → Event B → Type 0
 Comes {B} s outcome event = (named : Event B) × (next_of s outcome ≡ Run named) × ((event ≡ named) ⊎ (event ≡ Move s))
 
--- the event that comes behind these holds in a call of the session, the last of them first: at first the call is asked
+-- the event that comes after these holds in a call of the session, the last of them first: at first the call is asked
 abbrev pub ComesBehind : {B : Type 0} → ℕ → Call B → List (Hold B) → Event B → Type 0
 ComesBehind s call [] event = event ≡ Ask s call
 ComesBehind s call (last ∷ earlier) event = Comes s last.outcome event × ComesBehind s call earlier last.event

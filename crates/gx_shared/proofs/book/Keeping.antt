@@ -316,7 +316,7 @@ closes_right true left opened h some = omega (arith, h)
 closes_right false left opened h (inl some) = omega (arith, h, some)
 closes_right false left opened h (inr fault_is) = let away : ⊥ = cc in absurd away
 
--- Items behind the last.
+-- Items after the last.
 
 module _ {B : Type 0} where
   -- the finished calls of a record that fits are few
