@@ -32,7 +32,7 @@ module _ {E P : Type 0} (k : Known E P) (r : Reading E P) where
   abbrev pub IsKeptOrFound : Device → List ℕ → Type 0
   IsKeptOrFound d image = MayLeave d image ⊎ HasFoundLog d.seen image
 
-  -- The log that starts behind these bodies is on a device as it was on what was seen, with each page written. If the
+  -- The log that starts after these bodies is on a device as it was on what was seen, with each page written. If the
   -- pages are good for it, what each body says its size is fits it.
   pub record StaysBehind (seen now : List ℕ) (bodies : List (List (Record E P))) : Type 0 where
     pub glog : found_glog now ≡ found_glog seen

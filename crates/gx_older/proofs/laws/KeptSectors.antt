@@ -103,7 +103,7 @@ module _ (pages : ℕ) (seen : List ℕ) (some : 1 ≤ pages) (long : 512 * olde
   laid_size : length laid ≡ 512 * sectors_of pages
   laid_size = parts_size (older_sectors_of pages) (512 * sectors_of pages) seen long (parts_of pages) zeros none_yet fit
 
-  -- a part's sector in its place, behind some parts and before others
+  -- a part's sector in its place, after some parts and before others
   placed : (before : List Part) (p : Part) (after : List Part) (k s t : ℕ) → parts_of pages ≡ before ++ p ∷ after → s ≡ p.to + k → t ≡ p.from + k → 1 ≤ s → k < p.sectors
       → AreBeside s after → sector_of (renumbered pages seen) s ≡ sector_of seen t
   placed before p after k s t are here was from below out =
