@@ -36,7 +36,7 @@ use Rattle.gx_commands.specs.Endings.{device_of}
 use Rattle.gx_commands.specs.Openings.{Opens}
 use Rattle.gx_commands.specs.Refusing.{Refuses, TellsOpening}
 
--- A dump's refusal is written behind the text so far; if the writer failed, that is reported to the user; if the dump
+-- A dump's refusal is written after the text so far; if the writer failed, that is reported to the user; if the dump
 -- ended well, nothing more is written.
 abbrev pub TellsDump : Result (Unit {0}) DumpFault → Outputs → Outputs → ℕ → Type 0
 TellsDump (Ok done) old new status = (status ≡ 0) × (new ≡ old)

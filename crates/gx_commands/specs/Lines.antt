@@ -84,7 +84,7 @@ fault_text disk.InputOutput = codes "input or output error"
 fault_text disk.InUse = codes "another process has it in use"
 fault_text disk.ReadOnly = codes "it is open for reading alone"
 
--- that, behind the name of the file; without the name if that is too long for a line
+-- that, after the name of the file; without the name if that is too long for a line
 abbrev pub named : List ℕ → List ℕ → List ℕ
 named file why = if nat_le (length file) (1022 - length why) then file ++ (codes ": " ++ why) else why
 

@@ -52,7 +52,7 @@ pub fn tell_fault<E: Write>(faults: &mut Noted<E>, fault: ScriptFault, kind: Opt
     tell_person(faults, sentence.as_str());
 }
 
-// Says that a file can't be opened, or that a call of it failed, behind the file's name if there is room for that.
+// Says that a file can't be opened, or that a call of it failed, after the file's name if there is room for that.
 fn named(file: &str, fault: DiskFault) -> ArrayString<SENTENCE>
     ensures { result.bytes ≡ named file.now (fault_text fault) }
 {

@@ -126,7 +126,7 @@ pub(crate) fn tell_stopped<R: Read, W: Write, E: Write>(
 /// The status is 0 if the device was opened, the script was read to its end, no reply was refused with `Device`,
 /// `Failed` or `Damaged`, and all that was logged is gated. It is 1 in all other cases. If the opening is refused, the
 /// function reads nothing, writes `refused N text`, and reports to the user what it means, and for damage where it is;
-/// if the settling behind the script is refused, that line follows the replies. If a read or a write of the script
+/// if the settling after the script is refused, that line follows the replies. If a read or a write of the script
 /// failed, or a reply reported a fault, nothing is settled, and the function reports that to the user, unless the
 /// reader of the replies has closed its end. The opening, the script's calls and the settling make all calls of the
 /// device.
