@@ -29,7 +29,7 @@ module _ {B : Type 0} (k : Keys B) (start : Machine B) (steps : List (Step B)) w
 
   -- These steps are a serial run from start. When a session's commit is sealed, each call that its transaction was
   -- answered is answered alike on the last committed set of that moment; and the transaction as a whole gets its
-  -- replies on that set, and makes of it the set of its commit. A commit has the number behind that of the last
+  -- replies on that set, and makes of it the set of its commit. A commit has the number after that of the last
   -- committed set, so the transactions run in the order of their commits' numbers.
   pub record AreSerial : Type 0 where
     pub alike : (s : ℕ) (call : Call B) (changes : Changes B) (reply : Reply B) (then_changes : Changes B) (sealing : Machine B)

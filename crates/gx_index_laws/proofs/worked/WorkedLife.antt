@@ -123,7 +123,7 @@ covers_three t key used top first second low (suc (suc zero)) u = subst (λ (ds 
 covers_three t key used top first second low (suc (suc (suc zero))) u = subst (λ (ds : List (Child ℕ)). Each (λ d. d.page ≡ 3 → nat_le key d.key ≡ true) ds) (sym second) tt
 covers_three t key used top first second low (suc (suc (suc (suc q)))) u = absurd (let h = u.1 in omega (arith, h, used))
 
--- one note more, behind the others
+-- one note more, after the others
 noted_last : (n : Note ℕ) (notes : List (Note ℕ)) → WithNote number_keys n.entry n.was_live notes (notes ++ n ∷ [])
 noted_last n [] x = refl
 noted_last n (m ∷ notes) x = by (same_entry number_keys x m.entry) (noted_last n notes x)
