@@ -26,7 +26,7 @@ pub(crate) enum At<B> {
     Waiting(u64),
 }
 
-/// How a run goes on behind an event.
+/// How a run goes on after an event.
 #[derive(Clone, Copy)]
 pub(crate) enum Went {
     /// It did its work, or was answered.

@@ -151,7 +151,7 @@ fn is_refused_to<K: Drawn>(beside: &mut Beside<K>, session: u8) -> bool {
         }
 }
 
-/// Behind a failed call each event is refused.
+/// After a failed call each event is refused.
 fn refuses_all<K: Drawn>(beside: &mut Beside<K>) -> Result<(), RunFault> {
     let refuses_flusher = is_refused(beside, Event::LogStep)
         && is_refused(beside, Event::WritePage(1))

@@ -29,13 +29,13 @@ pub(crate) enum Kind {
     Sweep,
     Page,
     Rest,
-    /// A script's line behind `call`.
+    /// A script's line after `call`.
     Call,
     /// A script's line.
     Ask,
 }
 
-/// A line's first word, what it asks for, and the greatest that each number behind it may be.
+/// A line's first word, what it asks for, and the greatest that each number after it may be.
 type Form = (&'static str, Kind, &'static [u64]);
 
 static FORMS: [Form; 12] = [
@@ -59,7 +59,7 @@ pub(crate) struct Line<'a> {
     pub(crate) kind: Kind,
     /// The line of a script, if it is one.
     pub(crate) script: &'a str,
-    /// The numbers behind the first word, and 0 behind the last.
+    /// The numbers after the first word, and 0 after the last.
     pub(crate) numbers: [u64; NUMBERS],
 }
 

@@ -7,7 +7,7 @@ use std::alloc::Global;
 use std::io::{self, ErrorKind, Read, Write};
 use std::process::Abort;
 
-// The status, the replies with zeros behind them, and whether there was a message.
+// The status, the replies with zeros after them, and whether there was a message.
 fn run(alloc: Global, script: &[u8]) -> (u8, [u8; 64], bool) {
     let mut replies = [0u8; 64];
     let mut told = [0u8; 1];

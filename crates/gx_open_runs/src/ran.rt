@@ -54,7 +54,7 @@ pub(crate) fn new_device(alloc: Global) -> Result<MemDisk, RunFault> {
     }
 }
 
-// What a device is behind a run.
+// What a device is after a run.
 fn ended(device: Device, replies: Vec<u8>, sealed: u64, end: End) -> Ran {
     let passed = device.calls();
     let (disk, calls) = device.into_inner().into_parts();

@@ -9,7 +9,7 @@ use crate::ways::{Left, Way};
 use gx_disk::MemDisk;
 use std::alloc::Global;
 
-/// How many stops there were of the first opening and of the second, and the number that was found behind each.
+/// How many stops there were of the first opening and of the second, and the number that was found after each.
 #[derive(Clone, Copy)]
 pub(crate) struct Twice {
     pub(crate) first: u64,

@@ -25,7 +25,7 @@ impl Left {
     }
 }
 
-/// How a call fails: whether those behind it fail too, whether it is made if it is a write, and the crash that comes
+/// How a call fails: whether those after it fail too, whether it is made if it is a write, and the crash that comes
 /// then, if one does.
 #[derive(Clone, Copy)]
 pub(crate) struct Way {

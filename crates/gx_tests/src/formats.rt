@@ -66,8 +66,8 @@ pub(crate) fn formatted<R: Abort + AllocGlobal>(
     disk
 }
 
-/// What a format for nine pages returns over an index of eight that stops before a call, or behind it if it is done,
-/// and what a crash leaves then.
+/// What a format for nine pages returns over an index of eight that stops before a call, or after it if it is done, and
+/// what a crash leaves then.
 fn stopped<R: Abort + AllocGlobal>(
     rt: &R,
     (k, done): (u64, bool),

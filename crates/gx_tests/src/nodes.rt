@@ -47,7 +47,7 @@ impl Numbered for IntervalClass {
     }
 }
 
-/// Puts bytes behind the last item of a page.
+/// Puts bytes after the last item of a page.
 fn write(rt: &impl Abort, page: &mut Page, item: &[u8]) {
     assert!(rt; !item.is_empty() && item.len() <= 4060);
     let last = page.count();
@@ -76,7 +76,7 @@ fn write_child(rt: &impl Abort, page: &mut Page, key: [u8; 16], child: u8) {
 pub(crate) enum Key {
     /// The key of a number.
     Of(u8),
-    /// No key: the first corner lies behind the second.
+    /// No key: the first corner is greater than the second.
     Reversed,
 }
 
