@@ -128,7 +128,7 @@ int gist_delete_many3(gist_index *index, unsigned session, const gist_entry3 *en
     return delete_many(index, &SPACE, session, entries, count, done);
 }
 
-/* Reads a line `S entry R` with a box behind. Returns what follows it, or NULL if it is no such line. */
+/* Reads a line `S entry R` with a box after it. Returns what follows it, or NULL if it is no such line. */
 static const char *read_entry(const char *line, const shape *of, unsigned session, char *entry) {
     int32_t corners[MOST_CORNERS];
     uint64_t its, row;
@@ -153,7 +153,7 @@ static bool hold(gist_index *index, const shape *of, size_t count) {
     return true;
 }
 
-/* Reads the answer of a search that begins at `*line`, and puts its entries behind so many that were found. */
+/* Reads the answer of a search that begins at `*line`, and puts its entries after so many that were found. */
 static int read_found(gist_index *index, const shape *of, unsigned session, const char **line, size_t before,
                       size_t *count) {
     uint64_t entries;
@@ -177,7 +177,7 @@ static size_t print_searches(char *lines, const shape *of, unsigned session, con
     return (size_t)(line - lines);
 }
 
-/* Says where the entries lie that searches found, one search's behind the other's. */
+/* Says where the entries lie that searches found, one search's after the other's. */
 static void place_hits(const gist_index *index, const shape *of, void *all, size_t searches) {
     const char *found = index ? index->found : NULL;
     for (char *at = all; searches > 0; searches--, at += sizeof(hits)) {

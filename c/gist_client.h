@@ -218,7 +218,7 @@ int gist_delete3(gist_index *index, unsigned session, uint64_t row, gist_box3 bo
 
 /* Adds or takes away `count` entries, of which up to 100 are written before their answers are read; that takes a
    fraction of the time of a call each. The first refusal is the status, and `done`, if it isn't NULL, gets its
-   entry's place: so many before it were done. Some behind it may have been done as well: abort, or look. */
+   entry's place: so many before it were done. Some after it may have been done as well: abort, or look. */
 int gist_insert_many(gist_index *index, unsigned session, const gist_entry *entries, size_t count, size_t *done);
 int gist_delete_many(gist_index *index, unsigned session, const gist_entry *entries, size_t count, size_t *done);
 int gist_insert_many3(gist_index *index, unsigned session, const gist_entry3 *entries, size_t count, size_t *done);

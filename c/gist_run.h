@@ -17,7 +17,7 @@ typedef struct gist_run {
     int faults; /* a file in memory for its standard error, which never fills as a pipe may */
 } gist_run;
 
-/* Starts the program with the arguments behind its name; words[0] is set to its path. Returns GIST_OK or GIST_SYSTEM. */
+/* Starts the program with the arguments after its name; words[0] is set to its path. Returns GIST_OK or GIST_SYSTEM. */
 int gist_run_start(gist_run *made, const char *program, const char **words);
 
 /* Reads what has come of its output, once there is something. Returns how much, 0 at the end of all, -1 for a fault. */
@@ -33,7 +33,7 @@ void gist_run_forget(gist_run *it);
    GIST_OK if it ended well, the refusal with which it ended, or GIST_ENDED. */
 int gist_run_finish(gist_run *it, const char *last, gist_end *end);
 
-/* The status for what a line says behind `refused `, or GIST_PROTOCOL. */
+/* The status for what a line says after `refused `, or GIST_PROTOCOL. */
 int gist_run_refusal(const char *words);
 
 /* Refuses a call whose arguments make no sense: GIST_SYSTEM, with EINVAL. */

@@ -60,7 +60,7 @@ static const char *const WRONG[] = {
     "1 refused -6 bad box\\n",
 };
 
-/* Numbers at the ends of their ranges are read. Those behind the ends, and words that are no numbers, are no answer. */
+/* Numbers at the ends of their ranges are read. Those beyond the ends, and words that are no numbers, are no answer. */
 void answers(void) {
     gist_entry first;
     size_t count;

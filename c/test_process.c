@@ -36,7 +36,7 @@ void killed(void) {
     }
 }
 
-/* The file's first ten pages end at 8,523,776 + 40,960 bytes; no page behind them can be written. */
+/* The file's first ten pages end at 8,523,776 + 40,960 bytes; no page after them can be written. */
 void full_disk(void) {
     gist_entry entries[100];
     gist_end end;

@@ -89,7 +89,7 @@ def _blocks(lines: bytes) -> Iterator[bytes]:
 
 def _entries(lines: bytes, box: Type[AnyBox]
              ) -> List[Tuple[int, AnyBox]]:
-    """The entries of lines `S entry R` with a box's corners behind."""
+    """The entries of lines `S entry R` with a box's corners after it."""
     words = lines.split()
     step = 3 + len(box._fields)
     count = lines.count(b"\n")

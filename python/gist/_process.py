@@ -11,7 +11,7 @@ AnyPath = Union[str, "os.PathLike[str]"]
 
 
 def words_of(program: Optional[AnyPath], *words: str) -> List[str]:
-    """The program's path, with these arguments behind it.
+    """The program's path, with these arguments after it.
 
     It is the one that is given, or else named by the environment variable
     GIST, or the file gist beside the folder that this package is in. PATH

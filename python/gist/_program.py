@@ -237,7 +237,7 @@ class Program:
         return data
 
     def _read(self, call: Call) -> bytes:
-        """Reads the answers of a call, and nothing behind them."""
+        """Reads the answers of a call, and nothing after them."""
         if call.is_search:
             return self._read_found(call)
         data = self._some(call)

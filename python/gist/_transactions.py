@@ -124,7 +124,7 @@ class Reader:
 
     def _result(self, line: bytes, expected: bytes,
                 place: Optional[int] = None) -> bytes:
-        """What an answer has behind a word; raises its refusal."""
+        """What an answer has after a word; raises its refusal."""
         mark = b"%d " % self._hold.session
         answer = line[2:] if line[:2] == mark else b""
         if answer.startswith(expected):
@@ -174,7 +174,7 @@ class Transaction(Reader):
 
         Up to 100 are written before their answers are read, which takes a
         fraction of the time of so many inserts. The first refusal is raised,
-        with its entry's place; entries behind it may have been added then.
+        with its entry's place; entries after it may have been added then.
         """
         return self._write_many("INSERT", b"inserted", entries)
 

@@ -150,7 +150,7 @@ class Moments(Case):
             self.assertEqual(t.number, 5)
 
     def test_commit_by_the_moment(self) -> None:
-        """The signal comes just before a call of the system, or behind it."""
+        """The signal comes just before a call of the system, or after it."""
         def interrupted(call: Callable[..., int], is_made: bool
                         ) -> Callable[..., int]:
             def instead(*words: object) -> int:

@@ -13,7 +13,7 @@ from typing import Callable, List
 import gist
 from tests import PLANE, PROGRAM, REPOSITORY, Case, box_of, entries, rows
 
-# Where the file's first ten pages end: no page behind them can be written.
+# Where the file's first ten pages end: no page after them can be written.
 TEN_PAGES = 512 * 16648 + 10 * 4096
 
 # A separate client, which is killed in the middle of a transaction.
