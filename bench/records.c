@@ -220,7 +220,7 @@ static bool read_mark(uint8_t byte, bool *mark) {
     return byte <= 1;
 }
 
-// Reads a record of one kind behind the byte for it. The bytes that it took with that byte, or 0.
+// Reads a record of one kind after the byte for it. The bytes that it took with that byte, or 0.
 static size_t read_record(const uint8_t *bytes, size_t left, size_t key, Record *record) {
     if (left == 0)
         return 0;

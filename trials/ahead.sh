@@ -48,7 +48,7 @@ is_refused() {
         [ "$(grep -c 'the record agrees: true$' out)" = 4 ] && [ "$(acknowledged)" -lt 160 ]
 }
 
-# Whether no sync was made behind the one that was refused, but for one that another thread had begun.
+# Whether no sync was made after the one that was refused, but for one that another thread had begun.
 ends_refused() { awk 'gone && /^(early|sync|fault)$/ { more++ } /^refused$/ { gone = 1 } END { exit !gone || more > 1 }' calls; }
 
 # Whether the file has all commits that were acknowledged, and one more of each session at most.

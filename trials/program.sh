@@ -302,7 +302,7 @@ holds "wrong arguments don't change the file" cmp -s places before
 on_file "wrong arguments for a new file" 2 "$nothing" "7 is not in 8..=65536" format new 7 4
 holds "wrong arguments make no file" [ ! -e new ]
 
-# Why a file can't be opened is written behind its name; nothing is made.
+# Why a file can't be opened is written after its name; nothing is made.
 missing="^gist: nowhere: no such file or directory$"
 on_file "a file that isn't there" 1 "$none" "$missing" run nowhere
 on_file "a file that isn't there, to be dumped" 1 "$none" "$missing" dump nowhere

@@ -188,7 +188,7 @@ def run(name, words, script, refused=0):
 
 
 def tell(name, words, ample, refused=0):
-    """Runs a command that reads nothing. Whether it was refused memory, perhaps behind a beginning of what it writes."""
+    """Runs a command that reads nothing. Whether it was refused memory, perhaps after a beginning of what it writes."""
     child = start(words, refused)
     status, text = end(child)
     if (status, text) == (0, ample):
