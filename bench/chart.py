@@ -16,7 +16,7 @@ BAR, BETWEEN = 9, 10
 
 
 def read(text):
-    """The names of the other indexes, and of each row its name and their ratios, none where a cell has no number."""
+    """The names of the other indexes, and of each row its name and their ratios, none if a cell has no number."""
     run = re.search(r"^\|Work\|gist, (?:in process, )?a second\|.*\n(?:\|.*\n?)+", text, re.M)
     if not run:
         sys.exit("there is no table of peers.sh")

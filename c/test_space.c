@@ -90,7 +90,7 @@ void space_many(void) {
     HOLDS(gist_verify(NULL, "space_many", &counts, NULL) == GIST_OK && counts.entries == 1099);
 }
 
-/* Calls of the wrong kind ask nothing, and leave the transaction as it was. */
+/* Calls of the wrong kind ask nothing, and leave the transaction unchanged. */
 void wrong_boxes(void) {
     gist_index *index = fresh("plane", 16, 4);
     const gist_entry *found;

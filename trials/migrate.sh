@@ -13,7 +13,7 @@ P
     cp "$top/trials/version1/$1.dump" tree
 }
 
-# KIND COMMITS USED: a file of this kind is migrated, stays as it is, and its tree is in the new file.
+# KIND COMMITS USED: a file of this kind is migrated, isn't changed, and its tree is in the new file.
 migrates() {
     unpack "$1"
     rm -f migrated

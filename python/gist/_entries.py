@@ -22,7 +22,7 @@ _new: Any = tuple.__new__
 class Box(NamedTuple):
     """A box with its edges, of 32-bit integers: x1 <= x2 and y1 <= y2.
 
-    Where a box is asked for, any four integers in this order will do.
+    If a box is asked for, any four integers in this order will do.
     """
 
     x1: int
@@ -102,7 +102,7 @@ def _blocks(lines: bytes) -> Iterator[bytes]:
 
 def _entries(lines: bytes, box: Type[AnyBox]
              ) -> List[Tuple[int, AnyBox]]:
-    """The entries of lines `S entry R` with a box's corners behind."""
+    """The entries of lines `S entry R` with a box's corners after it."""
     words = lines.split()
     step = 3 + len(box._fields)
     count = lines.count(b"\n")

@@ -66,8 +66,8 @@ def open(path: AnyPath, frames: Optional[int] = None,
     """Opens the index in a file; what a crash cut off is undone first.
 
     frames, 16 to 4096, is how many pages of 4,096 bytes are held in memory:
-    all pages of the index, where that many may be, unless a number is given.
-    program is the path of gist, where it isn't the one that the environment
+    all pages of the index, if that many may be, unless a number is given.
+    program is the path of gist, if it isn't the one that the environment
     variable GIST names, or the file gist beside this package's folder. wait
     is for how many seconds this tries again while another process has the
     file open; then it raises InUse. With embedded this process has the index
@@ -184,7 +184,7 @@ def _check(name: str, number: int, least: int, most: int) -> None:
 
 @contextmanager
 def _made(path: AnyPath, overwrite: bool) -> Iterator[None]:
-    """Makes a file where none exists; it goes again if what follows fails."""
+    """Makes a file if none exists; it goes again if what follows fails."""
     is_made = _make(path, overwrite)
     try:
         yield
@@ -199,7 +199,7 @@ def _made(path: AnyPath, overwrite: bool) -> Iterator[None]:
 
 
 def _make(path: AnyPath, overwrite: bool) -> bool:
-    """Makes a file where none exists, and returns whether it did."""
+    """Makes a file if none exists, and returns whether it did."""
     try:
         os.close(opened(path, os.O_RDWR | os.O_CREAT | os.O_EXCL))
         return True

@@ -29,7 +29,7 @@ _Kind = TypeVar("_Kind", bound=Reader)
 class Index:
     """An open index; `gist.open` opens one.
 
-    Threads may share it: each call is a whole by itself, one at a time, and
+    Threads may share it: each call is made as a whole, one at a time, and
     each thread makes its calls in transactions of its own.
     """
 
@@ -80,14 +80,14 @@ class Index:
 
     @property
     def dimensions(self) -> int:
-        """2 where its boxes are four numbers, as Box; 3 where they are six,
+        """2 if its boxes are four numbers, as Box; 3 if they are six,
         as Box3."""
         return self._kind.dimensions
 
     def transaction(self, wait: Optional[float] = 0.0) -> Transaction:
         """Begins a transaction in one of the sessions that are free.
 
-        Where none is free this waits for one, so many seconds at most, or
+        If none is free this waits for one, so many seconds at most, or
         as long as it takes (None); then it raises NoSession.
         """
         return self._begin(Transaction, wait)
@@ -99,7 +99,7 @@ class Index:
     def search(self, box: Sequence[int]) -> Hits:
         """Finds the entries whose box shares a point with this one.
 
-        It is a transaction of its own. Where another one is in the way, this
+        It is a transaction of its own. If another one is in the way, this
         tries again for five seconds, and then raises Busy.
         """
         return self.retry(lambda t: t.overlap(box), reading=True, tries=None,
@@ -136,7 +136,7 @@ class Index:
               within: Optional[float] = None) -> _Result:
         """Does work(transaction), commits, and returns what it returned.
 
-        Where another transaction is in the way (Busy), it is all given up and
+        If another transaction is in the way (Busy), it is all given up and
         done anew after a short pause: so many times in all, and for so many
         seconds; None is no bound. With reading, work is given a Reader.
         """

@@ -58,10 +58,10 @@ class Call:
         #: Where in all answers the answer of each search begins.
         self.heads: List[int] = []
         #: The front of the answers, and zeros. A read puts it here itself, so
-        #: that it is kept where the read is the last that is done.
+        #: that it is kept if the read is the last that is done.
         self.head = bytearray(64)
         #: All answers; of a call that was broken off the first line, or
-        #: nothing where it never reached the program.
+        #: nothing if it never reached the program.
         self.answer: Optional[bytes] = None
         #: The answers one by one, where the library in process gave them.
         self.answers: List[bytes] = []
@@ -151,7 +151,7 @@ class Program:
         self.alone(self._settle)
 
     def look(self) -> None:
-        """Raises Ended where the program has ended, noticed or not."""
+        """Raises Ended if the program has ended, noticed or not."""
         self._refuse_handlers()
         if self._why or self._process.poll() is not None:
             raise self.alone(self._reap)
@@ -159,7 +159,7 @@ class Program:
     def close(self, printed: bytes = b"") -> Optional[GistError]:
         """Ends the script, waits for the program and returns its fault.
 
-        What it printed last is given where that was read already. In a
+        What it printed last is given if that was read already. In a
         signal handler within a call of the same thread the program is ended
         at once, and the call raises Ended.
         """
@@ -240,7 +240,7 @@ class Program:
         return data
 
     def _read(self, call: Call) -> bytes:
-        """Reads the answers of a call, and nothing behind them."""
+        """Reads the answers of a call, and nothing after them."""
         if call.is_search:
             return self._read_found(call)
         data = self._some(call)
@@ -379,7 +379,7 @@ def _behind(lines: bytes, at: int, count: int, found: bytes
     """Where so many lines end, and how many of them are yet to come.
 
     Mostly they end in front of an answer that begins with found; so they are
-    counted up to there, and looked at one by one only where that fails.
+    counted up to there, and looked at one by one only if that fails.
     """
     end = lines.find(found, at) + 1 or len(lines)
     there = lines.count(b"\n", at, end)
@@ -391,7 +391,7 @@ def _behind(lines: bytes, at: int, count: int, found: bytes
 
 
 def _last_line(data: bytes) -> bytes:
-    """The last line of what was printed; nothing where it hasn't ended."""
+    """The last line of what was printed; nothing if it hasn't ended."""
     return data[data.rfind(b"\n", 0, -1) + 1:] if data[-1:] == b"\n" else b""
 
 

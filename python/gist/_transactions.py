@@ -130,7 +130,7 @@ class Reader:
 
     def _result(self, line: bytes, expected: bytes,
                 place: Optional[int] = None) -> bytes:
-        """What an answer has behind a word; raises its refusal."""
+        """What an answer has after a word; raises its refusal."""
         mark = b"%d " % self._hold.session
         answer = line[2:] if line[:2] == mark else b""
         if answer.startswith(expected):
@@ -156,8 +156,8 @@ class Transaction(Reader):
     """A transaction: its changes are kept as a whole, or not at all.
 
     `Index.transaction` begins one. At the end of a with block it is
-    committed, or given up where an exception leaves the block. A call that
-    is refused raises the refusal and changes nothing; where that is caught,
+    committed, or given up if an exception leaves the block. A call that
+    is refused raises the refusal and changes nothing; if that is caught,
     the transaction goes on. It is used by one thread at a time.
     """
 
@@ -180,7 +180,7 @@ class Transaction(Reader):
 
         Up to 100 are written before their answers are read, which takes a
         fraction of the time of so many inserts. The first refusal is raised,
-        with its entry's place; entries behind it may have been added then.
+        with its entry's place; entries after it may have been added then.
         """
         return self._write_many("INSERT", b"inserted", entries)
 
@@ -193,7 +193,7 @@ class Transaction(Reader):
         """Ends the transaction, keeps its changes and returns its number.
 
         When this returns, they are in the file and outlive a crash; when it
-        raises Device or Ended, they are kept whole or not at all. Where an
+        raises Device or Ended, they are kept whole or not at all. If an
         exception of another kind broke it off, as KeyboardInterrupt, call it
         again: it commits what wasn't committed, and returns the number.
         """
@@ -214,7 +214,7 @@ class Transaction(Reader):
     def abort(self) -> None:
         """Ends the transaction, and drops its changes.
 
-        Where a commit was broken off and yet made, this raises NoTransaction,
+        If a commit was broken off and yet made, this raises NoTransaction,
         and `number` is the commit's.
         """
         hold = self._hold

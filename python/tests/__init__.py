@@ -28,7 +28,7 @@ os.execv({program!r}, [{program!r}] + sys.argv[1:])
 
 
 def box_of(row: int) -> gist.Box:
-    """A box of its own for each row."""
+    """A different box for each row."""
     return gist.Box(10 * row, -row, 10 * row + 5, row)
 
 
