@@ -1,6 +1,3 @@
-mod Draining
-mod Numbers
 mod Stages
 mod Walks
 mod Words
-mod Writing
