@@ -13,21 +13,41 @@ ghost use Rattle.gx_recovery.specs.Known.{Limits};
 ghost use Rattle.gx_durable.specs.Calls.{StepKeepsRunning};
 ghost use Rattle.gx_durable.specs.Pages.{PageKeepsRunning};
 ghost use Rattle.gx_durable.specs.PoolLaws.{StaysUp};
-ghost use Rattle.gx_durable.specs.Steps.{told_frames};
-ghost use Rattle.gx_durable.specs.Turns.{TurnKeepsRunning, told_result};
+ghost use Rattle.gx_durable.specs.Steps.{told, told_frames};
+ghost use Rattle.gx_durable.specs.Turns.{TurnKeepsRunning, told_result, told_turn};
 ghost use Rattle.gx_store.specs.Faults.{CanBeRead};
 
 use crate::store::PageStore;
-use crate::test::NodeTest;
 use gx_class::KeyClass;
 use gx_disk::SectorDisk;
 use gx_durable::Spelled;
-use gx_durable::calls::{log_step, sync};
-use gx_durable::pages::write_page;
-use gx_durable::turn::turn_step;
 use gx_geom::Refusal;
 use gx_glog::{Glog, Stage, Turn};
 use gx_pool::{PageTest, Pool};
+
+// Notes the last batch in the pool, if its gate was synced.
+fn tell_pool<T: PageTest>(pool: &mut Pool<T>, stage: Stage, used: u8)
+    ensures frames { pool.new.frames ≡ told stage used pool.old.frames }
+    ensures test { pool.new.test ≡ pool.old.test }
+{
+    match stage {
+        Stage::GateSync => pool.gated(u64::from(used).saturating_sub(1)),
+        Stage::Body | Stage::BodySync | Stage::Gate | Stage::Idle => {}
+    }
+}
+
+// Notes in the pool that a turn has ended.
+fn tell_turned<T: PageTest>(pool: &mut Pool<T>, call: Turn)
+    requires { NoneDirty pool.old.frames }
+    ensures frames { pool.new.frames ≡ told_turn call pool.old.frames }
+    ensures test { pool.new.test ≡ pool.old.test }
+{
+    match call {
+        Turn::Done => pool.turned(),
+        Turn::Closed | Turn::Body | Turn::BodySync | Turn::Gate | Turn::GateSync | Turn::Selector =>
+            {}
+    }
+}
 
 impl<D: SectorDisk, K: KeyClass> PageStore<D, K> {
     /// How many frames are clean: empty, or with a clean page that the event doesn't hold.
@@ -75,7 +95,9 @@ impl<D: SectorDisk, K: KeyClass> PageStore<D, K> {
         ensures runs { (l : Limits) → StepKeepsRunning (M.known l) M.reading log.old log.new self.old.frames
             self.new.frames (D.state self.old.disk) (D.state self.new.disk) result }
     {
-        log_step::<M, NodeTest<K>, D>(log, &mut self.pool, &mut self.disk)
+        let stage = log.log_step(&mut self.disk)?;
+        tell_pool(&mut self.pool, stage, log.used());
+        Ok(stage)
     }
 
     /// Writes a page to its sectors if it has changes and all of them are in gated batches, and returns whether it did;
@@ -105,7 +127,7 @@ impl<D: SectorDisk, K: KeyClass> PageStore<D, K> {
         if page == 0 || page > self.used {
             return Ok(false);
         }
-        write_page::<M, NodeTest<K>, D>(&mut self.pool, &mut self.disk, page)
+        self.pool.write_page(&mut self.disk, page)
     }
 
     /// Makes all writes of the store's device durable. No page changes.
@@ -120,7 +142,8 @@ impl<D: SectorDisk, K: KeyClass> PageStore<D, K> {
         ensures up { (l : Limits) → StaysUp (M.known l) M.reading (D.state self.old.disk) (D.state self.new.disk) }
         ensures refusal { IfErr result (λ refusal. refusal ≡ Refusal.Device) }
     {
-        sync::<M, D>(&mut self.disk)
+        self.disk.sync()?;
+        Ok(())
     }
 
     /// Makes the next device call of a log's turn to the other extent; the frames learn of one that has ended. No page
@@ -144,6 +167,8 @@ impl<D: SectorDisk, K: KeyClass> PageStore<D, K> {
         ensures runs { (l : Limits) → TurnKeepsRunning (M.known l) M.reading log.old log.new self.old.frames
             self.new.frames (D.state self.old.disk) (D.state self.new.disk) result }
     {
-        turn_step::<M, NodeTest<K>, D>(log, &mut self.pool, &mut self.disk)
+        let call = log.turn_step(&mut self.disk)?;
+        tell_turned(&mut self.pool, call);
+        Ok(call)
     }
 }
