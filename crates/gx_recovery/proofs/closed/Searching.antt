@@ -1,5 +1,5 @@
 -- Numbers that rise, searched by halves.
-use Rattle.std.proofs.Common.{◌≡◌, ℕ, ◌<◌, ◌≤◌, Bool, true, false, ◌||◌, inl, inr, List, ◌∷◌, ◌++◌, length, get_or, refl, ap, sym, ◌∙◌, arith, insert, length-append}
+use Rattle.std.proofs.Common.{◌≡◌, ℕ, ◌<◌, ◌≤◌, Bool, true, false, ◌||◌, inl, inr, List, [], ◌∷◌, ◌++◌, length, get_or, refl, ap, sym, ◌∙◌, arith, insert, length-append, append-nil}
 use Rattle.std.specs.Prelude.{Result, Ok, Err, ◌==◌, nat_lt}
 use Rattle.std.specs.Result.{MatchResult}
 use Rattle.std.specs.List.Sorted.{IsNonDecreasing, IsBinarySearchResult, IsPermutation, IsSearchInRange}
@@ -75,11 +75,11 @@ closes_behind t xs ys zs one = record {
   count = omega (arith, length-append xs ys, length-append xs zs, one.count);
 }
 
--- and where all are then sorted
-pub closes_sorted : (t : ℕ) (xs ys zs all : List ℕ) → ClosesOne t ys zs → IsPermutation (xs ++ zs) all → ClosesOne t (xs ++ ys) all
-closes_sorted t xs ys zs all one same =
+-- and where all are then sorted, so that none is left
+pub closes_sorted : (t : ℕ) (xs ys zs all none : List ℕ) → ClosesOne t ys zs → IsPermutation (xs ++ zs) all → none ≡ [] → ClosesOne t (xs ++ ys) (all ++ none)
+closes_sorted t xs ys zs all none one same is =
     let behind = closes_behind t xs ys zs one in
-    record {
+    rw (is, append-nil) (record {
       has = λ u. sym (list_any-IsPermutation (λ v. v == u) (xs ++ zs) all same) ∙ behind.has u;
       count = length_permutation (xs ++ zs) all same ∙ behind.count;
-    }
+    })
