@@ -4,6 +4,7 @@ use Rattle.gx_node.specs.Reading.{format_of, is_node}
 use Rattle.gx_pool.specs.State.{State}
 use Rattle.gx_durable.specs.Turns.{told_result}
 use Rattle.gx_durable.proofs.Apart.{turn_apart}
+use Rattle.gx_durable.proofs.Opening.{first_turn}
 use Rattle.gx_durable.proofs.TurnRunning.{turn_runs, told_call}
 use Rattle.gx_store.specs.State.{IsInOrder, Shelf}
 use Rattle.gx_store.proofs.calls.Calling.{turn_in_order}
@@ -23,6 +24,13 @@ returns-in_err-call-clause-runs g c =
     rw (← c.self.view_is, p.1, p.2) (λ l. turn_runs (g.M.Meaning.known l) g.M.Spelled.reading c.args.log.now c.turn_step.new.self i.pool.frames i.pool.frames
     (g.D.SectorDisk.state i.disk) (g.D.SectorDisk.state c.turn_step.new.disk) _ refl
     c.in_err-call.ensures.counts c.requires.idle clean c.in_err-call.ensures.turns c.in_err-call.ensures.call c.in_err-call.ensures.keeps)
+
+pub returns-in_err-call-clause-found : goal.returns-in_err-call-clause-found
+returns-in_err-call-clause-found g c =
+    let p = err_from_is_err_and c.from_residual.result c.from_residual.ensures.1 in
+    rw (← c.self.view_is, p.1, p.2) (λ l. first_turn (g.M.Meaning.known l) g.M.Spelled.reading c.args.log.now c.turn_step.new.self
+    (g.D.SectorDisk.state c.self.inside.disk) (g.D.SectorDisk.state c.turn_step.new.disk) _
+    c.in_err-call.ensures.counts c.in_err-call.ensures.turns c.in_err-call.ensures.call c.in_err-call.ensures.may_turn)
 
 pub returns-in_err-call-clause-pages : goal.returns-in_err-call-clause-pages
 returns-in_err-call-clause-pages g c =
@@ -51,6 +59,12 @@ returns-clause-runs g c =
     rw (← c.self.view_is) (λ l. turn_runs (g.M.Meaning.known l) g.M.Spelled.reading c.args.log.now c.turn_step.new.self i.pool.frames _
     (g.D.SectorDisk.state i.disk) (g.D.SectorDisk.state c.turn_step.new.disk) _ (told_call _ i.pool.frames _ c.tell_turned.ensures.frames)
     c.in_ok-call.ensures.counts c.requires.idle clean c.in_ok-call.ensures.turns c.in_ok-call.ensures.call c.in_ok-call.ensures.keeps)
+
+pub returns-clause-found : goal.returns-clause-found
+returns-clause-found g c =
+    rw (← c.self.view_is) (λ l. first_turn (g.M.Meaning.known l) g.M.Spelled.reading c.args.log.now c.turn_step.new.self
+    (g.D.SectorDisk.state c.self.inside.disk) (g.D.SectorDisk.state c.turn_step.new.disk) _
+    c.in_ok-call.ensures.counts c.in_ok-call.ensures.turns c.in_ok-call.ensures.call c.in_ok-call.ensures.may_turn)
 
 pub returns-clause-pages : goal.returns-clause-pages
 returns-clause-pages g c =

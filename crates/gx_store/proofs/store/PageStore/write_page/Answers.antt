@@ -46,8 +46,8 @@ returns-then-page-eq0-clause-runs g c =
 pub invariant_of-self : goal.invariant_of-self
 invariant_of-self g c =
     let i = c.self.inside in
-    let P : ℕ → Type 0 = λ n. IsPassed (is_node (format_of g.K.KeyClass) n) i.pool.frames → IsPassed (is_node (format_of g.K.KeyClass) n) c.write_page.new.pool.frames in (
-      write_in_order (is_node (format_of g.K.KeyClass) i.pages) (g.D.SectorDisk.state i.disk).sectors _ i.used i.pages c.args.page _ _ i.pool.frames c.write_page.new.pool.frames
+    let P : ℕ → Type 0 = λ n. IsPassed (is_node (format_of g.K.KeyClass) n) i.pool.frames → IsPassed (is_node (format_of g.K.KeyClass) n) c.write_page.new.self.frames in (
+      write_in_order (is_node (format_of g.K.KeyClass) i.pages) (g.D.SectorDisk.state i.disk).sectors _ i.used i.pages c.args.page _ _ i.pool.frames c.write_page.new.self.frames
           c.write_page.ensures.device.0 c.self.invariant.0 (subst P c.self.invariant.1 c.write_page.ensures.passing) c.write_page.ensures.at_most,
       rw c.write_page.ensures.test c.self.invariant.1,
     )
@@ -64,7 +64,7 @@ returns-clause-readable g c =
     let d = g.D.SectorDisk.state i.disk in
     let e = g.D.SectorDisk.state c.write_page.new.disk in
     let f = format_of g.K.KeyClass in
-    let R : ℕ → Type 0 = λ n. (used : ℕ → Bool) → d.honest ≡ true → IsReadable (is_node f n) used i.pool.frames d.seen → IsReadable (is_node f n) used c.write_page.new.pool.frames e.seen in
+    let R : ℕ → Type 0 = λ n. (used : ℕ → Bool) → d.honest ≡ true → IsReadable (is_node f n) used i.pool.frames d.seen → IsReadable (is_node f n) used c.write_page.new.self.frames e.seen in
     let keeps = subst R c.self.invariant.1 c.write_page.ensures.readable in
     rw (← c.self.view_is) (keeps (is_taken i.used))
 
