@@ -21,7 +21,7 @@ use crate::Storage;
 use gx_class::ReadKeys;
 use gx_disk::SectorDisk;
 use gx_durable::OfClass;
-use gx_durable::turn::put_first;
+use gx_durable::calls::put_first;
 use gx_geom::Refusal;
 use gx_glog::{Appended, Stage, Turn};
 use gx_record::Record;

@@ -1,6 +1,6 @@
 use Rattle.gx_record.specs.Seen.{rec_of}
 use Rattle.gx_durable.proofs.TurnRunning.{head_grows, head_up, head_found}
-use Rattle.gx_durable.proofs.turn.put_first.Goals as goal
+use Rattle.gx_durable.proofs.calls.put_first.Goals as goal
 
 pub returns-clause-head : goal.returns-clause-head
 returns-clause-head g c = head_grows g.M.Spelled.reading (rec_of c.args.logged.now) c.args.log.now _ c.put_first.result c.requires.in_range c.put_first.ensures.puts
