@@ -1,4 +1,5 @@
 mod Draining
+mod Ending
 mod Numbers
 mod Stages
 mod Walks
