@@ -1,4 +1,4 @@
-use Rattle.std.proofs.Common.{refl}
+use Rattle.std.proofs.Common.{false, refl}
 use Rattle.gx_restart.proofs.Alone.{runs_same, steps_run}
 use Rattle.gx_restart.proofs.index.Index.step.Goals as goal
 
