@@ -1,7 +1,3 @@
-mod Draining
-mod Ending
-mod Numbers
 mod Stages
 mod Walks
 mod Words
-mod Writing

@@ -9,7 +9,7 @@ use base.Logic.{SProp, ent, sep, emp, ex, id⊢}
 use prog.Routine.{Env}
 use prog.Wired.{Wired}
 use types.Logic.{Logic, sem}
-use types.Kit.{‵, raw, ◌⊛◌, some, later, ◌$◌, ◌∵◌, !, qed, move, keep, use0, use1, split, split3, join, fjoin, pick, show, frame, updating, await, now, done}
+use types.Kit.{‵, raw, ◌⊛◌, some, later, ◌$◌, ◌∵◌, !, qed, move, keep, use0, use1, split, join, fjoin, pick, show, frame, updating, await, now, done}
 use contract.BorrowLft.{◌⊑◌, ⊑_static}
 use contract.Monad.{fact, fact_i}
 use denote.Param.{layout}

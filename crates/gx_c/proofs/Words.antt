@@ -5,14 +5,13 @@ use seplogic.Ra.Ura.{Ura}
 use lib.Dec.{T}
 use mir.Syntax.{Ty, ty_ptr, ty_struct, ty_unit, tnil, tcons}
 use mir.Val.{Val, vstruct, vcons, vnil, has_ty, WT}
-use base.Fml.{Fml}
 use base.Logic.{ent, sep}
 use types.Logic.{Logic, sem}
 use types.Kit.{‵, ◌$◌, ◌∵◌, !, qed, move, keep, drop, fsplit, fpick, fpack, feq_i, fjoin, rewrite, done}
 use denote.Builtin.{RawPtr}
 use denote.Exit.{no}
 use denote.Laws.{Is, Tells, Lawful, shows}
-use denote.Param.{arg, layout, param}
+use denote.Param.{arg}
 use denote.Param.Laws.{Laws, arg_laws, row_laws}
 use denote.RattleType.{RattleType, Valss, owns}
 use denote.RawPtr.{Ptr, block_ptr, null_ptr, ptr_val}

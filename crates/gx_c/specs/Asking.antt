@@ -1,5 +1,5 @@
 -- What a session's call of an open index does, and what C is told of its reply.
-use Rattle.std.specs.Prelude.{◌≡◌, ◌-◌, ℕ, true, false, List, [], slice_set, Option, None, Some, Result, Ok, Err, if◌then◌else◌, OnOk}
+use Rattle.std.specs.Prelude.{◌≡◌, ◌-◌, ℕ, List, [], slice_set, Option, None, Some, Result, Ok, Err, if◌then◌else◌, OnOk}
 use Rattle.std.specs.List.{slice_index_or}
 use Rattle.gx_class.specs.Traits.{Traits}
 use Rattle.gx_disk.specs.Device.{Device}
@@ -28,7 +28,6 @@ use Rattle.gx_c.specs.Sent.{IsBoxOf, IsSolidOf, IsTold, IsUntold, query_of, sent
 use Rattle.gx_c.specs.States.{Opened}
 use Rattle.gx_c.specs.Statuses.{number_in, refused, replied, resulted}
 use Rattle.gx_c.specs.Stages.{NOTHING, OfOpen, OfPlane, OfSpace}
-use Rattle.gx_c.specs.Waiting.{disk_of}
 use Rattle.gx_c.specs.declared.entries.Writing.{Writing}
 use Rattle.gx_c.specs.declared.entries.Writing.TheVariants as writing
 use Rattle.gx_c.specs.declared.sent.SentBox.{SentBox}

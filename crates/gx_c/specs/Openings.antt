@@ -1,5 +1,5 @@
 -- An index that is opened over a handle's device, and closed again.
-use Rattle.std.specs.Prelude.{◌≡◌, ◌≤◌, ◌<◌, ◌⊎◌, ℕ, true, false, List, [], replicate, Result, Ok, Err, IfErr, IfOk, MatchResult, OnOk}
+use Rattle.std.specs.Prelude.{◌≡◌, ◌≤◌, ◌<◌, ◌⊎◌, ℕ, true, false, [], replicate, Result, Ok, Err, IfErr, IfOk, MatchResult, OnOk}
 use Rattle.gx_class.specs.Traits.{Traits}
 use Rattle.gx_disk.specs.declared.layout.TheConstants.{LEAST_SECTORS}
 use Rattle.gx_disk.specs.Device as disk
@@ -25,7 +25,6 @@ use Rattle.gx_c.specs.Bytes.{LacksMemory}
 use Rattle.gx_c.specs.States.{Opened}
 use Rattle.gx_c.specs.Stages.{IsUndone}
 use Rattle.gx_c.specs.Statuses.{refused, resulted}
-use Rattle.gx_c.specs.Waiting.{disk_of}
 use Rattle.gx_c.specs.declared.held.Stage.{Stage}
 use Rattle.gx_c.specs.declared.held.Stage.TheVariants.{Device, Plane, Space}
 

@@ -1,5 +1,5 @@
 -- What a handle has, before and after a call.
-use Rattle.std.specs.Prelude.{◌≡◌, ℕ, Option, None, Some}
+use Rattle.std.specs.Prelude.{◌≡◌, ℕ, Option, Some}
 use Rattle.gx_geom.specs.Rectangles.{Rectangle}
 use Rattle.gx_geom.specs.Solids.{Solid}
 use Rattle.gx_queue_disk.specs.declared.disk.QueueDisk.{QueueDisk}

@@ -7,7 +7,6 @@ use crate::held::Stage;
 use crate::status::{MEMORY, NOTHING};
 use gx_queue_disk::{Image, QueueDisk};
 use std::alloc::Global;
-use std::mem;
 
 // Begins bytes, with room for so many.
 fn reserve(alloc: Global, stage: &mut Stage, size: usize) -> u16
@@ -16,7 +15,7 @@ fn reserve(alloc: Global, stage: &mut Stage, size: usize) -> u16
     match stage {
         Stage::Empty => match Image::with_capacity(alloc, size) {
             Ok(image) => {
-                *stage = Stage::Bytes(image);
+                stage.put(Stage::Bytes(image));
                 0
             }
             Err(_) => MEMORY,
@@ -42,13 +41,13 @@ fn append(stage: &mut Stage, bytes: &[u8]) -> u16
 fn device(alloc: Global, stage: &mut Stage) -> u16
     ensures { MakesDevice stage.old stage.new result }
 {
-    match mem::replace(stage, Stage::Empty) {
+    match stage.take() {
         Stage::Bytes(image) => {
-            *stage = Stage::Device(QueueDisk::new(alloc, image));
+            stage.put(Stage::Device(QueueDisk::new(alloc, image)));
             0
         }
         other => {
-            *stage = other;
+            stage.put(other);
             NOTHING
         }
     }
@@ -56,7 +55,6 @@ fn device(alloc: Global, stage: &mut Stage) -> u16
 
 /// Begins the bytes of a device, with room for so many. The status is 10 if there is no memory for them, and 18 if
 /// bytes have come already; nothing is done then.
-#[tactic(auto, using(crate::proofs::Stages::of_stage))]
 #[unsafe(no_mangle)]
 pub extern "C" fn gx_c_reserve(alloc: Global, handle: &mut Handle, size: usize) -> u16
     requires { IsCreated handle.old.held }
@@ -70,7 +68,6 @@ pub extern "C" fn gx_c_reserve(alloc: Global, handle: &mut Handle, size: usize) 
 
 /// Adds bytes of the device behind those that came before. The status is 10 if there is no room and no memory for
 /// them, and 18 if none were begun or the device is made; nothing is done then.
-#[tactic(auto, using(crate::proofs::Stages::of_stage))]
 #[unsafe(no_mangle)]
 pub extern "C" fn gx_c_append(alloc: Global, handle: &mut Handle, bytes: &[u8]) -> u16
     requires { IsCreated handle.old.held }
@@ -83,7 +80,6 @@ pub extern "C" fn gx_c_append(alloc: Global, handle: &mut Handle, bytes: &[u8]) 
 }
 
 /// Makes a device of the whole sectors of the bytes that came. The status is 18 if none were begun or it is made.
-#[tactic(auto, using(crate::proofs::Stages::of_stage))]
 #[unsafe(no_mangle)]
 pub extern "C" fn gx_c_device(alloc: Global, handle: &mut Handle) -> u16
     requires { IsCreated handle.old.held }

@@ -1,5 +1,5 @@
 //! Tells the calls of a handle's device, so that C makes them of its file.
-ghost use Rattle.std.specs.Prelude.{◌≡◌, ◌++◌, []};
+ghost use Rattle.std.specs.Prelude.{◌≡◌, ◌≢◌, [], true, false};
 ghost use Rattle.gx_c.specs.Stages.{IsCreated, OfHeld};
 ghost use Rattle.gx_c.specs.Waiting.{DrainsOpen, DrainsStage, Puts, Rests, Tells, TellsNext, waiting};
 
@@ -51,6 +51,14 @@ fn drain(stage: &mut Stage, calls: &mut CallQueue)
     }
 }
 
+// Whether calls are left of those that were drained.
+fn is_left(calls: &CallQueue) -> bool
+    ensures some { result ≡ true → calls.now ≢ [] }
+    ensures none { result ≡ false → calls.now ≡ [] }
+{
+    calls.front().is_some()
+}
+
 // Drains the queue if all that was drained before was taken.
 fn refill(held: &mut Held)
     ensures same { waiting held.new ≡ waiting held.old }
@@ -58,7 +66,7 @@ fn refill(held: &mut Held)
     ensures rests { Rests ⟦<Box2 as Shape>⟧ ⟦<Box2Class as ReadKeys>⟧ ⟦<Box3 as Shape>⟧ ⟦<Box3Class as ReadKeys>⟧
         ⟦<QueueDisk as SectorDisk>⟧.state held.old held.new }
 {
-    if held.calls.front().is_some() {
+    if is_left(&held.calls) {
         return;
     }
     drain(&mut held.stage, &mut held.calls);
@@ -123,7 +131,6 @@ fn tell_next(held: &mut Held, call: &mut SentCall, bytes: &mut [u8]) -> u16
 /// the writes and syncs of a device are told in the order in which it made them, each once, with its bytes, and none
 /// besides. Nothing of the index changes. The status is 18 if the bytes of a write have no room, which has to be
 /// `size`; the call is not taken then.
-#[tactic(auto, using(crate::proofs::Stages::of_held))]
 #[unsafe(no_mangle)]
 pub extern "C" fn gx_c_next(
     alloc: Global,

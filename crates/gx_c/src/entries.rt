@@ -91,7 +91,6 @@ fn write_space(stage: &mut Stage, session: u8, writing: Writing, row: u64, key: 
 
 /// Adds an entry of the plane. The status is 6 if the box's corners are reversed, and 18 if no index of the plane is
 /// open.
-#[tactic(auto, using(crate::proofs::Stages::of_stage))]
 #[unsafe(no_mangle)]
 pub extern "C" fn gx_c_insert(
     alloc: Global,
@@ -112,7 +111,6 @@ pub extern "C" fn gx_c_insert(
 
 /// Takes an entry of the plane away. The status is 6 if the box's corners are reversed, and 18 if no index of the plane
 /// is open.
-#[tactic(auto, using(crate::proofs::Stages::of_stage))]
 #[unsafe(no_mangle)]
 pub extern "C" fn gx_c_delete(
     alloc: Global,
@@ -132,7 +130,6 @@ pub extern "C" fn gx_c_delete(
 }
 
 /// Adds an entry of space. The status is 6 if the box's corners are reversed, and 18 if no index of space is open.
-#[tactic(auto, using(crate::proofs::Stages::of_stage))]
 #[unsafe(no_mangle)]
 pub extern "C" fn gx_c_insert3(
     alloc: Global,
@@ -153,7 +150,6 @@ pub extern "C" fn gx_c_insert3(
 
 /// Takes an entry of space away. The status is 6 if the box's corners are reversed, and 18 if no index of space is
 /// open.
-#[tactic(auto, using(crate::proofs::Stages::of_stage))]
 #[unsafe(no_mangle)]
 pub extern "C" fn gx_c_delete3(
     alloc: Global,

@@ -209,7 +209,6 @@ fn step(stage: &mut Stage, event: &SentEvent, outcome: &mut SentOutcome) -> u16
 ///
 /// After help the event that it names has to come first; after any other outcome but a reply the call goes on by its
 /// session's next move.
-#[tactic(auto, using(crate::proofs::Stages::of_stage))]
 #[unsafe(no_mangle)]
 pub extern "C" fn gx_c_step(
     alloc: Global,

@@ -58,7 +58,6 @@ fn class_at(stage: &mut Stage, class: &mut u16) -> u16
 
 /// Tells the class of keys that the device is formatted for: 1, boxes of the plane; 2, intervals; 3, boxes of space.
 /// The refusals of `gx_restart::class_of`; and 18 if there is no device, or an index is open.
-#[tactic(auto, using(crate::proofs::Stages::of_stage))]
 #[unsafe(no_mangle)]
 pub extern "C" fn gx_c_class(alloc: Global, handle: &mut Handle, class: &mut u16) -> u16
     requires { IsCreated handle.old.held }
@@ -74,7 +73,6 @@ pub extern "C" fn gx_c_class(alloc: Global, handle: &mut Handle, class: &mut u16
 
 /// Lays a new index of boxes of the plane down on the device. The refusals of `gx_format::format`; and 18 if there is
 /// no device, or an index is open.
-#[tactic(auto, using(crate::proofs::Stages::of_stage))]
 #[unsafe(no_mangle)]
 pub extern "C" fn gx_c_format(alloc: Global, handle: &mut Handle, pages: u32, most: u16) -> u16
     requires { IsCreated handle.old.held }
@@ -88,7 +86,6 @@ pub extern "C" fn gx_c_format(alloc: Global, handle: &mut Handle, pages: u32, mo
 }
 
 /// Lays a new index of boxes of space down on the device, as `gx_c_format` does one of the plane.
-#[tactic(auto, using(crate::proofs::Stages::of_stage))]
 #[unsafe(no_mangle)]
 pub extern "C" fn gx_c_format3(alloc: Global, handle: &mut Handle, pages: u32, most: u16) -> u16
     requires { IsCreated handle.old.held }

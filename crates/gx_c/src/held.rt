@@ -1,7 +1,10 @@
 //! What a handle has.
+ghost use Rattle.std.specs.Prelude.{◌≡◌};
+
 use crate::opened::Open;
 use gx_class::{Box2Class, Box3Class};
 use gx_queue_disk::{CallQueue, Image, QueueDisk};
+use std::mem;
 
 /// What is made of a handle's bytes.
 #[derive(Drop)]
@@ -16,6 +19,23 @@ pub(crate) enum Stage {
     Plane(Open<Box2Class>),
     /// An open index of boxes of space.
     Space(Open<Box3Class>),
+}
+
+impl Stage {
+    /// What is made of the bytes so far. The stage is empty then.
+    pub(crate) fn take(&mut self) -> Stage
+        ensures had { result ≡ self.old }
+        ensures left { self.new ≡ Stage.Empty }
+    {
+        mem::replace(self, Stage::Empty)
+    }
+
+    /// Puts another stage in the place of this one.
+    pub(crate) fn put(&mut self, stage: Stage)
+        ensures { self.new ≡ stage }
+    {
+        drop(mem::replace(self, stage));
+    }
 }
 
 /// What a handle has.

@@ -15,7 +15,6 @@ use gx_geom::{Box2, Box3, Shape};
 use gx_queue_disk::QueueDisk;
 use gx_restart::open;
 use std::alloc::Global;
-use std::mem;
 
 // Opens a device for a class of keys. What is left of it, if that is refused.
 fn opened<K: ReadKeys + Probing>(
@@ -33,28 +32,51 @@ fn opened<K: ReadKeys + Probing>(
     }
 }
 
+// The index of boxes of the plane that a device is opened as; or what is left of the device, if that is refused.
+fn plane_of(alloc: Global, disk: QueueDisk, frames: usize) -> (Stage, u16)
+    ensures { OpensPlane (OpensAs ⟦<Box2 as Shape>⟧ ⟦<Box2Class as ReadKeys>⟧ ⟦<QueueDisk as SectorDisk>⟧.state
+        frames) (Stage.Device disk) result.0 result.1 }
+{
+    let Ok(found) = none_found(alloc) else {
+        return (Stage::Device(disk), MEMORY);
+    };
+    let (left, status) = opened::<Box2Class>(alloc, disk, found, frames);
+    match left {
+        Ok(open) => (Stage::Plane(open), status),
+        Err(disk) => (Stage::Device(disk), status),
+    }
+}
+
 // Opens an index of boxes of the plane.
 fn open_plane(alloc: Global, stage: &mut Stage, frames: usize) -> u16
     ensures { OpensPlane (OpensAs ⟦<Box2 as Shape>⟧ ⟦<Box2Class as ReadKeys>⟧ ⟦<QueueDisk as SectorDisk>⟧.state
         frames) stage.old stage.new result }
 {
-    match mem::replace(stage, Stage::Empty) {
+    match stage.take() {
         Stage::Device(disk) => {
-            let Ok(found) = none_found(alloc) else {
-                *stage = Stage::Device(disk);
-                return MEMORY;
-            };
-            let (left, status) = opened::<Box2Class>(alloc, disk, found, frames);
-            *stage = match left {
-                Ok(open) => Stage::Plane(open),
-                Err(disk) => Stage::Device(disk),
-            };
+            let (left, status) = plane_of(alloc, disk, frames);
+            stage.put(left);
             status
         }
         other => {
-            *stage = other;
+            stage.put(other);
             NOTHING
         }
+    }
+}
+
+// The index of boxes of space that a device is opened as; or what is left of the device, if that is refused.
+fn space_of(alloc: Global, disk: QueueDisk, frames: usize) -> (Stage, u16)
+    ensures { OpensSpace (OpensAs ⟦<Box3 as Shape>⟧ ⟦<Box3Class as ReadKeys>⟧ ⟦<QueueDisk as SectorDisk>⟧.state
+        frames) (Stage.Device disk) result.0 result.1 }
+{
+    let Ok(found) = none_found(alloc) else {
+        return (Stage::Device(disk), MEMORY);
+    };
+    let (left, status) = opened::<Box3Class>(alloc, disk, found, frames);
+    match left {
+        Ok(open) => (Stage::Space(open), status),
+        Err(disk) => (Stage::Device(disk), status),
     }
 }
 
@@ -63,21 +85,14 @@ fn open_space(alloc: Global, stage: &mut Stage, frames: usize) -> u16
     ensures { OpensSpace (OpensAs ⟦<Box3 as Shape>⟧ ⟦<Box3Class as ReadKeys>⟧ ⟦<QueueDisk as SectorDisk>⟧.state
         frames) stage.old stage.new result }
 {
-    match mem::replace(stage, Stage::Empty) {
+    match stage.take() {
         Stage::Device(disk) => {
-            let Ok(found) = none_found(alloc) else {
-                *stage = Stage::Device(disk);
-                return MEMORY;
-            };
-            let (left, status) = opened::<Box3Class>(alloc, disk, found, frames);
-            *stage = match left {
-                Ok(open) => Stage::Space(open),
-                Err(disk) => Stage::Device(disk),
-            };
+            let (left, status) = space_of(alloc, disk, frames);
+            stage.put(left);
             status
         }
         other => {
-            *stage = other;
+            stage.put(other);
             NOTHING
         }
     }
@@ -109,19 +124,19 @@ fn close(stage: &mut Stage) -> u16
     ensures { ClosesEach ⟦<Box2 as Shape>⟧ ⟦<Box2Class as ReadKeys>⟧ ⟦<Box3 as Shape>⟧ ⟦<Box3Class as ReadKeys>⟧
         ⟦<QueueDisk as SectorDisk>⟧.state stage.old stage.new result }
 {
-    match mem::replace(stage, Stage::Empty) {
+    match stage.take() {
         Stage::Plane(open) => {
             let (disk, status) = closed(open);
-            *stage = Stage::Device(disk);
+            stage.put(Stage::Device(disk));
             status
         }
         Stage::Space(open) => {
             let (disk, status) = closed(open);
-            *stage = Stage::Device(disk);
+            stage.put(Stage::Device(disk));
             status
         }
         other => {
-            *stage = other;
+            stage.put(other);
             NOTHING
         }
     }
@@ -129,7 +144,6 @@ fn close(stage: &mut Stage) -> u16
 
 /// Opens the index of boxes of the plane on the device, with so many frames for pages, 16 to 4,096. The refusals of
 /// `gx_restart::open`, with the device as the calls left it; and 18 if there is no device, or an index is open.
-#[tactic(auto, using(crate::proofs::Stages::of_stage))]
 #[unsafe(no_mangle)]
 pub extern "C" fn gx_c_open(alloc: Global, handle: &mut Handle, frames: usize) -> u16
     requires { IsCreated handle.old.held }
@@ -143,7 +157,6 @@ pub extern "C" fn gx_c_open(alloc: Global, handle: &mut Handle, frames: usize) -
 }
 
 /// Opens the index of boxes of space on the device, as `gx_c_open` does one of the plane.
-#[tactic(auto, using(crate::proofs::Stages::of_stage))]
 #[unsafe(no_mangle)]
 pub extern "C" fn gx_c_open3(alloc: Global, handle: &mut Handle, frames: usize) -> u16
     requires { IsCreated handle.old.held }
@@ -157,7 +170,6 @@ pub extern "C" fn gx_c_open3(alloc: Global, handle: &mut Handle, frames: usize) 
 }
 
 /// Gates all that is logged: the refusals of `Index::settle`, and 18 if no index is open.
-#[tactic(auto, using(crate::proofs::Stages::of_stage))]
 #[unsafe(no_mangle)]
 pub extern "C" fn gx_c_settle(alloc: Global, handle: &mut Handle) -> u16
     requires { IsCreated handle.old.held }
@@ -172,7 +184,6 @@ pub extern "C" fn gx_c_settle(alloc: Global, handle: &mut Handle) -> u16
 
 /// Gates all that is logged and closes the index, whatever the status: that of `gx_c_settle`. Its device is left, with
 /// the calls that C has not had.
-#[tactic(auto, using(crate::proofs::Stages::of_stage))]
 #[unsafe(no_mangle)]
 pub extern "C" fn gx_c_close(alloc: Global, handle: &mut Handle) -> u16
     requires { IsCreated handle.old.held }

@@ -219,7 +219,6 @@ fn search_space(
 /// tells as many as there are places for. The others are kept for `gx_c_more`, until the session's next search. The
 /// count says how many were found and how many are told; both are 0 unless the status is 0. The status is 6 if the
 /// box's corners are reversed, and 18 if the kind is none of these or no index of the plane is open.
-#[tactic(auto, using(crate::proofs::Stages::of_stage))]
 #[unsafe(no_mangle)]
 pub extern "C" fn gx_c_search(
     alloc: Global,
@@ -243,7 +242,6 @@ pub extern "C" fn gx_c_search(
 }
 
 /// Finds entries of space, as `gx_c_search` does in the plane.
-#[tactic(auto, using(crate::proofs::Stages::of_stage))]
 #[unsafe(no_mangle)]
 pub extern "C" fn gx_c_search3(
     alloc: Global,
@@ -312,7 +310,6 @@ fn more_of_space(
 
 /// Tells more of what a session's last search of the plane found. The count says how many weren't told yet, and how
 /// many are now.
-#[tactic(auto, using(crate::proofs::Stages::of_stage))]
 #[unsafe(no_mangle)]
 pub extern "C" fn gx_c_more(
     alloc: Global,
@@ -333,7 +330,6 @@ pub extern "C" fn gx_c_more(
 }
 
 /// Tells more of what a session's last search of space found, as `gx_c_more` does in the plane.
-#[tactic(auto, using(crate::proofs::Stages::of_stage))]
 #[unsafe(no_mangle)]
 pub extern "C" fn gx_c_more3(
     alloc: Global,

@@ -58,7 +58,6 @@ fn commit(stage: &mut Stage, session: u8, number: &mut u64) -> u16
 }
 
 /// Begins a session's transaction.
-#[tactic(auto, using(crate::proofs::Stages::of_stage))]
 #[unsafe(no_mangle)]
 pub extern "C" fn gx_c_begin(alloc: Global, handle: &mut Handle, session: u8) -> u16
     requires { IsCreated handle.old.held }
@@ -73,7 +72,6 @@ pub extern "C" fn gx_c_begin(alloc: Global, handle: &mut Handle, session: u8) ->
 }
 
 /// Ends a session's transaction and drops its changes.
-#[tactic(auto, using(crate::proofs::Stages::of_stage))]
 #[unsafe(no_mangle)]
 pub extern "C" fn gx_c_abort(alloc: Global, handle: &mut Handle, session: u8) -> u16
     requires { IsCreated handle.old.held }
@@ -89,7 +87,6 @@ pub extern "C" fn gx_c_abort(alloc: Global, handle: &mut Handle, session: u8) ->
 
 /// Ends a session's transaction and keeps its changes, under the number that is written. They are in C's file once C
 /// has made the calls that wait.
-#[tactic(auto, using(crate::proofs::Stages::of_stage))]
 #[unsafe(no_mangle)]
 pub extern "C" fn gx_c_commit(
     alloc: Global,

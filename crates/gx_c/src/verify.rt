@@ -65,7 +65,6 @@ fn verify_stage<K: ReadKeys + Probing>(
 
 /// Verifies the device as an index of boxes of the plane, with so many frames for pages, in a copy of it: no write and
 /// no sync is made. The refusals of `gx_restart::verify`; and 18 if there is no device, or an index is open.
-#[tactic(auto, using(crate::proofs::Stages::of_stage))]
 #[unsafe(no_mangle)]
 pub extern "C" fn gx_c_verify(
     alloc: Global,
@@ -85,7 +84,6 @@ pub extern "C" fn gx_c_verify(
 }
 
 /// Verifies the device as an index of boxes of space, as `gx_c_verify` does as one of the plane.
-#[tactic(auto, using(crate::proofs::Stages::of_stage))]
 #[unsafe(no_mangle)]
 pub extern "C" fn gx_c_verify3(
     alloc: Global,

@@ -1,5 +1,5 @@
-use Rattle.std.proofs.Common.{drop, refl}
-use Rattle.gx_c.proofs.Draining.{tells_put}
+use Rattle.std.proofs.Common.{refl}
+use Rattle.gx_c.proofs.drain.Draining.{tells_put}
 use Rattle.gx_c.proofs.drain.tell.Goals as goal
 
 pub returns-then-status-ne0 : goal.returns-then-status-ne0

@@ -1,7 +1,7 @@
 use Rattle.std.proofs.Common.{◌++◌, ◌∙◌, List, ap, subst, sym}
 use Rattle.gx_queue_disk.specs.Calls.{Call}
 use Rattle.gx_c.specs.Waiting.{Tells, queued_in}
-use Rattle.gx_c.proofs.Draining.{tells_all}
+use Rattle.gx_c.proofs.drain.Draining.{tells_all}
 use Rattle.gx_c.proofs.drain.tell_next.Goals as goal
 
 pub returns : goal.returns

@@ -1,6 +1,6 @@
 use Rattle.std.proofs.Common.{◌∙◌, arith, length-set}
 use Rattle.gx_c.specs.Sent.{sent_entry}
-use Rattle.gx_c.proofs.Writing.{written_more}
+use Rattle.gx_c.proofs.told.Writing.{written_more}
 use Rattle.gx_c.proofs.told.write_boxes.Goals as goal
 
 pub loop-place-preserved : goal.loop-place-preserved

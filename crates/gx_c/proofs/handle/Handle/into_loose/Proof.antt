@@ -2,7 +2,7 @@
 use Rattle.std.proofs.Common.{◌≡◌, List, [], ◌∷◌, refl}
 use mir.Val.{Val}
 use base.Fml.{ftrue}
-use base.Logic.{ent, sep}
+use base.Logic.{ent}
 use seplogic.Ra.Ura.{Ura}
 use types.Logic.{Logic, sem}
 use types.Kit.{‵, raw, ◌⊛◌, ◌$◌, ◌∵◌, !, qed, by, move, drop, keep, split, fsplit, suffices, use1, use2, rewrite, done}

@@ -2,24 +2,21 @@
 use Rattle.std.proofs.Common.{List, [], ◌∷◌, refl}
 use mir.Val.{Val}
 use base.Fml.{ftrue}
-use types.Logic.{sem}
-use types.Kit.{‵, ◌⊛◌, ◌$◌, ◌∵◌, !, qed, move, drop, keep, split, join, fsplit, fsplit3, fjoin, suffices, use1, use2, rewrite, feq_l, done}
+use types.Kit.{‵, ◌⊛◌, ◌$◌, ◌∵◌, !, qed, move, drop, keep, split, join, fsplit3, fjoin, suffices, use2, feq_l, done}
 use types.Run.{no_more, and_then, returns, enter}
 use types.ByLocal.{alloc_all, pass_all, free_all, look_at, get, sets}
 use types.Part.{agg}
 use denote.Builtin.{RawPtr}
 use denote.Exit.{yes}
 use denote.RattleType.{owns}
-use denote.RawPtr.{Ptr, ptr_val, rawptr_vals, rawptr_Tells}
+use denote.RawPtr.{ptr_val, rawptr_vals, rawptr_Tells}
 use denote.Signature.{types_at, plain}
 use denote.Steps.{nothing}
-use denote.Triple.Walked.{Stays, stay_dropped, stay_none, Goes-none, says, ends_at, Goes-dropped}
+use denote.Triple.Walked.{Stays, stay_dropped, says, ends_at, Goes-dropped}
 use Rattle.std.proofs.Handle.{heap_val, heap_Tells}
 use Rattle.std.proofs.raw_atomic.Walks.{proved}
 use Rattle.std.specs.contracts.alloc.Global as heap
-use Rattle.std.specs.declared.alloc.Global.{Global}
 use Rattle.std.specs.Prelude.{None}
-use Rattle.gx_c.specs.Owned.{owns_held}
 use Rattle.gx_c.proofs.Words.{H, handle_whole, word, word_fits, pointer_fits, handle_fits}
 use Rattle.gx_c.specs.contracts.handle.Handle.none.{ended, clauses}
 use Rattle.gx_c.specs.contracts.handle.Handle.none.Key.{name as #self}

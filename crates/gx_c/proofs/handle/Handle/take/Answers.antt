@@ -1,4 +1,4 @@
-use Rattle.std.proofs.Common.{◌≡◌, ap, ◌∙◌}
+use Rattle.std.proofs.Common.{ap, ◌∙◌}
 use Rattle.gx_c.specs.declared.handle.Handle.{Handle}
 use Rattle.gx_c.proofs.handle.Handle.take.Goals as goal
 

@@ -19,7 +19,6 @@ use denote.Builtin.{RawPtr}
 use denote.Exit.{no}
 use denote.Laws.{Is, shows}
 use denote.Param.{bounded, param}
-use denote.Param.Laws.{Laws}
 use denote.RattleType.{RattleType, owns}
 use denote.RawPtr.{ptr_val}
 use denote.Signature.{types_at, plain}

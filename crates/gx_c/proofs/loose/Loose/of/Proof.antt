@@ -8,7 +8,7 @@ use base.Fml.{Lft, Share, ftrue, flft}
 use base.Logic.{SProp, ent, sep, emp, ex}
 use seplogic.Ra.Ura.{Ura}
 use types.Logic.{Logic, sem}
-use types.Kit.{‵, raw, ◌⊛◌, some, later, ◌$◌, ◌∵◌, !, qed, by, move, drop, keep, split, split3, join, fjoin, fsplit, pick, show, suffices, updating, use1, await, now, rewrite, done}
+use types.Kit.{‵, raw, ◌⊛◌, some, later, ◌$◌, ◌∵◌, !, qed, by, move, drop, keep, split, split3, join, fjoin, pick, show, suffices, updating, use1, await, now, rewrite, done}
 use types.Run.{stop, fld, of_opd, no_more, and_then, returns, enter}
 use types.ByLocal.{alloc_all, pass_all, free_all, look_at, get, get_in, sets, lands_as}
 use types.Part.{agg, sub, whole}
@@ -19,7 +19,6 @@ use denote.Builtin.{RawPtr}
 use denote.Exit.{no}
 use denote.Laws.{Is, shows}
 use denote.Param.{bounded, param}
-use denote.Param.Laws.{Laws}
 use denote.RattleType.{RattleType, owns}
 use denote.RawPtr.{Ptr}
 use denote.Signature.{types_at, plain}

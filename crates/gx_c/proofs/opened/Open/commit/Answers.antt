@@ -1,5 +1,5 @@
 use Rattle.std.proofs.Common.{refl, ◌∙◌}
-use Rattle.gx_c.proofs.Numbers.{number_kept}
+use Rattle.gx_c.proofs.opened.Numbers.{number_kept}
 use Rattle.gx_c.proofs.opened.Open.commit.Goals as goal
 
 pub returns-clause-commits : goal.returns-clause-commits

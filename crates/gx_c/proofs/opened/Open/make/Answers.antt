@@ -1,5 +1,5 @@
 use Rattle.std.proofs.Common.{◌∙◌}
-use Rattle.gx_c.proofs.Ending.{ended_by}
+use Rattle.gx_c.proofs.events.Ending.{ended_by}
 use Rattle.gx_c.proofs.opened.Open.make.Goals as goal
 
 pub returns-clause-makes : goal.returns-clause-makes
