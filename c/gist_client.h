@@ -42,6 +42,9 @@
 extern "C" {
 #endif
 
+/* (a library that hides its other names shows these) */
+#pragma GCC visibility push(default)
+
 /* The version of this client: as text, and as a number, 10,000 * major + 100 * minor + patch. gist_version says that
    of the library. */
 #define GIST_VERSION "0.1.0"
@@ -136,11 +139,13 @@ typedef struct gist_stats {
     uint32_t pages, fanout, key_class;
 } gist_stats;
 
+#ifndef GIST_EMBEDDED
 /* What a migration brought into the new file: the last commit, and how many pages are in use. */
 typedef struct gist_migrated {
     uint64_t commits;
     uint32_t used;
 } gist_migrated;
+#endif
 
 /* In the calls of files `program` is the path of gist; if it is NULL, the environment variable GIST has it. PATH
    isn't searched, since other programs have that name. They answer GIST_SYSTEM if it can't be started, the refusal
@@ -156,6 +161,7 @@ enum { GIST_OVERWRITE = 1, GIST_SPACE = 2 };
    with errno EEXIST. GIST_DEVICE: the file can't be made or written, or is in use. */
 int gist_format(const char *program, const char *path, unsigned pages, unsigned fanout, unsigned flags, gist_end *end);
 
+#ifndef GIST_EMBEDDED
 /* Brings the index of the format's first version that the file `old` holds into the file `path`, which is made if it
    isn't there. `old` is only read: keep it until the new index is verified. `flags` is 0 or GIST_OVERWRITE, as for
    gist_format; with GIST_OK `migrated`, if it isn't NULL, says what the new file has. Neither file may be open. If it
@@ -163,6 +169,7 @@ int gist_format(const char *program, const char *path, unsigned pages, unsigned 
    gist_open. */
 int gist_migrate(const char *program, const char *old, const char *path, unsigned flags, gist_migrated *migrated,
                  gist_end *end);
+#endif
 
 /* Opens the index in the file `path`, with `frames` pages of 4,096 bytes in memory (16 to 4096; 0: as many as it has
    pages, at most 4096); what a crash cut off is undone first. With GIST_OK *index is the open index, which gist_close
@@ -259,6 +266,8 @@ unsigned gist_busy(const gist_index *index);
 /* The number of the program's process; 0 of NULL. */
 long gist_pid(const gist_index *index);
 #endif
+
+#pragma GCC visibility pop
 
 #ifdef __cplusplus
 }

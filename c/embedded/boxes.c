@@ -3,7 +3,6 @@
 #define _GNU_SOURCE /* reallocarray */
 #include "index.h"
 
-#include <errno.h>
 #include <stdlib.h>
 #include <string.h>
 
@@ -71,15 +70,6 @@ static uint16_t more3(gist_c_handle *handle, uint8_t session, void *out, size_t 
 static const shape PLANE = {2, sizeof(gist_box), sizeof(gist_entry), insert2, delete2, search2, more2};
 static const shape SPACE = {3, sizeof(gist_box3), sizeof(gist_entry3), insert3, delete3, search3, more3};
 
-static int invalid(void) {
-    errno = EINVAL;
-    return GIST_SYSTEM;
-}
-
-static uint8_t session_of(unsigned session) {
-    return session > 255 ? 255 : (uint8_t)session;
-}
-
 /* Takes an index whose boxes are of this shape. */
 static int enter(gist_index *index, const shape *of) {
     int told = gist_index_enter(index);
@@ -94,56 +84,66 @@ static int write_all(gist_index *index, const shape *of, write_call *call, unsig
     size_t at = 0;
     int told = GIST_OK;
     if (done) *done = 0;
-    if (count && !entries) return invalid();
+    if (count && !entries) return gist_index_invalid();
     for (; told == GIST_OK && at < count; at++) {
         const char *entry = (const char *)entries + at * of->entry;
         uint64_t row;
         memcpy(&row, entry, ROW);
         told = enter(index, of);
         if (told == GIST_OK)
-            told = gist_index_leave(index, call(&index->handle, session_of(session), row, entry + ROW));
+            told = gist_index_leave(index, call(&index->handle, gist_index_session(session), row, entry + ROW));
     }
     if (count == 0 && (told = enter(index, of)) == GIST_OK) gist_index_release(index);
     if (done) *done = told == GIST_OK ? at : at ? at - 1 : 0;
     return told;
 }
 
-/* Makes a room as large as so many entries. */
+/* Makes a room as large as so many entries, or twice as large as it was. */
 static bool grow(gist_room *room, size_t entries, size_t size) {
-    if (room->entries && room->bytes / size >= entries) return true;
+    size_t has = room->bytes / size;
+    if (room->entries && has >= entries) return true;
+    if (entries < 2 * has) entries = 2 * has;
     void *made = reallocarray(room->entries, entries, size);
     if (!made) return false;
     *room = (gist_room){made, entries * size};
     return true;
 }
 
-/* Searches, and reads all that was found into a room, from a place on. The index is the caller's. */
-static int search_into(gist_index *index, const shape *of, gist_room *room, size_t at, unsigned session,
+/* A room that has at least so many places behind those that are taken: the first of them, and how many there are. */
+static char *places_in(gist_room *room, const shape *of, size_t taken, size_t wanted, size_t *places) {
+    if (!grow(room, taken + wanted, of->entry)) return NULL;
+    *places = room->bytes / of->entry - taken;
+    return (char *)room->entries + taken * of->entry;
+}
+
+/* Searches, and reads all that was found into a room, behind the entries that are there. The index is the caller's. */
+static int search_into(gist_index *index, const shape *of, gist_room *room, size_t taken, unsigned session,
                        enum gist_query query, const void *box, size_t *count) {
     gist_c_count told = {0, 0};
-    if (!grow(room, at + FIRST_ROOM, of->entry)) return GIST_MEMORY;
-    size_t places = room->bytes / of->entry - at;
-    uint8_t s = session_of(session);
-    char *out = (char *)room->entries + at * of->entry;
-    unsigned status = of->search(&index->handle, s, (uint8_t)query, box, out, places, &told);
+    size_t places;
+    uint8_t its = gist_index_session(session);
+    char *out = places_in(room, of, taken, FIRST_ROOM, &places);
+    if (!out) return GIST_MEMORY;
+    unsigned status = of->search(&index->handle, its, (uint8_t)query, box, out, places, &told);
     int ended = gist_index_finish(index, status);
     if (ended != GIST_OK) return ended;
     *count = told.found;
-    if (told.told == told.found) return GIST_OK;
-    size_t had = told.told;
-    if (!grow(room, at + told.found, of->entry)) return GIST_MEMORY;
-    out = (char *)room->entries + (at + had) * of->entry;
-    return (int)of->more(&index->handle, s, out, *count - had, &told);
+    size_t left = told.found - told.told;
+    if (left == 0) return GIST_OK;
+    out = places_in(room, of, taken + told.told, left, &places);
+    return out ? (int)of->more(&index->handle, its, out, left, &told) : GIST_MEMORY;
 }
 
-/* The room of a session; one that no index has has the first one's, and finds nothing. */
+/* The room of a session. */
 static gist_room *room_of(gist_index *index, unsigned session) {
-    return &index->found[session >= 1 && session <= GIST_SESSIONS ? session - 1 : 0];
+    return &index->found[session <= GIST_SESSIONS ? session : 0];
 }
 
 static int search(gist_index *index, const shape *of, unsigned session, enum gist_query query, const void *box,
                   const void **found, size_t *count) {
-    if (!found || !count || (unsigned)query > GIST_COVERS) return invalid();
+    if (!count) return gist_index_invalid();
+    *count = 0;
+    if ((unsigned)query > GIST_COVERS) return gist_index_invalid();
     int told = enter(index, of);
     if (told != GIST_OK) return told;
     gist_room *room = room_of(index, session);
@@ -157,25 +157,38 @@ static int search(gist_index *index, const shape *of, unsigned session, enum gis
     return told;
 }
 
-/* Makes searches one after another into one room, and tells where each one's entries are once the room stays. */
+/* What one of the caller's hits has; and sets it. (the caller's are of either type, so they are read and written whole) */
+static hits hits_at(const void *all, size_t place) {
+    hits it;
+    memcpy(&it, (const char *)all + place * sizeof it, sizeof it);
+    return it;
+}
+
+static void set_hits(void *all, size_t place, const void *found, size_t count) {
+    hits it = {found, count};
+    memcpy((char *)all + place * sizeof it, &it, sizeof it);
+}
+
+/* Makes searches one after another into one room, and says where each one's entries are once the room stays. */
 static int search_all(gist_index *index, const shape *of, unsigned session, enum gist_query query, const void *boxes,
-                      size_t count, hits *into, size_t *done) {
-    size_t at = 0, i = 0;
+                      size_t count, void *all, size_t *done) {
+    size_t taken = 0, many = 0, i = 0;
     if (done) *done = 0;
-    if ((count && (!boxes || !into)) || (unsigned)query > GIST_COVERS) return invalid();
+    if ((count && (!boxes || !all)) || (unsigned)query > GIST_COVERS) return gist_index_invalid();
     int told = enter(index, of);
     if (told != GIST_OK) return told;
-    for (; told == GIST_OK && i < count; i++) {
-        size_t many = 0;
-        told = search_into(index, of, &index->many, at, session, query, (const char *)boxes + i * of->box, &many);
+    gist_room *room = room_of(index, session);
+    for (; i < count; i++, taken += many) {
+        const char *box = (const char *)boxes + i * of->box;
+        told = search_into(index, of, room, taken, session, query, box, &many);
         if (told != GIST_OK) break;
-        into[i].count = many;
-        at += many;
+        set_hits(all, i, NULL, many);
     }
-    at = 0;
+    const char *found = room->entries;
     for (size_t j = 0; j < i; j++) {
-        into[j].found = (const char *)index->many.entries + at * of->entry;
-        at += into[j].count;
+        many = hits_at(all, j).count;
+        set_hits(all, j, found, many);
+        found += many * of->entry;
     }
     gist_index_release(index);
     if (done) *done = i;
@@ -220,20 +233,28 @@ int gist_delete_many3(gist_index *index, unsigned session, const gist_entry3 *en
 
 int gist_search(gist_index *index, unsigned session, enum gist_query query, gist_box box, const gist_entry **found,
                 size_t *count) {
-    return search(index, &PLANE, session, query, &box, (const void **)found, count);
+    const void *at = NULL;
+    if (!found) return gist_index_invalid();
+    int told = search(index, &PLANE, session, query, &box, &at, count);
+    *found = at;
+    return told;
 }
 
 int gist_search3(gist_index *index, unsigned session, enum gist_query query, gist_box3 box, const gist_entry3 **found,
                  size_t *count) {
-    return search(index, &SPACE, session, query, &box, (const void **)found, count);
+    const void *at = NULL;
+    if (!found) return gist_index_invalid();
+    int told = search(index, &SPACE, session, query, &box, &at, count);
+    *found = at;
+    return told;
 }
 
 int gist_search_many(gist_index *index, unsigned session, enum gist_query query, const gist_box *boxes, size_t count,
-                     gist_hits *hits_, size_t *done) {
-    return search_all(index, &PLANE, session, query, boxes, count, (hits *)hits_, done);
+                     gist_hits *all, size_t *done) {
+    return search_all(index, &PLANE, session, query, boxes, count, all, done);
 }
 
 int gist_search_many3(gist_index *index, unsigned session, enum gist_query query, const gist_box3 *boxes, size_t count,
-                      gist_hits3 *hits_, size_t *done) {
-    return search_all(index, &SPACE, session, query, boxes, count, (hits *)hits_, done);
+                      gist_hits3 *all, size_t *done) {
+    return search_all(index, &SPACE, session, query, boxes, count, all, done);
 }

@@ -10,6 +10,9 @@
 #include <sys/stat.h>
 #include <unistd.h>
 
+/* So many writes that aren't durable are synced ahead of a step that may sync them. */
+enum { MANY_WRITES = 64 };
+
 /* Leaves the standard streams' numbers alone: a file that got one of them is opened behind them. */
 static int beside_streams(int fd) {
     if (fd < 0 || fd > 2) return fd;
@@ -19,11 +22,20 @@ static int beside_streams(int fd) {
     return moved;
 }
 
-static int opened(const char *path, enum gist_access access) {
-    int fd, flags = (access == GIST_READ ? O_RDONLY : O_RDWR) | (access == GIST_CREATE ? O_CREAT : 0);
-    do fd = open(path, flags | O_CLOEXEC | O_NOCTTY, 0666);
+/* (what isn't a regular file is refused without waiting for its other end) */
+static int open_at(const char *path, int flags) {
+    int fd;
+    do fd = open(path, flags | O_CLOEXEC | O_NOCTTY | O_NONBLOCK, 0666);
     while (fd < 0 && errno == EINTR);
     return beside_streams(fd);
+}
+
+/* Opens a file, or makes it where that is wanted. */
+static int opened(const char *path, enum gist_access access, bool *is_made) {
+    int fd = access == GIST_CREATE ? open_at(path, O_RDWR | O_CREAT | O_EXCL) : -1;
+    *is_made = fd >= 0;
+    if (access != GIST_CREATE) return open_at(path, access == GIST_READ ? O_RDONLY : O_RDWR);
+    return fd >= 0 || errno != EEXIST ? fd : open_at(path, O_RDWR | O_CREAT);
 }
 
 /* Locks a file that is a regular one. */
@@ -39,26 +51,46 @@ static bool locked(int fd, enum gist_access access, struct stat *it) {
     return done == 0 && fstat(fd, it) == 0;
 }
 
-int gist_file_open(gist_file *file, const char *path, enum gist_access access, uint64_t *size) {
+/* Remembers why a call of the file failed. */
+static bool failed(gist_file *file) {
+    file->why = errno;
+    file->failed = true;
+    return false;
+}
+
+int gist_file_open(gist_file *file, const char *path, enum gist_access access, uint64_t *size, bool *is_made) {
     struct stat it;
-    *file = (gist_file){.fd = opened(path, access), .room = GIST_PIECE};
-    if (file->fd < 0) return GIST_DEVICE;
-    if (!locked(file->fd, access, &it)) {
-        int why = errno;
-        gist_file_close(file);
-        errno = why;
+    *file = (gist_file){.fd = opened(path, access, is_made), .room = GIST_PIECE};
+    int why = errno;
+    pthread_mutex_init(&file->lock, NULL);
+    pthread_cond_init(&file->ended, NULL);
+    errno = why;
+    if (file->fd < 0 || !locked(file->fd, access, &it)) {
+        failed(file);
+        *is_made = false;
         return GIST_DEVICE;
     }
     *size = (uint64_t)it.st_size;
-    if ((file->bytes = malloc(file->room))) return GIST_OK;
-    gist_file_close(file);
-    return GIST_MEMORY;
+    file->bytes = malloc(file->room);
+    return file->bytes ? GIST_OK : GIST_MEMORY;
+}
+
+void gist_file_forget(gist_file *file) {
+    if (file->fd >= 0) close(file->fd);
+    free(file->bytes);
 }
 
 void gist_file_close(gist_file *file) {
-    if (file->fd >= 0) close(file->fd);
-    free(file->bytes);
-    *file = (gist_file){.fd = -1};
+    pthread_cond_destroy(&file->ended);
+    pthread_mutex_destroy(&file->lock);
+    gist_file_forget(file);
+}
+
+bool gist_file_extend(gist_file *file, uint64_t size) {
+    int done;
+    do done = ftruncate(file->fd, (off_t)size);
+    while (done != 0 && errno == EINTR);
+    return done == 0 || failed(file);
 }
 
 /* Reads `size` bytes from a place on. */
@@ -105,7 +137,10 @@ int gist_file_load(gist_file *file, gist_c_handle *handle, uint64_t size, uint64
         uint64_t left = (at < size ? size : whole) - at;
         size_t piece = left < GIST_PIECE ? (size_t)left : GIST_PIECE;
         if (at >= size) memset(file->bytes, 0, piece);
-        else if (!read_all(file->fd, file->bytes, piece, at)) return GIST_DEVICE;
+        else if (!read_all(file->fd, file->bytes, piece, at)) {
+            failed(file);
+            return GIST_DEVICE;
+        }
         told = gx_c_append(handle, file->bytes, piece);
         at += piece;
     }
@@ -115,27 +150,62 @@ int gist_file_load(gist_file *file, gist_c_handle *handle, uint64_t size, uint64
 /* The room for the bytes of a call. */
 static bool grow(gist_file *file, size_t size) {
     uint8_t *bytes = realloc(file->bytes, size);
-    if (!bytes) return false;
+    if (!bytes) return failed(file);
     file->bytes = bytes;
     file->room = size;
     return true;
 }
 
-/* A sync behind which all writes that have returned are durable. One that none came behind is made already. */
-static bool sync_file(gist_file *file) {
+/* Makes a sync, while no other is made. The caller has the lock, which is let go meanwhile. */
+static void sync_once(gist_file *file) {
     uint64_t written = file->written;
-    if (written == file->synced) return true;
     int done;
+    file->syncing = true;
+    pthread_mutex_unlock(&file->lock);
     do done = fdatasync(file->fd);
     while (done != 0 && errno == EINTR);
+    if (done != 0) failed(file);
+    pthread_mutex_lock(&file->lock);
+    file->syncing = false;
     if (done == 0) file->synced = written;
-    return done == 0;
+    pthread_cond_broadcast(&file->ended);
 }
 
+bool gist_file_sync(gist_file *file) {
+    int before;
+    /* (a thread that was cancelled within a sync would leave others waiting for its end) */
+    pthread_setcancelstate(PTHREAD_CANCEL_DISABLE, &before);
+    pthread_mutex_lock(&file->lock);
+    uint64_t written = file->written;
+    while (file->synced < written && !file->failed) {
+        if (file->syncing) pthread_cond_wait(&file->ended, &file->lock);
+        else sync_once(file);
+    }
+    bool done = file->synced >= written;
+    pthread_mutex_unlock(&file->lock);
+    pthread_setcancelstate(before, NULL);
+    return done;
+}
+
+bool gist_file_is_due(gist_file *file) {
+    pthread_mutex_lock(&file->lock);
+    uint64_t waiting = file->written - file->synced;
+    pthread_mutex_unlock(&file->lock);
+    return waiting >= MANY_WRITES || (waiting > 0 && file->log_waits);
+}
+
+/* Makes a call of the device. A sync that no write came behind is made already. */
 static bool make(gist_file *file, const gist_c_call *call) {
-    if (call->kind == GIST_C_SYNC) return sync_file(file);
-    if (!write_all(file->fd, file->bytes, call->size, call->first * GIST_SECTOR)) return false;
+    if (file->failed) return false;
+    if (call->kind == GIST_C_SYNC) {
+        file->log_waits = false;
+        return gist_file_sync(file);
+    }
+    if (!write_all(file->fd, file->bytes, call->size, call->first * GIST_SECTOR)) return failed(file);
+    if (call->first < GIST_PAGES_AT) file->log_waits = true;
+    pthread_mutex_lock(&file->lock);
     file->written++;
+    pthread_mutex_unlock(&file->lock);
     return true;
 }
 

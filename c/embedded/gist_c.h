@@ -1,6 +1,6 @@
 /* The proved functions of crates/gx_c, as C calls them. A parameter of type `Global` takes no bytes, and is left out;
-   a slice is a pointer and a length. Each status is 0 or a refusal's number, and for GIST_BUSY 256 times the session
-   besides. */
+   a slice is a pointer, which isn't NULL, and a length. Each status is 0 or a refusal's number, and for GIST_BUSY 256
+   times the session besides. */
 #ifndef GIST_C_H
 #define GIST_C_H
 
@@ -22,6 +22,34 @@ typedef struct gist_c_call {
     uint64_t first; /* the sector from which on it writes */
     size_t size;    /* how many bytes */
 } gist_c_call;
+
+/* An event of the index. */
+enum {
+    GIST_C_ASK_BEGIN,
+    GIST_C_ASK_COMMIT,
+    GIST_C_ASK_ABORT,
+    GIST_C_MOVE,
+    GIST_C_LOG_STEP,
+    GIST_C_WRITE_PAGE,
+    GIST_C_CHECKPOINT_STEP,
+    GIST_C_SWEEP
+};
+
+typedef struct gist_c_event {
+    uint32_t kind;
+    uint8_t session; /* of an ask and a move */
+    uint32_t page;   /* that is written or swept */
+} gist_c_event;
+
+/* What came of it: the session's call has ended, or the event was refused; it did its work; there was nothing to do; or
+   the event that is named has to come first. */
+enum { GIST_C_REPLIED, GIST_C_MORE, GIST_C_IDLE, GIST_C_HELP_LOG, GIST_C_HELP_WRITE, GIST_C_HELP_CHECKPOINT };
+
+typedef struct gist_c_outcome {
+    uint32_t kind;
+    uint32_t page;   /* that has to be written */
+    uint64_t number; /* of a commit */
+} gist_c_outcome;
 
 /* How many entries weren't told yet, and how many are now. */
 typedef struct gist_c_count {
@@ -49,6 +77,7 @@ uint16_t gx_c_verify3(gist_c_handle *handle, size_t frames, gist_c_report *repor
 uint16_t gx_c_settle(gist_c_handle *handle);
 uint16_t gx_c_close(gist_c_handle *handle);
 uint16_t gx_c_next(gist_c_handle *handle, gist_c_call *call, uint8_t *bytes, size_t size);
+uint16_t gx_c_step(gist_c_handle *handle, const gist_c_event *event, gist_c_outcome *outcome);
 uint16_t gx_c_begin(gist_c_handle *handle, uint8_t session);
 uint16_t gx_c_abort(gist_c_handle *handle, uint8_t session);
 uint16_t gx_c_commit(gist_c_handle *handle, uint8_t session, uint64_t *number);

@@ -12,7 +12,7 @@ MAX_ROW = 2 ** 64 - 1
 MIN_CORNER = -2 ** 31
 MAX_CORNER = 2 ** 31 - 1
 
-# How much of what was found is taken apart at once, in bytes.
+# How much of what the program printed is taken apart at once, in bytes.
 _BLOCK = 1 << 14
 
 # Makes a box of as many numbers as it has; _make would count them again.
@@ -48,6 +48,9 @@ class Box3(NamedTuple):
 
 AnyBox = Union[Box, Box3]
 
+# An entry as the library in process has it.
+_LAYOUTS: Dict[type, Struct] = {Box: Struct("=Q4i"), Box3: Struct("=Q6i")}
+
 
 class Hits(Iterator[Tuple[int, AnyBox]]):
     """What a search found, in order by row and then box: an iterator.
@@ -57,18 +60,17 @@ class Hits(Iterator[Tuple[int, AnyBox]]):
     Its length is how many were found, also once some or all were taken.
     """
 
-    __slots__ = ("count", "_entries")
+    __slots__ = ("count", "_box", "_found", "_is_packed", "_entries")
 
-    def __init__(self, count: int, lines: bytes,
+    def __init__(self, count: int, found: bytes,
                  box: Type[AnyBox] = Box, is_packed: bool = False) -> None:
         #: How many were found, as len() returns.
         self.count = count
-        self._entries: Iterator[Tuple[int, AnyBox]]
-        if is_packed:
-            self._entries = _unpacked(lines, box)
-        else:
-            self._entries = chain.from_iterable(
-                _entries(block, box) for block in _blocks(lines))
+        self._box = box
+        # (lines of the program, or entries as the library in process has them)
+        self._found = found
+        self._is_packed = is_packed
+        self._entries = self._all()
 
     def __len__(self) -> int:
         return self.count
@@ -82,12 +84,30 @@ class Hits(Iterator[Tuple[int, AnyBox]]):
     def __next__(self) -> Tuple[int, AnyBox]:
         return next(self._entries)
 
+    def to_numpy(self) -> Any:
+        """All that was found, as an array of numpy, whatever was taken: its
+        fields are row and the box's corners.
 
-def _unpacked(entries: bytes, box: Type[AnyBox]
+        Raises ImportError where numpy isn't installed.
+        """
+        import numpy
+        kind = numpy.dtype([("row", "=u8")] + [(name, "=i4")
+                                               for name in self._box._fields])
+        if self._is_packed:
+            return numpy.frombuffer(self._found, kind)
+        return numpy.array([(row, *box) for row, box in self._all()], kind)
+
+    def _all(self) -> Iterator[Tuple[int, AnyBox]]:
+        if self._is_packed:
+            return _unpacked(self._found, self._box)
+        return chain.from_iterable(_entries(block, self._box)
+                                   for block in _blocks(self._found))
+
+
+def _unpacked(found: bytes, box: Type[AnyBox]
               ) -> Iterator[Tuple[int, AnyBox]]:
     """The entries of bytes as the library in process has them."""
-    layout = Struct(f"=Q{len(box._fields)}i")
-    for numbers in layout.iter_unpack(entries):
+    for numbers in _LAYOUTS[box].iter_unpack(found):
         yield numbers[0], _new(box, numbers[1:])
 
 

@@ -5,11 +5,12 @@ import operator
 import os
 import time
 from contextlib import contextmanager, suppress
+from ctypes import CDLL
 from typing import Iterator, NamedTuple, Optional
 
 from gist._entries import kind_of
 from gist._index import Index
-from gist._library import library
+from gist._library import format_file, library, verify_file
 from gist._numbers import numbers_of, opened
 from gist._process import AnyPath, lines_of, words_of
 from gist._refusals import InUse, ProtocolError
@@ -62,22 +63,28 @@ class Stat(NamedTuple):
 
 def open(path: AnyPath, frames: Optional[int] = None,
          program: Optional[AnyPath] = None, wait: float = 0.0,
-         embedded: bool = False) -> Index:
+         embedded: Optional[bool] = None) -> Index:
     """Opens the index in a file; what a crash cut off is undone first.
 
     frames, 16 to 4096, is how many pages of 4,096 bytes are held in memory:
     all pages of the index, if that many may be, unless a number is given.
-    program is the path of gist, if it isn't the one that the environment
-    variable GIST names, or the file gist beside this package's folder. wait
-    is for how many seconds this tries again while another process has the
-    file open; then it raises InUse. With embedded this process has the index
-    itself, by the library in process (docs/LIBRARY.md), and no program is
-    started: GIST_LIBRARY names the library, or else the system finds it.
+    wait is for how many seconds this tries again while another process has
+    the file open; then it raises InUse.
+
+    With embedded this process has the index itself, by the library in
+    process (docs/LIBRARY.md): the environment variable GIST_LIBRARY names
+    it, where it isn't installed; an empty one stands for none. Without, the
+    index is a process of its own: program is the path of gist, where it
+    isn't the one that the variable GIST names, or the file gist beside this
+    package's folder. By default the library has the index, where there is
+    one and no program is given.
 
     Raises OSError, as FileNotFoundError, for a file that can't be opened or a
-    library that isn't installed, and OldVersion, NotFormatted, Damaged, TooSmall or BadParameter for what it
-    holds.
+    library that isn't installed, and OldVersion, NotFormatted, Damaged,
+    TooSmall or BadParameter for what it holds.
     """
+    if embedded is None:
+        embedded = program is None and library() is not None
     if not embedded:
         words_of(program)
     elif library() is None:
@@ -110,6 +117,11 @@ def format(path: AnyPath, pages: int, fanout: int = 100,
     _check("pages", pages, MIN_PAGES, MAX_PAGES)
     _check("fanout", fanout, MIN_FANOUT, MAX_FANOUT)
     kind = kind_of(dimensions)
+    it = _library_alone(program)
+    if it:
+        with _made(path, overwrite):
+            format_file(it, os.fspath(path), pages, fanout, dimensions)
+        return
     # (a program that has no boxes of space doesn't know the word)
     chosen = ["--class", f"{kind.number:d}"] if kind.number > 1 else []
     words = words_of(program, "format", *chosen, "--", os.fspath(path),
@@ -160,6 +172,10 @@ def verify(path: AnyPath, program: Optional[AnyPath] = None) -> Report:
     The index must not be open, and its file isn't changed. Raises Damaged
     for one that isn't sound, and what open raises.
     """
+    it = _library_alone(program)
+    if it:
+        numbers_of(path)
+        return Report(*verify_file(it, os.fspath(path)))
     words = words_of(program, "verify", "--", os.fspath(path))
     numbers_of(path)
     line = "".join(lines_of(words))
@@ -174,6 +190,16 @@ def stat(path: AnyPath, program: Optional[AnyPath] = None) -> Stat:
     commits, entries, used = verify(path, program)
     pages, fanout, kind = numbers_of(path)
     return Stat(pages, fanout, kind, used, commits, entries, used / pages)
+
+
+def _library_alone(program: Optional[AnyPath]) -> Optional[CDLL]:
+    """The library, where no program is given, and none is installed."""
+    if program is None:
+        try:
+            words_of(None)
+        except FileNotFoundError:
+            return library()
+    return None
 
 
 def _check(name: str, number: int, least: int, most: int) -> None:

@@ -29,8 +29,8 @@ _Kind = TypeVar("_Kind", bound=Reader)
 class Index:
     """An open index; `gist.open` opens one.
 
-    Threads may share it: each call is made as a whole, one at a time, and
-    each thread makes its calls in transactions of its own.
+    Threads may share it: each call is a whole by itself, and each thread
+    makes its calls in transactions of its own.
     """
 
     def __init__(self, path: AnyPath, frames: int,

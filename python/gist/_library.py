@@ -7,24 +7,37 @@ library has it, and is taken apart as it is asked for.
 """
 
 import ctypes
+import errno
 import os
 import threading
-from ctypes.util import find_library
+import warnings
+import weakref
 from functools import lru_cache, partial
-from typing import Callable, List, Optional, Tuple, TypeVar
+from pathlib import Path
+from struct import pack
+from typing import Any, Callable, List, Optional, Sequence, Tuple, TypeVar
 
-from gist._program import Call
+from gist._program import CUT_OFF, FORKED, Call
 from gist._refusals import Ended, GistError, refusal
 
 _Result = TypeVar("_Result")
 
-# The statuses of gist_client.h that are used here.
+# The version that the library has to have.
+_VERSION = b"0.1.0"
+# What gist_client.h says: statuses, flags and queries.
 _OK, _BUSY, _DEVICE, _ENDED = 0, 5, 11, 32
+_OVERWRITE, _SPACE = 1, 2
 _QUERIES = {b"OVERLAP": 0, b"WITHIN": 1, b"EQUAL": 2, b"COVERS": 3}
+_SESSIONS = 8
 
 
 class _End(ctypes.Structure):
     _fields_ = [("status", ctypes.c_int), ("sentence", ctypes.c_char * 1024)]
+
+
+class _Counts(ctypes.Structure):
+    _fields_ = [("commits", ctypes.c_uint64), ("entries", ctypes.c_uint64),
+                ("used", ctypes.c_uint32)]
 
 
 def _box(count: int) -> type:
@@ -36,33 +49,91 @@ def _box(count: int) -> type:
 _BOXES = {2: _box(4), 3: _box(6)}
 
 
-@lru_cache(maxsize=1)
 def library() -> Optional[ctypes.CDLL]:
-    """The library, where it is installed: GIST_LIBRARY names it, or else the
-    system finds it."""
-    path = os.environ.get("GIST_LIBRARY") or find_library("gist")
-    if not path:
-        return None
-    it = ctypes.CDLL(path, use_errno=True)
-    handle, session = ctypes.c_void_p, ctypes.c_uint
-    out, size = ctypes.POINTER(ctypes.c_void_p), ctypes.POINTER(ctypes.c_size_t)
-    it.gist_text.restype = ctypes.c_char_p
-    it.gist_open.argtypes = [out, ctypes.c_char_p, ctypes.c_char_p, session,
-                             ctypes.POINTER(_End)]
-    it.gist_format.argtypes = [ctypes.c_char_p, ctypes.c_char_p, session,
-                               session, session, ctypes.POINTER(_End)]
-    it.gist_close.argtypes = [handle, ctypes.POINTER(_End)]
-    it.gist_busy.argtypes = it.gist_dimensions.argtypes = [handle]
-    it.gist_begin.argtypes = it.gist_abort.argtypes = [handle, session]
-    it.gist_commit.argtypes = [handle, session,
-                               ctypes.POINTER(ctypes.c_uint64)]
-    for end, box in (("", _BOXES[2]), ("3", _BOXES[3])):
-        for name in ("gist_insert", "gist_delete"):
-            getattr(it, name + end).argtypes = [handle, session,
-                                                ctypes.c_uint64, box]
-        getattr(it, "gist_search" + end).argtypes = [
-            handle, session, ctypes.c_int, box, out, size]
+    """The library, where it is installed.
+
+    The environment variable GIST_LIBRARY names it; where that is empty,
+    there is none. Else it is the file libgist.so in this package's folder,
+    or what the system has under that name.
+    """
+    name = os.environ.get("GIST_LIBRARY")
+    if name is not None:
+        return _loaded(name) if name else None
+    beside = Path(__file__).resolve().parent / "libgist.so"
+    for name in (str(beside), "libgist.so.0"):
+        try:
+            return _loaded(name)
+        except OSError:
+            pass
+    return None
+
+
+@lru_cache(maxsize=None)
+def _loaded(name: str) -> ctypes.CDLL:
+    """The library of this name; OSError where it is no such library."""
+    it = ctypes.CDLL(name, use_errno=True)
+    try:
+        it.gist_version.restype = it.gist_text.restype = ctypes.c_char_p
+        version = it.gist_version()
+        _set_types(it)
+    except AttributeError:
+        version = b"none"
+    if version != _VERSION:
+        raise OSError(errno.ELIBBAD, "another library than gist's of version "
+                      + _VERSION.decode(), name)
     return it
+
+
+def _set_types(it: ctypes.CDLL) -> None:
+    """Says of each call which arguments it takes."""
+    handle, number = ctypes.c_void_p, ctypes.c_uint
+    out, size = ctypes.POINTER(ctypes.c_void_p), ctypes.POINTER(ctypes.c_size_t)
+    path, end = ctypes.c_char_p, ctypes.POINTER(_End)
+    it.gist_open.argtypes = [out, path, path, number, end]
+    it.gist_format.argtypes = [path, path, number, number, number, end]
+    it.gist_verify.argtypes = [path, path, ctypes.POINTER(_Counts), end]
+    it.gist_close.argtypes = [handle, end]
+    it.gist_busy.argtypes = it.gist_dimensions.argtypes = [handle]
+    it.gist_begin.argtypes = it.gist_abort.argtypes = [handle, number]
+    it.gist_commit.argtypes = [handle, number, ctypes.POINTER(ctypes.c_uint64)]
+    for suffix, box in (("", _BOXES[2]), ("3", _BOXES[3])):
+        for name in ("gist_insert", "gist_delete"):
+            getattr(it, name + suffix).argtypes = [handle, number,
+                                                   ctypes.c_uint64, box]
+            getattr(it, f"{name}_many{suffix}").argtypes = [
+                handle, number, ctypes.c_char_p, ctypes.c_size_t, size]
+        getattr(it, "gist_search" + suffix).argtypes = [
+            handle, number, ctypes.c_int, box, out, size]
+
+
+def format_file(it: ctypes.CDLL, path: str, pages: int, fanout: int,
+                dimensions: int) -> None:
+    """Lays a new index down in a file, whatever that holds."""
+    end = _End()
+    flags = _OVERWRITE | (_SPACE if dimensions == 3 else 0)
+    told = it.gist_format(None, os.fsencode(path), pages, fanout, flags, end)
+    if told != _OK:
+        raise _fault(it, told, end)
+
+
+def verify_file(it: ctypes.CDLL, path: str) -> Tuple[int, int, int]:
+    """Tests the index in a file: its last commit, its entries, and how many
+    pages are in use."""
+    end, found = _End(), _Counts()
+    told = it.gist_verify(None, os.fsencode(path), found, end)
+    if told != _OK:
+        raise _fault(it, told, end)
+    return found.commits, found.entries, found.used
+
+
+def _fault(it: ctypes.CDLL, told: int, end: _End) -> GistError:
+    """What a status means, as an exception."""
+    sentence = end.sentence.decode("utf-8", "replace")
+    if told >= _ENDED:
+        raise OSError(ctypes.get_errno(), os.strerror(ctypes.get_errno()))
+    # (the others say the same as their exceptions)
+    return refusal(b"%d %s" % (told, it.gist_text(told)),
+                   sentence=sentence if told == _DEVICE else "")
 
 
 class Found(bytes):
@@ -73,28 +144,68 @@ class Found(bytes):
     entries: bytes
 
 
+class _Thread(threading.local):
+    """What a thread has of an index."""
+
+    def __init__(self) -> None:
+        # Held while the thread is in a call. A signal handler of that thread
+        # finds it held.
+        self.inside = threading.Lock()
+        #: Whether such a handler has closed the index.
+        self.has_closed = False
+
+
+class _Session:
+    """What the calls of a session have in common."""
+
+    __slots__ = ("lock", "found", "count", "done", "number", "commit")
+
+    def __init__(self) -> None:
+        self.lock = threading.Lock()
+        # (what the library writes to)
+        self.found = ctypes.c_void_p()
+        self.count = ctypes.c_size_t()
+        self.done = ctypes.c_size_t()
+        self.number = ctypes.c_uint64()
+        #: The commit that was asked last; its number is 0 until it is made.
+        self.commit: Optional[Call] = None
+
+
 class Library:
     """An open index of the library, with the calls of a Program.
 
-    One lock makes a whole of each call, so threads may share it.
+    Threads may share it. A call holds its session's lock, and what is done
+    `alone` another one. So while a commit waits for the file other sessions
+    go on; and to close takes all the locks.
     """
 
     def __init__(self, path: str, frames: int) -> None:
         it = library()
         assert it
         self._library = it
-        self._lock = threading.RLock()
+        self._make_locks()
         self._index = ctypes.c_void_p()
         self._why: Optional[Callable[[], GistError]] = None
+        self._release = weakref.finalize(self, _let_go, it, self._index, path)
+        self._release.atexit = False
         self.pid = os.getpid()
         end = _End()
-        told = it.gist_open(ctypes.byref(self._index), None,
-                            os.fsencode(path), frames, ctypes.byref(end))
+        told = it.gist_open(self._index, None, os.fsencode(path), frames, end)
         if told != _OK:
-            raise self._fault(told, end.sentence)
+            self._release.detach()
+            raise _fault(it, told, end)
         self.dimensions = it.gist_dimensions(self._index)
-        self._end = "3" if self.dimensions == 3 else ""
+        suffix = "3" if self.dimensions == 3 else ""
         self._box = _BOXES[self.dimensions]
+        self._entry = f"Q{2 * self.dimensions}i"
+        self._search_call = getattr(it, "gist_search" + suffix)
+        self._writes = {
+            command: (getattr(it, name + suffix),
+                      getattr(it, f"{name}_many{suffix}"), answer)
+            for command, name, answer in (
+                (b"INSERT", "gist_insert", b"inserted"),
+                (b"DELETE", "gist_delete", b"deleted"))}
+        _opened.add(self)
 
     @property
     def is_over(self) -> bool:
@@ -103,27 +214,38 @@ class Library:
 
     def alone(self, work: Callable[..., _Result], *arguments: object
               ) -> _Result:
-        """Does work while nothing else is done with the index."""
-        with self._lock:
-            self.look()
-            return work(*arguments)
+        """Does work while nothing else is done alone.
+
+        A signal handler that comes here while its own thread is within is
+        refused with RuntimeError, as that of a Program is.
+        """
+        return self._within(self._lock, work, arguments)
+
+    def shared(self, work: Callable[..., _Result], *arguments: object
+               ) -> _Result:
+        """Does work that asks calls of one session, which one thread uses."""
+        return self._within(_NO_LOCK, work, arguments)
 
     def exchange(self, call: Call) -> bytes:
         """Makes the calls of these lines, and returns their answers."""
-        return self.alone(self.ask, call)
+        return self.shared(self.ask, call)
 
     def ask(self, call: Call) -> bytes:
-        """As exchange, for work that is done alone."""
+        """As exchange, for work that is done alone, or shared."""
         if call.answer:
             return call.answer
-        answers = [self._line(line.split())
-                   for line in call.lines.splitlines()]
-        call.answers = answers
-        call.answer = answers[0] if len(answers) == 1 else b"".join(answers)
+        words = call.lines.split(None, 2)
+        its = self._sessions[int(words[0])]
+        with its.lock:
+            self.look()
+            call.answer = self._answer(int(words[0]), its, words[1], call)
         return call.answer
 
     def settle(self) -> None:
-        """Nothing is left unread here."""
+        """Gives a commit that was broken off the answer that it had."""
+        for session, its in self._sessions.items():
+            if its.commit and its.number.value:
+                its.commit.answer = _committed(session, its)
 
     def look(self) -> None:
         """Raises Ended once the index was closed."""
@@ -131,14 +253,18 @@ class Library:
             raise self._why()
 
     def close(self, _: bytes = b"") -> Optional[GistError]:
-        """Closes the index, and returns its fault."""
-        with self._lock:
-            if self._why:
-                return None
-            self._why = partial(Ended, 0, "the index was closed")
-            end = _End()
-            told = self._library.gist_close(self._index, ctypes.byref(end))
-            return None if told == _OK else self._fault(told, end.sentence)
+        """Closes the index, and returns its fault.
+
+        In a signal handler within a call of the same thread the index is
+        closed as the call ends, and the call raises Ended.
+        """
+        own = self._own
+        if own.inside.locked():
+            self._why = self._why or partial(Ended, 0, CUT_OFF)
+            own.has_closed = True
+            return None
+        with own.inside:
+            return self._close()
 
     def kill(self) -> None:
         """Closes the index."""
@@ -146,61 +272,165 @@ class Library:
 
     def forget(self) -> None:
         """Frees what a process that was forked off has of it."""
-        self.close()
+        self._make_locks()
+        if self._index:
+            self._why = partial(Ended, 0, FORKED)
+            self._free()
 
-    def _line(self, words: List[bytes]) -> bytes:
-        """The answer to a line."""
-        session, command, rest = int(words[0]), words[1], words[2:]
+    def _make_locks(self) -> None:
+        self._own = _Thread()
+        self._lock = threading.Lock()
+        self._sessions = {at: _Session() for at in range(1, _SESSIONS + 1)}
+
+    def _within(self, lock: Any, work: Callable[..., _Result],
+                arguments: Sequence[object]) -> _Result:
+        own = self._own
+        if own.inside.locked():
+            raise RuntimeError(
+                "a signal handler came within a call of the same index and "
+                "thread; there it can only close the index")
+        # (only `with` takes and releases a lock whatever a signal does)
+        with own.inside:
+            try:
+                with lock:
+                    self.look()
+                    result = work(*arguments)
+            finally:
+                if own.has_closed:
+                    self._close()
+            if own.has_closed:
+                self.look()
+            return result
+
+    def _close(self) -> Optional[GistError]:
+        """Closes the index, once all calls of other threads have ended."""
+        if not self._index:
+            return None
+        self._why = self._why or partial(Ended, 0, "the index was closed")
+        with self._lock:
+            return self._close_behind(list(self._sessions.values()))
+
+    def _close_behind(self, sessions: List[_Session]
+                      ) -> Optional[GistError]:
+        """Closes the index, once the calls of these sessions have ended."""
+        if not sessions:
+            end = _End()
+            told = self._free(end)
+            return None if told == _OK else _fault(self._library, told, end)
+        with sessions[0].lock:
+            return self._close_behind(sessions[1:])
+
+    def _free(self, end: Optional[_End] = None) -> int:
+        """Closes the index, or frees what a process that was forked off
+        has."""
+        index, self._index = self._index, ctypes.c_void_p()
+        self._release.detach()
+        return self._library.gist_close(index, end) if index else _OK
+
+    def _answer(self, session: int, its: _Session, command: bytes,
+                call: Call) -> bytes:
+        """The answer to the lines of a call."""
         if command in _QUERIES:
-            return self._search(session, _QUERIES[command], rest)
-        told, said = self._call(session, command, rest)
-        if told != _OK:
-            return self._refused(session, told)
-        return b"%d %s\n" % (session, said)
-
-    def _call(self, session: int, command: bytes, rest: List[bytes]
-              ) -> Tuple[int, bytes]:
-        it, index = self._library, self._index
-        if command == b"BEGIN":
-            return it.gist_begin(index, session), b"ok"
-        if command == b"ABORT":
-            return it.gist_abort(index, session), b"aborted"
+            lines = call.lines.splitlines()
+            answers = [self._search(session, its, line.split())
+                       for line in lines]
+            call.answers = answers
+            return answers[0] if len(answers) == 1 else b"".join(answers)
+        if command in self._writes:
+            words = call.lines.split()
+            del words[::len(words) // call.count]
+            del words[::len(words) // call.count]
+            return self._write(session, its, command, list(map(int, words)))
+        it = self._library
         if command == b"COMMIT":
-            number = ctypes.c_uint64()
-            told = it.gist_commit(index, session, ctypes.byref(number))
-            return told, b"committed %d" % number.value
-        name = "gist_insert" if command == b"INSERT" else "gist_delete"
-        box = self._box(*map(int, rest[1:]))
-        told = getattr(it, name + self._end)(index, session, int(rest[0]), box)
-        return told, b"inserted" if command == b"INSERT" else b"deleted"
+            return self._commit(session, its, call)
+        if command == b"BEGIN":
+            told, said = it.gist_begin(self._index, session), b"ok"
+        else:
+            told, said = it.gist_abort(self._index, session), b"aborted"
+        return (b"%d %s\n" % (session, said) if told == _OK
+                else self._refused(session, told))
 
-    def _search(self, session: int, query: int, rest: List[bytes]) -> bytes:
-        found, count = ctypes.c_void_p(), ctypes.c_size_t()
-        search = getattr(self._library, "gist_search" + self._end)
-        told = search(self._index, session, query, self._box(*map(int, rest)),
-                      ctypes.byref(found), ctypes.byref(count))
+    def _commit(self, session: int, its: _Session, call: Call) -> bytes:
+        if its.commit is not call:
+            its.number.value = 0
+            its.commit = call
+        if not its.number.value:
+            told = self._library.gist_commit(self._index, session, its.number)
+            if told != _OK:
+                return self._refused(session, told)
+        return _committed(session, its)
+
+    def _write(self, session: int, its: _Session, command: bytes,
+               numbers: List[int]) -> bytes:
+        """Adds entries, or takes them away, up to the first refusal."""
+        one, many, said = self._writes[command]
+        size = 1 + 2 * self.dimensions
+        line = b"%d %s\n" % (session, said)
+        if len(numbers) == size:
+            told = one(self._index, session, numbers[0],
+                       self._box(*numbers[1:]))
+            return line if told == _OK else self._refused(session, told)
+        count = len(numbers) // size
+        entries = pack("=" + count * self._entry, *numbers)
+        told = many(self._index, session, entries, count, its.done)
+        answer = its.done.value * line
+        return answer if told == _OK else answer + self._refused(session, told)
+
+    def _search(self, session: int, its: _Session, words: List[bytes]
+                ) -> bytes:
+        told = self._search_call(
+            self._index, session, _QUERIES[words[1]],
+            self._box(*map(int, words[2:])), its.found, its.count)
         if told != _OK:
             return self._refused(session, told)
-        answer = Found(b"%d found %d\n" % (session, count.value))
-        size = 8 + ctypes.sizeof(self._box)
-        answer.count = count.value
-        answer.entries = ctypes.string_at(found, count.value * size)
+        count = its.count.value
+        answer = Found(b"%d found %d\n" % (session, count))
+        answer.count = count
+        answer.entries = ctypes.string_at(
+            its.found, count * (8 + ctypes.sizeof(self._box)))
         return answer
 
     def _refused(self, session: int, told: int) -> bytes:
         """The line of a refusal."""
+        if told >= _ENDED:
+            raise OSError(ctypes.get_errno(), os.strerror(ctypes.get_errno()))
         text = self._library.gist_text(told)
         if told == _BUSY:
-            text = b"busy %d" % self._library.gist_busy(self._index)
+            text += b" %d" % self._library.gist_busy(self._index)
         return b"%d refused %d %s\n" % (session, told, text)
 
-    def _fault(self, told: int, sentence: bytes) -> GistError:
-        """What a status means, as an exception."""
-        said = sentence.decode("utf-8", "replace")
-        if told >= _ENDED:
-            raise OSError(ctypes.get_errno(), said)
-        if told == _DEVICE and "another process" in said:
-            said = "the file is in use"
-        return refusal(b"%d %s" % (told, self._library.gist_text(told)),
-                       sentence=said)
 
+def _committed(session: int, its: _Session) -> bytes:
+    """The answer to the last commit of a session."""
+    return b"%d committed %d\n" % (session, its.number.value)
+
+
+class _NoLock:
+    """Nothing to hold."""
+
+    def __enter__(self) -> None:
+        pass
+
+    def __exit__(self, *_: object) -> None:
+        pass
+
+
+_NO_LOCK = _NoLock()
+_opened: "weakref.WeakSet[Library]" = weakref.WeakSet()
+
+
+def _forget_all() -> None:
+    for it in list(_opened):
+        it.forget()
+
+
+os.register_at_fork(after_in_child=_forget_all)
+
+
+def _let_go(it: ctypes.CDLL, index: ctypes.c_void_p, path: str) -> None:
+    """Closes an index that was forgotten."""
+    if index:
+        it.gist_close(index, None)
+        warnings.warn(f"an index was forgotten, and not closed: {path!r}",
+                      ResourceWarning)

@@ -125,6 +125,11 @@ class Program:
                     raise self._why()
                 return result
 
+    def shared(self, work: Callable[..., _Result], *arguments: object
+               ) -> _Result:
+        """Does work that asks calls of one session, which one thread uses."""
+        return self.alone(work, *arguments)
+
     def exchange(self, call: Call) -> bytes:
         """Writes the lines of a call, and returns all answers."""
         return self.alone(self.ask, call)
@@ -196,7 +201,7 @@ class Program:
         self._make_locks()
         self._release.detach()
         if not self._why:
-            self._why = partial(Ended, 0, _FORKED)
+            self._why = partial(Ended, 0, FORKED)
             self._is_ending = True
             self._process.returncode = 0
             self._close_pipes()
@@ -315,7 +320,7 @@ class Program:
     def _cut_off(self) -> None:
         """Ends the program under a call, which then finds why."""
         if not self._why:
-            self._why = partial(Ended, 0, _CUT_OFF)
+            self._why = partial(Ended, 0, CUT_OFF)
             self._is_ending = True
             self._kill()
             self._await()
@@ -361,9 +366,10 @@ class Program:
         self._release.detach()
 
 
-_CUT_OFF = ("the index was closed by a signal handler within a call; whether "
+#: Why a call was broken off, or can't be made.
+CUT_OFF = ("the index was closed by a signal handler within a call; whether "
             "that call was done isn't known")
-_FORKED = ("the index was opened before a fork, and can be used only by the "
+FORKED = ("the index was opened before a fork, and can be used only by the "
            "process that opened it")
 
 

@@ -120,7 +120,7 @@ class Reader:
         sessions = self._hold.sessions
         if not sessions:
             raise NoTransaction("no transaction")
-        return sessions.program.alone(self._ask, sessions.program, call)
+        return sessions.program.shared(self._ask, sessions.program, call)
 
     def _ask(self, program: Program, call: Call) -> bytes:
         if not self._hold.session:

@@ -8,5 +8,6 @@ pub mod Sent
 pub mod Stages
 pub mod States
 pub mod Statuses
+pub mod Stepping
 pub mod Verified
 pub mod Waiting

@@ -65,8 +65,8 @@ fn keep_entries<B: Copy>(found: &mut Vec<Rest<B>>, session: u8, entries: Entries
     found[usize::from(session) - 1] = Rest::of(entries);
 }
 
-// Keeps what a session found, if a reply has that.
-fn keep<B: Copy>(found: &mut Vec<Rest<B>>, session: u8, reply: Reply<B>)
+/// Keeps what a session found, if a reply has that.
+pub(crate) fn keep<B: Copy>(found: &mut Vec<Rest<B>>, session: u8, reply: Reply<B>)
     requires { length found.old.items ≡ 8 }
     ensures found { found.new.items ≡ keeps_found session reply found.old.items }
     ensures as_many { length found.new.items ≡ 8 }
