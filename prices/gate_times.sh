@@ -14,7 +14,7 @@ trap 'rm -rf "$made"' EXIT
 git clone -q "$top" "$made/gate"
 git -C "$made/gate" checkout -q "${1:-HEAD}"
 python3 - "$made/gate" "${GATE_OUTPUT:-/dev/null}" <<'P'
-import collections, glob, os, re, resource, subprocess, sys, time
+import collections, glob, os, re, resource, shutil, subprocess, sys, time
 
 folder, output = sys.argv[1:]
 tick = os.sysconf("SC_CLK_TCK")
@@ -74,7 +74,10 @@ def run(words, told):
 began = time.time()
 named = os.environ.get("GATE_CRATES", "").split()
 with open(output, "w+", encoding="utf-8") as told:
-    last = run(["rt", "ci", "--anew", *named], told)
+    # (some kits keep proofs between runs unless they are told otherwise, and only they gate crates by name)
+    with open(shutil.which("rt"), encoding="utf-8") as it:
+        anew = ["--anew", *named] if "--anew" in it.read() else []
+    last = run(["rt", "ci", *anew], told)
     turn = subprocess.run([".ci/turns"], cwd=folder, stdout=subprocess.PIPE, text=True).stdout.split()
     last += "; planted: " + run(["tools/planted.py", *(it for it in turn if not named or it in named)], told)
 clock = time.time() - began
