@@ -16,7 +16,7 @@ mkdir "$work/c" "$work/trials"
 cp -r "$top/c/." "$work/c"
 cp -r "$top/trials/library" "$work/trials"
 rm -rf "$work/c/out"
-[ $# -gt 0 ] || { (cd "$top/crates/gx_c" && rt lib) && proved=("PROVED=$top/crates/gx_c/out/libgx_c.a"); }
+[ $# -gt 0 ] || { python3 "$top/tools/prove.py" --library gx_c && proved=("PROVED=$top/crates/gx_c/out/libgx_c.a"); }
 export TMPDIR="$work"
 passed=0
 failed=0
