@@ -4,7 +4,7 @@
    includes this header in its place, and links with `-lgist`. docs/LIBRARY.md has the whole picture. What differs:
 
    - `program` isn't used, and no process is started. A gist_end has status 1 if a call failed, and says why.
-   - An index holds the whole file in memory: its pages twice, and `frames` pages besides.
+   - An index holds the whole file in memory, and `frames` pages besides; gist_verify and gist_stat hold it twice.
    - What a search found, and what gist_search_many did, stays until its session's next search, or until the index is
      closed.
    - GIST_ENDED and GIST_PROTOCOL aren't returned: a number of pages, entries or frames that is out of its range is
