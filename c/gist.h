@@ -32,7 +32,8 @@
    - After a call of the file failed, each call that needed it returns GIST_DEVICE, and each later one GIST_FAILED,
      gist_close too: close the index and open it again. A commit that was answered by GIST_DEVICE is there whole or not at
      all.
-   - No standard stream is written or read, and no file gets the number of one. */
+   - No standard stream is written or read, and no file gets the number of one.
+   - A thread needs 256 KB of stack for the calls. */
 #ifndef GIST_H
 #define GIST_H
 

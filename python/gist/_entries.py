@@ -86,7 +86,8 @@ class Hits(Iterator[Tuple[int, AnyBox]]):
 
     def to_numpy(self) -> Any:
         """All that was found, as an array of numpy, whatever was taken: its
-        fields are row and the box's corners.
+        fields are row and the box's corners. It may be one that can't be
+        written to.
 
         Raises ImportError where numpy isn't installed.
         """
