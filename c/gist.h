@@ -4,7 +4,7 @@
    includes this header in its place, and links with `-lgist`. docs/LIBRARY.md has the whole picture. What differs:
 
    - `program` isn't used, and no process is started. A gist_end has status 1 if a call failed, and says why.
-   - An index holds the whole file in memory: its pages twice, and `frames` pages besides.
+   - An index holds the whole file in memory, and `frames` pages besides; gist_verify and gist_stat hold it twice.
    - What a search found, and what gist_search_many did, stays until its session's next search, or until the index is
      closed.
    - GIST_ENDED and GIST_PROTOCOL aren't returned: a number of pages, entries or frames that is out of its range is
@@ -32,7 +32,8 @@
    - After a call of the file failed, each call that needed it returns GIST_DEVICE, and each later one GIST_FAILED,
      gist_close too: close the index and open it again. A commit that was answered by GIST_DEVICE is there whole or not at
      all.
-   - No standard stream is written or read, and no file gets the number of one. */
+   - No standard stream is written or read, and no file gets the number of one.
+   - A thread needs 256 KB of stack for the calls. */
 #ifndef GIST_H
 #define GIST_H
 

@@ -81,7 +81,7 @@ void counts(void) {
     gist_counts few;
     gist_end end;
     gist_entry entries[300];
-    gist_index *index = fresh("counted", 64, 10);
+    gist_index *index = fresh("counted", 128, 10);
     fill(entries, 0, 300);
     for (int commit = 0; commit < 3; commit++) {
         HOLDS(gist_begin(index, 1) == GIST_OK);
@@ -89,7 +89,7 @@ void counts(void) {
         HOLDS(gist_commit(index, 1, NULL) == GIST_OK);
     }
     HOLDS(gist_close(index, &end) == GIST_OK && end.status == 0 && !end.sentence[0]);
-    HOLDS(gist_stat(NULL, "counted", &stats, &end) == GIST_OK && stats.pages == 64 && stats.fanout == 10);
+    HOLDS(gist_stat(NULL, "counted", &stats, &end) == GIST_OK && stats.pages == 128 && stats.fanout == 10);
     HOLDS(stats.key_class == 1 && stats.counts.entries == 300 && stats.counts.commits == 3 && stats.counts.used > 30);
     HOLDS(gist_verify(NULL, "counted", &few, NULL) == GIST_OK && few.entries == 300 && few.used == stats.counts.used);
     HOLDS(gist_verify(NULL, "none", &few, &end) == GIST_DEVICE && few.entries == 0 && strstr(end.sentence, "none"));
@@ -101,7 +101,7 @@ static void until_full(void) {
     gist_index *index = opened("full");
     uint64_t kept = 0;
     int status = GIST_OK;
-    for (; status == GIST_OK && kept < 100; kept += status == GIST_OK) {
+    for (; status == GIST_OK && kept < 1000; kept += status == GIST_OK) {
         gist_entry it = entry_of(kept);
         status = gist_begin(index, 1);
         if (status == GIST_OK) status = gist_insert(index, 1, it.row, it.box);
@@ -120,7 +120,7 @@ void full_disk(void) {
     HOLDS(setrlimit(RLIMIT_FSIZE, &below) == 0);
     HOLDS(gist_format(NULL, "large", 64, 4, 0, &end) == GIST_DEVICE && strstr(end.sentence, "File too large"));
     HOLDS(!is_there("large") && setrlimit(RLIMIT_FSIZE, &before) == 0);
-    HOLDS(gist_format(NULL, "full", 64, 4, 0, NULL) == GIST_OK);
+    HOLDS(gist_format(NULL, "full", 64, 100, 0, NULL) == GIST_OK);
     below.rlim_cur = 50000;
     HOLDS(setrlimit(RLIMIT_FSIZE, &below) == 0);
     HOLDS(refused("full", "File too large") == GIST_DEVICE);
@@ -211,11 +211,19 @@ void memory_ends(void) {
     HOLDS(gist_begin(index, 1) == GIST_OK && getrlimit(RLIMIT_AS, &before) == 0);
     below = (struct rlimit){1 << 20, before.rlim_max};
     HOLDS(setrlimit(RLIMIT_AS, &below) == 0);
+    void **all = NULL, **some;
+    for (size_t size = 1 << 20; size >= sizeof *all; size /= 2)
+        for (; (some = malloc(size)); all = some) *some = all;
     int status = gist_search(index, 1, GIST_OVERLAP, PLANE, &found, &count);
     gist_index *other;
-    int opening = gist_open(&other, NULL, "nowhere", 64, NULL);
+    int opening = gist_open(&other, NULL, "nowhere", 64, NULL), laying = gist_format(NULL, "new", 64, 4, 0, NULL);
     HOLDS(setrlimit(RLIMIT_AS, &before) == 0);
-    HOLDS(status == GIST_MEMORY && !found && count == 0 && (opening == GIST_DEVICE || opening == GIST_MEMORY));
+    for (; all; all = some) {
+        some = *all;
+        free(all);
+    }
+    HOLDS(status == GIST_MEMORY && !found && count == 0 && opening == GIST_MEMORY && laying == GIST_MEMORY);
+    HOLDS(!is_there("new"));
     HOLDS(gist_search(index, 1, GIST_EQUAL, entries[0].box, &found, &count) == GIST_OK && count == 1);
     HOLDS(gist_search(index, 1, GIST_OVERLAP, PLANE, &found, &count) == GIST_OK && count == 10000);
     HOLDS(gist_close(index, NULL) == GIST_OK);

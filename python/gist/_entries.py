@@ -86,7 +86,8 @@ class Hits(Iterator[Tuple[int, AnyBox]]):
 
     def to_numpy(self) -> Any:
         """All that was found, as an array of numpy, whatever was taken: its
-        fields are row and the box's corners.
+        fields are row and the box's corners. It may be one that can't be
+        written to.
 
         Raises ImportError where numpy isn't installed.
         """
@@ -151,17 +152,27 @@ class Kind:
 
     def corners_of(self, box: Sequence[int]) -> str:
         """The words of a box; whether it is reversed is left to the index."""
+        # (numbers that aren't whole have no format d)
+        with suppress(ValueError):
+            return self._spell(*self.numbers_of(box))
+        raise self.no_box(box)
+
+    def numbers_of(self, box: Sequence[int]) -> Tuple[int, ...]:
+        """The numbers of a box, as many as there have to be, of 32 bits."""
         corners = tuple(box)
-        if len(corners) != self.count:
-            raise ValueError(
+        if (len(corners) == self.count and MIN_CORNER <= min(corners)
+                and max(corners) <= MAX_CORNER):
+            return corners
+        raise self.no_box(box)
+
+    def no_box(self, box: Sequence[int]) -> ValueError:
+        """Why this isn't a box."""
+        if len(tuple(box)) != self.count:
+            return ValueError(
                 f"{box!r}: the index is of {self.name}, which are "
                 f"{self.count} numbers: {', '.join(self.box._fields)}")
-        if MIN_CORNER <= min(corners) and max(corners) <= MAX_CORNER:
-            # (numbers that aren't whole have no format d)
-            with suppress(ValueError):
-                return self._spell(*corners)
-        raise ValueError(f"{box!r}: corners are integers of 32 bits; "
-                         "degrees times 10,000,000 fit")
+        return ValueError(f"{box!r}: corners are integers of 32 bits; "
+                          "degrees times 10,000,000 fit")
 
     def entry_of(self, row: int, box: Sequence[int]) -> str:
         """The words of an entry."""

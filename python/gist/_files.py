@@ -10,7 +10,7 @@ from typing import Iterator, NamedTuple, Optional
 
 from gist._entries import kind_of
 from gist._index import Index
-from gist._library import format_file, library, verify_file
+from gist._libgist import format_file, library, verify_file
 from gist._numbers import numbers_of, opened
 from gist._process import AnyPath, lines_of, words_of
 from gist._refusals import InUse, ProtocolError

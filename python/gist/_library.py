@@ -7,133 +7,24 @@ library has it, and is taken apart as it is asked for.
 """
 
 import ctypes
-import errno
 import os
 import threading
 import warnings
 import weakref
-from functools import lru_cache, partial
-from pathlib import Path
-from struct import pack
+from functools import partial
+from struct import calcsize, pack
 from typing import Any, Callable, List, Optional, Sequence, Tuple, TypeVar
 
+from gist._entries import Hits
+from gist._libgist import BOXES, BUSY, ENDED, OK, End, fault_of, library
 from gist._program import CUT_OFF, FORKED, Call
-from gist._refusals import Ended, GistError, refusal
+from gist._refusals import Ended, GistError, NoTransaction, refusal
 
 _Result = TypeVar("_Result")
 
-# The version that the library has to have.
-_VERSION = b"0.1.0"
-# What gist_client.h says: statuses, flags and queries.
-_OK, _BUSY, _DEVICE, _ENDED = 0, 5, 11, 32
-_OVERWRITE, _SPACE = 1, 2
-_QUERIES = {b"OVERLAP": 0, b"WITHIN": 1, b"EQUAL": 2, b"COVERS": 3}
+# The numbers of queries, as gist_client.h has them.
+_QUERIES = {"OVERLAP": 0, "WITHIN": 1, "EQUAL": 2, "COVERS": 3}
 _SESSIONS = 8
-
-
-class _End(ctypes.Structure):
-    _fields_ = [("status", ctypes.c_int), ("sentence", ctypes.c_char * 1024)]
-
-
-class _Counts(ctypes.Structure):
-    _fields_ = [("commits", ctypes.c_uint64), ("entries", ctypes.c_uint64),
-                ("used", ctypes.c_uint32)]
-
-
-def _box(count: int) -> type:
-    return type(f"_Box{count}", (ctypes.Structure,),
-                {"_fields_": [(f"c{at}", ctypes.c_int32)
-                              for at in range(count)]})
-
-
-_BOXES = {2: _box(4), 3: _box(6)}
-
-
-def library() -> Optional[ctypes.CDLL]:
-    """The library, where it is installed.
-
-    The environment variable GIST_LIBRARY names it; where that is empty,
-    there is none. Else it is the file libgist.so in this package's folder,
-    or what the system has under that name.
-    """
-    name = os.environ.get("GIST_LIBRARY")
-    if name is not None:
-        return _loaded(name) if name else None
-    beside = Path(__file__).resolve().parent / "libgist.so"
-    for name in (str(beside), "libgist.so.0"):
-        try:
-            return _loaded(name)
-        except OSError:
-            pass
-    return None
-
-
-@lru_cache(maxsize=None)
-def _loaded(name: str) -> ctypes.CDLL:
-    """The library of this name; OSError where it is no such library."""
-    it = ctypes.CDLL(name, use_errno=True)
-    try:
-        it.gist_version.restype = it.gist_text.restype = ctypes.c_char_p
-        version = it.gist_version()
-        _set_types(it)
-    except AttributeError:
-        version = b"none"
-    if version != _VERSION:
-        raise OSError(errno.ELIBBAD, "another library than gist's of version "
-                      + _VERSION.decode(), name)
-    return it
-
-
-def _set_types(it: ctypes.CDLL) -> None:
-    """Says of each call which arguments it takes."""
-    handle, number = ctypes.c_void_p, ctypes.c_uint
-    out, size = ctypes.POINTER(ctypes.c_void_p), ctypes.POINTER(ctypes.c_size_t)
-    path, end = ctypes.c_char_p, ctypes.POINTER(_End)
-    it.gist_open.argtypes = [out, path, path, number, end]
-    it.gist_format.argtypes = [path, path, number, number, number, end]
-    it.gist_verify.argtypes = [path, path, ctypes.POINTER(_Counts), end]
-    it.gist_close.argtypes = [handle, end]
-    it.gist_busy.argtypes = it.gist_dimensions.argtypes = [handle]
-    it.gist_begin.argtypes = it.gist_abort.argtypes = [handle, number]
-    it.gist_commit.argtypes = [handle, number, ctypes.POINTER(ctypes.c_uint64)]
-    for suffix, box in (("", _BOXES[2]), ("3", _BOXES[3])):
-        for name in ("gist_insert", "gist_delete"):
-            getattr(it, name + suffix).argtypes = [handle, number,
-                                                   ctypes.c_uint64, box]
-            getattr(it, f"{name}_many{suffix}").argtypes = [
-                handle, number, ctypes.c_char_p, ctypes.c_size_t, size]
-        getattr(it, "gist_search" + suffix).argtypes = [
-            handle, number, ctypes.c_int, box, out, size]
-
-
-def format_file(it: ctypes.CDLL, path: str, pages: int, fanout: int,
-                dimensions: int) -> None:
-    """Lays a new index down in a file, whatever that holds."""
-    end = _End()
-    flags = _OVERWRITE | (_SPACE if dimensions == 3 else 0)
-    told = it.gist_format(None, os.fsencode(path), pages, fanout, flags, end)
-    if told != _OK:
-        raise _fault(it, told, end)
-
-
-def verify_file(it: ctypes.CDLL, path: str) -> Tuple[int, int, int]:
-    """Tests the index in a file: its last commit, its entries, and how many
-    pages are in use."""
-    end, found = _End(), _Counts()
-    told = it.gist_verify(None, os.fsencode(path), found, end)
-    if told != _OK:
-        raise _fault(it, told, end)
-    return found.commits, found.entries, found.used
-
-
-def _fault(it: ctypes.CDLL, told: int, end: _End) -> GistError:
-    """What a status means, as an exception."""
-    sentence = end.sentence.decode("utf-8", "replace")
-    if told >= _ENDED:
-        raise OSError(ctypes.get_errno(), os.strerror(ctypes.get_errno()))
-    # (the others say the same as their exceptions)
-    return refusal(b"%d %s" % (told, it.gist_text(told)),
-                   sentence=sentence if told == _DEVICE else "")
 
 
 class Found(bytes):
@@ -189,15 +80,17 @@ class Library:
         self._release = weakref.finalize(self, _let_go, it, self._index, path)
         self._release.atexit = False
         self.pid = os.getpid()
-        end = _End()
+        end = End()
         told = it.gist_open(self._index, None, os.fsencode(path), frames, end)
-        if told != _OK:
+        if told != OK:
             self._release.detach()
-            raise _fault(it, told, end)
+            raise fault_of(it, told, end)
         self.dimensions = it.gist_dimensions(self._index)
         suffix = "3" if self.dimensions == 3 else ""
-        self._box = _BOXES[self.dimensions]
+        self._box = BOXES[self.dimensions]
+        # (how an entry lies in memory)
         self._entry = f"Q{2 * self.dimensions}i"
+        self._size = calcsize("=" + self._entry)
         self._search_call = getattr(it, "gist_search" + suffix)
         self._writes = {
             command: (getattr(it, name + suffix),
@@ -240,6 +133,21 @@ class Library:
             self.look()
             call.answer = self._answer(int(words[0]), its, words[1], call)
         return call.answer
+
+    def find(self, hold: Any, query: str, box: Sequence[int]) -> Hits:
+        """What a search finds in the transaction that has this hold."""
+        kind = hold.kind
+        try:
+            sought = self._box(*kind.numbers_of(box))
+        except TypeError:
+            raise kind.no_box(box) from None
+        told, answer = self.shared(self._find, hold, _QUERIES[query], sought)
+        if told == OK:
+            return Hits(len(answer) // self._size, answer, kind.box, True)
+        fault = refusal(answer)
+        if isinstance(fault, NoTransaction):
+            hold.end()
+        raise fault
 
     def settle(self) -> None:
         """Gives a commit that was broken off the answer that it had."""
@@ -314,23 +222,23 @@ class Library:
                       ) -> Optional[GistError]:
         """Closes the index, once the calls of these sessions have ended."""
         if not sessions:
-            end = _End()
+            end = End()
             told = self._free(end)
-            return None if told == _OK else _fault(self._library, told, end)
+            return None if told == OK else fault_of(self._library, told, end)
         with sessions[0].lock:
             return self._close_behind(sessions[1:])
 
-    def _free(self, end: Optional[_End] = None) -> int:
+    def _free(self, end: Optional[End] = None) -> int:
         """Closes the index, or frees what a process that was forked off
         has."""
         index, self._index = self._index, ctypes.c_void_p()
         self._release.detach()
-        return self._library.gist_close(index, end) if index else _OK
+        return self._library.gist_close(index, end) if index else OK
 
     def _answer(self, session: int, its: _Session, command: bytes,
                 call: Call) -> bytes:
         """The answer to the lines of a call."""
-        if command in _QUERIES:
+        if command.decode() in _QUERIES:
             lines = call.lines.splitlines()
             answers = [self._search(session, its, line.split())
                        for line in lines]
@@ -348,7 +256,7 @@ class Library:
             told, said = it.gist_begin(self._index, session), b"ok"
         else:
             told, said = it.gist_abort(self._index, session), b"aborted"
-        return (b"%d %s\n" % (session, said) if told == _OK
+        return (b"%d %s\n" % (session, said) if told == OK
                 else self._refused(session, told))
 
     def _commit(self, session: int, its: _Session, call: Call) -> bytes:
@@ -357,7 +265,7 @@ class Library:
             its.commit = call
         if not its.number.value:
             told = self._library.gist_commit(self._index, session, its.number)
-            if told != _OK:
+            if told != OK:
                 return self._refused(session, told)
         return _committed(session, its)
 
@@ -370,35 +278,57 @@ class Library:
         if len(numbers) == size:
             told = one(self._index, session, numbers[0],
                        self._box(*numbers[1:]))
-            return line if told == _OK else self._refused(session, told)
+            return line if told == OK else self._refused(session, told)
         count = len(numbers) // size
         entries = pack("=" + count * self._entry, *numbers)
         told = many(self._index, session, entries, count, its.done)
         answer = its.done.value * line
-        return answer if told == _OK else answer + self._refused(session, told)
+        return answer if told == OK else answer + self._refused(session, told)
 
     def _search(self, session: int, its: _Session, words: List[bytes]
                 ) -> bytes:
-        told = self._search_call(
-            self._index, session, _QUERIES[words[1]],
-            self._box(*map(int, words[2:])), its.found, its.count)
-        if told != _OK:
-            return self._refused(session, told)
-        count = its.count.value
+        """The answer to a line that searches."""
+        query, *corners = words[1:]
+        told, entries = self._found(session, its, _QUERIES[query.decode()],
+                                    self._box(*map(int, corners)))
+        if told != OK:
+            return b"%d refused %s\n" % (session, entries)
+        count = len(entries) // self._size
         answer = Found(b"%d found %d\n" % (session, count))
         answer.count = count
-        answer.entries = ctypes.string_at(
-            its.found, count * (8 + ctypes.sizeof(self._box)))
+        answer.entries = entries
         return answer
+
+    def _find(self, hold: Any, query: int, sought: object
+              ) -> Tuple[int, bytes]:
+        """A status, with the entries that a search finds or its refusal."""
+        if not hold.session:
+            raise NoTransaction("no transaction")
+        its = self._sessions[hold.session]
+        with its.lock:
+            self.look()
+            return self._found(hold.session, its, query, sought)
+
+    def _found(self, session: int, its: _Session, query: int, sought: object
+               ) -> Tuple[int, bytes]:
+        told = self._search_call(self._index, session, query, sought,
+                                 its.found, its.count)
+        if told != OK:
+            return told, self._why_not(told)
+        return told, ctypes.string_at(its.found, its.count.value * self._size)
+
+    def _why_not(self, told: int) -> bytes:
+        """What a refusal says: its number and its text."""
+        if told >= ENDED:
+            raise OSError(ctypes.get_errno(), os.strerror(ctypes.get_errno()))
+        text = b"%d %s" % (told, self._library.gist_text(told))
+        if told == BUSY:
+            text += b" %d" % self._library.gist_busy(self._index)
+        return text
 
     def _refused(self, session: int, told: int) -> bytes:
         """The line of a refusal."""
-        if told >= _ENDED:
-            raise OSError(ctypes.get_errno(), os.strerror(ctypes.get_errno()))
-        text = self._library.gist_text(told)
-        if told == _BUSY:
-            text += b" %d" % self._library.gist_busy(self._index)
-        return b"%d refused %d %s\n" % (session, told, text)
+        return b"%d refused %s\n" % (session, self._why_not(told))
 
 
 def _committed(session: int, its: _Session) -> bytes:

@@ -5,7 +5,7 @@ from typing import (Iterable, List, Optional, Sequence, Tuple, Type,
                     TypeVar)
 
 from gist._entries import Hits
-from gist._library import Found
+from gist._library import Found, Library
 from gist._program import AHEAD, SEARCHES, Call, Program
 from gist._refusals import GistError, NoTransaction, ProtocolError, refusal
 from gist._sessions import Hold
@@ -91,6 +91,10 @@ class Reader:
                 raise
 
     def _search(self, command: str, box: Sequence[int]) -> Hits:
+        sessions = self._hold.sessions
+        if sessions and isinstance(sessions.program, Library):
+            # (by no lines, which would take most of the time)
+            return sessions.program.find(self._hold, command, box)
         corners = self._hold.kind.corners_of(box)
         return self._hits(self._exchange(
             self._asking(f"{command} {corners}")))

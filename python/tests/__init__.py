@@ -14,7 +14,7 @@ from typing import Iterator, List, Tuple
 import gist
 from gist._process import words_of
 
-os.environ["GIST_LIBRARY"] = ""
+os.environ["GIST_LIBRARY"] = os.environ.get("GIST_TESTED_LIBRARY", "")
 REPOSITORY = Path(__file__).resolve().parents[2]
 #: The program's path.
 PROGRAM = words_of(None)[0]

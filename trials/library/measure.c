@@ -1,20 +1,42 @@
 /* Measures the library.
 
-   usage: measure commits THREADS N: N commits of an insert each by each of so many threads, with the system's own syncs.
+   usage: measure commits THREADS N TIME: N commits of an insert each by each of so many threads, by the system's own
+          syncs, each of which takes so many microseconds more.
           measure searches N: N searches that find ten entries each, among 100,000. */
 #define _GNU_SOURCE
 #include "../../c/gist.h"
-#include "disk.h"
 
+#include <errno.h>
 #include <pthread.h>
+#include <stdatomic.h>
+#include <stdbool.h>
 #include <stdlib.h>
 #include <string.h>
 #include <time.h>
+#include <unistd.h>
 
 enum { SESSIONS = 8, ENTRIES = 100000, SIDE = 316 };
 
 static gist_index *common;
-static unsigned each;
+static unsigned each, more_time;
+static atomic_uint syncs;
+
+int __real_fdatasync(int fd);
+
+/* The linker puts this in the place of fdatasync. */
+int __wrap_fdatasync(int fd) {
+    syncs++;
+    if (more_time) usleep(more_time);
+    return __real_fdatasync(fd);
+}
+
+/* Ends the process where something doesn't hold. */
+static void must(bool holds, const char *what) {
+    if (holds) return;
+    fprintf(stderr, "measure: %s: %s\n", what, strerror(errno));
+    _exit(2);
+}
+#define MUST(what) must(what, #what)
 
 static double now(void) {
     struct timespec it;
@@ -42,7 +64,7 @@ static void measure_commits(unsigned threads) {
     unsigned sessions[SESSIONS];
     MUST(gist_format(NULL, "it", 4096, 100, GIST_OVERWRITE, NULL) == GIST_OK);
     MUST(gist_open(&common, NULL, "it", 0, NULL) == GIST_OK);
-    disk_watch("it");
+    syncs = 0;
     double from = now();
     for (unsigned i = 0; i < threads; i++) {
         sessions[i] = i + 1;
@@ -50,8 +72,7 @@ static void measure_commits(unsigned threads) {
     }
     for (unsigned i = 0; i < threads; i++) MUST(pthread_join(all[i], NULL) == 0);
     double took = now() - from, many = threads * each;
-    printf("%u threads: %.0f commits a second, %.2f syncs a commit\n", threads, many / took,
-           (double)disk_counted().syncs / many);
+    printf("%u threads: %.0f commits a second, %.2f syncs a commit\n", threads, many / took, syncs / many);
     MUST(gist_close(common, NULL) == GIST_OK);
 }
 
@@ -83,9 +104,11 @@ static void measure_searches(unsigned searches) {
 }
 
 int main(int count, char **words) {
-    MUST(count >= 3);
-    each = (unsigned)atoi(words[count - 1]);
-    if (strcmp(words[1], "commits") == 0) measure_commits((unsigned)atoi(words[2]));
+    bool is_commits = count == 5 && strcmp(words[1], "commits") == 0;
+    MUST(is_commits || (count == 3 && strcmp(words[1], "searches") == 0));
+    each = (unsigned)atoi(words[is_commits ? 3 : 2]);
+    if (is_commits) more_time = (unsigned)atoi(words[4]);
+    if (is_commits) measure_commits((unsigned)atoi(words[2]));
     else measure_searches(each);
     return 0;
 }
