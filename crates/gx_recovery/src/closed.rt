@@ -12,29 +12,34 @@ use std::marker::Model;
 /// each is 9 bytes at least, of 128 bodies with 32,764 bytes of records each.
 pub const CLOSINGS: usize = 465_976;
 
-/// How many numbers are kept apart, before they are sorted among the others: a number that comes in front of all
-/// others moves only so many.
-pub const RECENT: usize = 4_096;
+/// How many numbers came last, at most, before they are sorted among the later ones: a number that comes in front of
+/// all others moves only so many.
+pub const RECENT: usize = 1_024;
 
-/// The numbers of closed transactions, with room for all that an extent may close. They rise, but for those that came
-/// last, which rise among themselves.
+/// How many later numbers there are, at most, before they are sorted among the others.
+pub const LATER: usize = 32_768;
+
+/// The numbers of closed transactions, with room for all that an extent may close. Each of the three vectors rises. So
+/// in whatever order numbers come, few are moved for each.
 #[derive(Drop)]
 pub struct Closed {
     others: Vec<u64>,
+    later: Vec<u64>,
     recent: Vec<u64>,
 }
 
 impl Model for Closed {
-    ghost use Rattle.std.specs.Prelude.{ℕ, List, ◌≤◌, ◌<◌, ◌++◌, length, vec_capacity};
+    ghost use Rattle.std.specs.Prelude.{ℕ, List, ◌+◌, ◌≤◌, ◌<◌, ◌++◌, length, vec_capacity};
     ghost use Rattle.std.specs.List.Sorted.{IsNonDecreasing};
-    ghost use Rattle.gx_recovery.specs.declared.closed.TheConstants.{CLOSINGS, RECENT};
+    ghost use Rattle.gx_recovery.specs.declared.closed.TheConstants.{CLOSINGS, LATER, RECENT};
 
     ghost Value = { List ℕ };
 
-    ghost view = { λ c. c.others.items ++ c.recent.items };
+    ghost view = { λ c. c.others.items ++ (c.later.items ++ c.recent.items) };
 
-    ghost invariant = { λ c. (CLOSINGS ≤ vec_capacity c.others) × (RECENT ≤ vec_capacity c.recent)
-        × (length c.recent.items < RECENT) × IsNonDecreasing c.others.items × IsNonDecreasing c.recent.items };
+    ghost invariant = { λ c. (CLOSINGS ≤ vec_capacity c.others) × (LATER ≤ vec_capacity c.later)
+        × (RECENT ≤ vec_capacity c.recent) × (length c.later.items + RECENT ≤ LATER) × (length c.recent.items < RECENT)
+        × IsNonDecreasing c.others.items × IsNonDecreasing c.later.items × IsNonDecreasing c.recent.items };
 }
 
 /// The place of a number among numbers that rise, or else the place where it would go, searched by halves.
@@ -103,6 +108,7 @@ impl Closed {
     {
         Ok(Closed {
             others: Vec::with_capacity(alloc, CLOSINGS)?,
+            later: Vec::with_capacity(alloc, LATER)?,
             recent: Vec::with_capacity(alloc, RECENT)?,
         })
     }
@@ -111,14 +117,14 @@ impl Closed {
     pub(crate) fn count(&self) -> usize
         ensures { result ≡ length self.now }
     {
-        self.others.len() + self.recent.len()
+        self.others.len() + (self.later.len() + self.recent.len())
     }
 
     /// Whether the transaction is closed.
     pub(crate) fn has(&self, t: u64) -> bool
         ensures { result ≡ is_closed t self.now }
     {
-        is_among(t, &self.others) || is_among(t, &self.recent)
+        is_among(t, &self.others) || is_among(t, &self.later) || is_among(t, &self.recent)
     }
 
     /// Closes a transaction that isn't closed.
@@ -129,7 +135,10 @@ impl Closed {
     {
         put(&mut self.recent, t);
         if self.recent.len() == RECENT {
-            sort_among(&mut self.others, &mut self.recent);
+            sort_among(&mut self.later, &mut self.recent);
+            if self.later.len() > LATER - RECENT {
+                sort_among(&mut self.others, &mut self.later);
+            }
         }
     }
 }

@@ -1,5 +1,5 @@
 -- Numbers that rise, searched by halves.
-use Rattle.std.proofs.Common.{◌≡◌, ℕ, ◌<◌, ◌≤◌, Bool, true, false, ◌||◌, inl, inr, List, [], ◌∷◌, ◌++◌, length, get_or, refl, ap, sym, ◌∙◌, arith, insert, length-append, append-nil}
+use Rattle.std.proofs.Common.{◌≡◌, ℕ, ◌<◌, ◌≤◌, Bool, true, false, ◌||◌, ◌+◌, inl, inr, List, [], ◌∷◌, ◌++◌, length, get_or, refl, ap, sym, ◌∙◌, arith, insert, length-append, append-nil}
 use Rattle.std.specs.Prelude.{Result, Ok, Err, ◌==◌, nat_lt}
 use Rattle.std.specs.Result.{MatchResult}
 use Rattle.std.specs.List.Sorted.{IsNonDecreasing, IsBinarySearchResult, IsPermutation, IsSearchInRange}
@@ -83,3 +83,14 @@ closes_sorted t xs ys zs all none one same is =
       has = λ u. sym (list_any-IsPermutation (λ v. v == u) (xs ++ zs) all same) ∙ behind.has u;
       count = length_permutation (xs ++ zs) all same ∙ behind.count;
     })
+
+-- and where these are then sorted among others
+pub closes_twice : (t : ℕ) (ws xs ys zs later none : List ℕ) → ClosesOne t xs (ys ++ none) → none ≡ [] → IsPermutation (ws ++ ys) zs → later ≡ [] → ClosesOne t (ws ++ xs) (zs ++ (later ++ none))
+closes_twice t ws xs ys zs later none one is same gone =
+    let now : ClosesOne t xs ys = rw (is, append-nil) at one in
+    rw (gone, is) (closes_sorted t ws xs ys zs [] now same refl)
+
+-- of which there are few enough
+pub few_joined : (t : ℕ) (ws xs ys zs later : List ℕ) (most : ℕ) → ClosesOne t ys zs → IsPermutation (xs ++ zs) later → length (ws ++ (xs ++ ys)) < most → length ws + length later ≤ most
+few_joined t ws xs ys zs later most one same few =
+    omega (arith, length_permutation (xs ++ zs) later same, length-append xs zs, length-append ws (xs ++ ys), length-append xs ys, one.count)
