@@ -26,7 +26,10 @@ pub extern "C" fn gx_c_create(alloc: Global, handle: &mut Handle) -> u16
             handle.put(held);
             0
         }
-        Err(_) => MEMORY,
+        Err(lost) => {
+            drop(lost);
+            MEMORY
+        }
     }
 }
 
