@@ -1,4 +1,4 @@
--- What a session's call of an open index does, and what C is told of its reply.
+-- What a session's call of an open index does, and what C gets of its reply.
 use Rattle.std.specs.Prelude.{◌≡◌, ◌-◌, ℕ, List, [], slice_set, Option, None, Some, Result, Ok, Err, if◌then◌else◌, OnOk}
 use Rattle.std.specs.List.{slice_index_or}
 use Rattle.gx_class.specs.Traits.{Traits}
@@ -58,7 +58,7 @@ keeps_found session other found = found
 abbrev pub found_by : {B : Type 0} → ℕ → List (List (Entry B)) → List (Entry B)
 found_by session found = if is_session session then slice_index_or found (session - 1) [] else []
 
--- Of what a session found, the front is told, and of other sessions nothing changes.
+-- Of what a session found, C gets the front, and of other sessions nothing changes.
 pub record TellsOpen {B S : Type 0} (sent : Entry B → S) (session : ℕ) (old new : Opened B) (had out : List S) (count : SentCount) : Type 0 where
   pub tells : IsTold sent (found_by session old.found) (found_by session new.found) had out count
   pub index : new.index ≡ old.index
@@ -72,7 +72,7 @@ module _ {B : Type 0} (shape : Members B) (traits : Traits B) (state : QueueDisk
     pub runs : RunsOnAs shape traits state old.engine new.engine
     pub ends : (l : Limits) → EndsWhereHeld shape traits state l old new
 
-  -- C is told the status of its reply.
+  -- C gets the status of its reply.
   pub record AsksOpen (session : ℕ) (asked : Call B) (old new : Opened B) (status : ℕ) : Type 0 where
     pub reply : Reply B
     pub asks : Asks session asked old.index new.index reply
@@ -100,7 +100,7 @@ module _ {B : Type 0} (shape : Members B) (traits : Traits B) (state : QueueDisk
     pub status_is : status ≡ replied reply
     pub keeps : new.found ≡ keeps_found session reply old.found
 
-  -- A search was asked; where it was answered, the front of what it found is told, else nothing is.
+  -- A search was asked; if it was answered, C gets the front of what it found, else nothing.
   pub record SearchesOpen {S : Type 0} (sent : Entry B → S) (session : ℕ) (query : Query B) (had out : List S)
       (count : SentCount) (old new : Opened B) (status : ℕ) : Type 0 where
     pub middle : Opened B
@@ -179,6 +179,6 @@ module _ (shape : Members Solid) (traits : Traits Solid) (state : QueueDisk → 
   abbrev pub SearchesSpace : (session kind : ℕ) → SentBox3 → (had out : List SentEntry3) → SentCount → Stage → Stage → ℕ → Type 0
   SearchesSpace session kind sent had out count = OfSpace (SearchesSolid session kind sent had out count)
 
--- More of what a session found is told.
+-- C gets more of what a session found.
 abbrev pub TellsMore : {B S : Type 0} → (Entry B → S) → ℕ → List S → List S → SentCount → Opened B → Opened B → ℕ → Type 0
 TellsMore sent session had out count old new status = (status ≡ 0) × TellsOpen sent session old new had out count

@@ -55,7 +55,7 @@ module _ {B : Type 0} (shape : Members B) (traits : Traits B) (state : QueueDisk
   IsOpenOr (Err n) (Err disk) status = (status ≡ refused n.why) × (disk ≡ n.disk)
   IsOpenOr result left status = ⊥
 
-  -- A device was opened, or memory for what C will be told was refused and nothing was done.
+  -- A device was opened, or memory for what sessions will find was refused and nothing was done.
   pub record OpensAs (frames : ℕ) (disk : QueueDisk) (left : Result (Opened B) QueueDisk) (status : ℕ) : Type 0 where
     pub result : Result (Parts B QueueDisk) (NotOpened QueueDisk)
     pub opens : Opens frames disk result

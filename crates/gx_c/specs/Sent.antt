@@ -43,7 +43,7 @@ query_of kind key =
     if kind == 0 then Some (Overlap key) else if kind == 1 then Some (Within key) else if kind == 2 then Some (Equal key)
     else if kind == 3 then Some (Covers key) else None
 
--- Of these entries as many are told as there are places for, in front of what is there; the others are left. The count
+-- C gets as many of these entries as there are places for, in front of what is there; the others are left. The count
 -- has both numbers.
 pub record IsTold {E S : Type 0} (sent : E → S) (entries left : List E) (had out : List S) (count : SentCount) : Type 0 where
   pub found : count.found ≡ length entries
@@ -53,7 +53,7 @@ pub record IsTold {E S : Type 0} (sent : E → S) (entries left : List E) (had o
   pub told : out ≡ map sent (take count.told entries) ++ drop count.told had
   pub rest : left ≡ drop count.told entries
 
--- there was nothing to tell
+-- there was nothing to write
 pub record IsUntold {S : Type 0} (had out : List S) (count : SentCount) : Type 0 where
   pub found : count.found ≡ 0
   pub told : count.told ≡ 0

@@ -1,4 +1,4 @@
--- One event of an open index, and what C is told of its outcome.
+-- One event of an open index, and what C gets of its outcome.
 use Rattle.std.specs.Prelude.{◌≡◌, ◌==◌, if◌then◌else◌, ℕ, List, Option, None, Some}
 use Rattle.gx_class.specs.Traits.{Traits}
 use Rattle.gx_disk.specs.Device.{Device}
@@ -68,7 +68,7 @@ module _ {B : Type 0} (shape : Members B) (traits : Traits B) (state : QueueDisk
     pub told : TellsAs state old.engine new.engine given
     pub runs : RunsOnAs shape traits state old.engine new.engine
 
-  -- C is told its outcome and the status of that, and what this session found is kept.
+  -- C gets its outcome and the status of that, and what this session found is kept.
   pub record MakesOpen (session : ℕ) (event : Event B) (outcome : SentOutcome) (old new : Opened B) (status : ℕ) : Type 0 where
     pub given : Outcome B
     pub makes : MakesEvent event old.index new.index given

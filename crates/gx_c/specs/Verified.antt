@@ -14,7 +14,7 @@ use Rattle.gx_restart.specs.declared.verification.Report.{Report}
 use Rattle.gx_c.specs.Statuses.{resulted}
 use Rattle.gx_c.specs.declared.verify.SentReport.{SentReport}
 
--- what C is told of a report, where there is one
+-- what C gets of a report, if there is one
 abbrev pub sent_report : Result Report Refusal → SentReport → SentReport
 sent_report (Ok report) had = record { commits = report.commits; entries = report.entries; used = report.used }
 sent_report (Err why) had = had

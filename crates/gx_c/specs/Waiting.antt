@@ -45,7 +45,7 @@ Puts (Some (device.Write first written)) call had bytes status =
     × (length written.now ≤ length had → (status ≡ 0) × (bytes ≡ written.now ++ drop (length written.now) had))
     × (length had < length written.now → (status ≡ 18) × (bytes ≡ had))
 
--- What C is told: the call in front, with its bytes where they fit; from then on the others wait.
+-- What C gets: the call in front, with its bytes if they fit; from then on the others wait.
 abbrev pub Tells : List Call → List Call → SentCall → List ℕ → List ℕ → ℕ → Type 0
 Tells [] left call had bytes status =
     (status ≡ 0) × (call.kind ≡ 0) × (call.first ≡ 0) × (call.size ≡ 0) × (bytes ≡ had) × (left ≡ [])
@@ -84,7 +84,7 @@ module _ (box : Members Rectangle) (boxes : Traits Rectangle) (solid : Members S
   abbrev pub Rests : Held → Held → Type 0
   Rests old new = (new.stage ≡ old.stage) ⊎ ((calls : List Call) × DrainsStage old.stage new.stage calls)
 
-  -- the next call is told, and nothing of the index changes
+  -- C gets the next call, and nothing of the index changes
   pub record TellsNext (old new : Held) (call : SentCall) (had bytes : List ℕ) (status : ℕ) : Type 0 where
     pub tells : Tells (waiting old) (waiting new) call had bytes status
     pub rests : Rests old new

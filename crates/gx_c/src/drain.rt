@@ -1,4 +1,4 @@
-//! Tells the calls of a handle's device, so that C makes them of its file.
+//! Gives C the calls of a handle's device, so that it makes them of its file.
 ghost use Rattle.std.specs.Prelude.{◌≡◌, ◌≢◌, [], true, false};
 ghost use Rattle.gx_c.specs.Stages.{IsCreated, OfHeld};
 ghost use Rattle.gx_c.specs.Waiting.{DrainsOpen, DrainsStage, Puts, Rests, Tells, TellsNext, waiting};
@@ -106,7 +106,7 @@ fn put(front: Option<DeviceCall<'_>>, call: &mut SentCall, bytes: &mut [u8]) -> 
     }
 }
 
-// Tells the call in front, and takes it away if its bytes fit.
+// Writes the call in front, and takes it away if its bytes fit.
 fn tell(calls: &mut CallQueue, call: &mut SentCall, bytes: &mut [u8]) -> u16
     ensures { Tells calls.old calls.new call.new bytes.old bytes.new result }
 {
@@ -118,7 +118,7 @@ fn tell(calls: &mut CallQueue, call: &mut SentCall, bytes: &mut [u8]) -> u16
     status
 }
 
-// Tells the next call.
+// Writes the next call.
 fn tell_next(held: &mut Held, call: &mut SentCall, bytes: &mut [u8]) -> u16
     ensures { TellsNext ⟦<Box2 as Shape>⟧ ⟦<Box2Class as ReadKeys>⟧ ⟦<Box3 as Shape>⟧ ⟦<Box3Class as ReadKeys>⟧
         ⟦<QueueDisk as SectorDisk>⟧.state held.old held.new call.new bytes.old bytes.new result }
@@ -127,8 +127,8 @@ fn tell_next(held: &mut Held, call: &mut SentCall, bytes: &mut [u8]) -> u16
     tell(&mut held.calls, call, bytes)
 }
 
-/// Tells the first of the calls that the device made and C has not had, with the bytes of a write, and takes it away:
-/// the writes and syncs of a device are told in the order in which it made them, each once, with its bytes, and none
+/// Gives C the first of the calls that the device made and C has not had, with the bytes of a write, and takes it away:
+/// C gets the writes and syncs of a device in the order in which it made them, each once, with its bytes, and none
 /// besides. Nothing of the index changes. The status is 18 if the bytes of a write have no room, which has to be
 /// `size`; the call is not taken then.
 #[unsafe(no_mangle)]

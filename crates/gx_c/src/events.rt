@@ -157,7 +157,7 @@ fn keep_outcome<B: Copy>(found: &mut Vec<Rest<B>>, session: u8, outcome: Outcome
 }
 
 impl<K: ReadKeys + Probing> Open<K> {
-    // Makes an event, tells its outcome, and keeps what this session found.
+    // Makes an event, writes its outcome, and keeps what this session found.
     fn make(&mut self, session: u8, event: Event<K::Key>, outcome: &mut SentOutcome) -> u16
         ensures makes { MakesOpen K.Key.Shape K.ReadKeys ⟦<QueueDisk as SectorDisk>⟧.state session event outcome.new
             self.old self.new result }
@@ -202,7 +202,7 @@ fn step(stage: &mut Stage, event: &SentEvent, outcome: &mut SentOutcome) -> u16
     }
 }
 
-/// Makes one event, with at most one write or sync of the device, and tells its outcome. The status is that of the
+/// Makes one event, with at most one write or sync of the device, and writes its outcome. The status is that of the
 /// reply with which a session's call ended, or with which the event was refused; else 0. What a search found is kept
 /// for its session, as by `gx_c_search`. The status is 18, and nothing is done, if the event is of no kind or no index
 /// is open.

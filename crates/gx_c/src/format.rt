@@ -1,4 +1,4 @@
-//! Lays a new index down on a handle's device, and tells for which keys one is formatted.
+//! Lays a new index down on a handle's device, and reads for which keys one is formatted.
 ghost use Rattle.std.specs.Prelude.{◌≡◌, ◌≢◌};
 ghost use Rattle.gx_c.specs.Formats.{FormatsFor, TellsClass};
 ghost use Rattle.gx_c.specs.Stages.{IsCreated, OfDevice, OfStage};
@@ -56,7 +56,7 @@ fn class_at(stage: &mut Stage, class: &mut u16) -> u16
     }
 }
 
-/// Tells the class of keys that the device is formatted for: 1, boxes of the plane; 2, intervals; 3, boxes of space.
+/// Writes the class of keys that the device is formatted for: 1, boxes of the plane; 2, intervals; 3, boxes of space.
 /// The refusals of `gx_restart::class_of`; and 18 if there is no device, or an index is open.
 #[unsafe(no_mangle)]
 pub extern "C" fn gx_c_class(alloc: Global, handle: &mut Handle, class: &mut u16) -> u16

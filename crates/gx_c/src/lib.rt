@@ -1,7 +1,7 @@
 //! An index in process, for programs in C: functions over a handle that has a device in memory and the index on it.
 //!
-//! The device keeps its writes and syncs in a queue, from which C takes them and makes them of its file. So what C is
-//! told of a call may be handed on once the calls that wait are made. A status is 0 or the number of a refusal, and for
+//! The device keeps its writes and syncs in a queue, from which C takes them and makes them of its file. So C may
+//! hand a call's result on once it has made the calls that wait. A status is 0 or the number of a refusal, and for
 //! `Busy` 256 times the session besides.
 #![tactic(auto)]
 

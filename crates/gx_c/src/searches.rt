@@ -1,4 +1,4 @@
-//! Searches, and tells what they found.
+//! Searches, and what they found.
 ghost use Rattle.std.specs.Prelude.{◌≢◌};
 ghost use Rattle.gx_c.specs.Asking.{SearchesBox, SearchesKind, SearchesOpen, SearchesPlane};
 ghost use Rattle.gx_c.specs.Asking.{SearchesSolid, SearchesSpace, TellsMore, TellsOpen};
@@ -21,7 +21,7 @@ use gx_phases::is_session;
 use gx_queue_disk::QueueDisk;
 use std::alloc::Global;
 
-// Tells of what a session found of the plane.
+// Writes of what a session found of the plane.
 fn more_boxes(index: &mut Open<Box2Class>, session: u8, out: &mut [SentEntry]) -> SentCount
     ensures { TellsOpen sent_entry session index.old index.new out.old out.new result }
 {
@@ -31,7 +31,7 @@ fn more_boxes(index: &mut Open<Box2Class>, session: u8, out: &mut [SentEntry]) -
     tell_boxes(&mut index.found[usize::from(session) - 1], out)
 }
 
-// Tells of what a session found of space.
+// Writes of what a session found of space.
 fn more_solids(index: &mut Open<Box3Class>, session: u8, out: &mut [SentEntry3]) -> SentCount
     ensures { TellsOpen sent_entry3 session index.old index.new out.old out.new result }
 {
@@ -41,7 +41,7 @@ fn more_solids(index: &mut Open<Box3Class>, session: u8, out: &mut [SentEntry3])
     tell_solids(&mut index.found[usize::from(session) - 1], out)
 }
 
-// Asks a search of the plane, and tells of what it found.
+// Asks a search of the plane, and writes of what it found.
 fn find_boxes(
     index: &mut Open<Box2Class>,
     session: u8,
@@ -128,7 +128,7 @@ fn search_plane(
     }
 }
 
-// Asks a search of space, and tells of what it found.
+// Asks a search of space, and writes of what it found.
 fn find_solids(
     index: &mut Open<Box3Class>,
     session: u8,
@@ -216,8 +216,8 @@ fn search_space(
 }
 
 /// Finds the entries of the plane that match a query of this kind (0, overlap; 1, within; 2, equal; 3, covers), and
-/// tells as many as there are places for. The others are kept for `gx_c_more`, until the session's next search. The
-/// count says how many were found and how many are told; both are 0 unless the status is 0. The status is 6 if the
+/// writes as many as there are places for. The others are kept for `gx_c_more`, until the session's next search. The
+/// count says how many were found and how many are written; both are 0 unless the status is 0. The status is 6 if the
 /// box's corners are reversed, and 18 if the kind is none of these or no index of the plane is open.
 #[unsafe(no_mangle)]
 pub extern "C" fn gx_c_search(
@@ -264,7 +264,7 @@ pub extern "C" fn gx_c_search3(
     status
 }
 
-// Tells more of what a session found of the plane, if an index of it is open.
+// Writes more of what a session found of the plane, if an index of it is open.
 fn more_of_plane(
     stage: &mut Stage,
     session: u8,
@@ -286,7 +286,7 @@ fn more_of_plane(
     }
 }
 
-// Tells more of what a session found of space, if an index of it is open.
+// Writes more of what a session found of space, if an index of it is open.
 fn more_of_space(
     stage: &mut Stage,
     session: u8,
@@ -308,7 +308,7 @@ fn more_of_space(
     }
 }
 
-/// Tells more of what a session's last search of the plane found. The count says how many weren't told yet, and how
+/// Writes more of what a session's last search of the plane found. The count says how many C hadn't had yet, and how
 /// many are now.
 #[unsafe(no_mangle)]
 pub extern "C" fn gx_c_more(
@@ -329,7 +329,7 @@ pub extern "C" fn gx_c_more(
     status
 }
 
-/// Tells more of what a session's last search of space found, as `gx_c_more` does in the plane.
+/// Writes more of what a session's last search of space found, as `gx_c_more` does in the plane.
 #[unsafe(no_mangle)]
 pub extern "C" fn gx_c_more3(
     alloc: Global,

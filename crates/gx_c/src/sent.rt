@@ -52,7 +52,7 @@ pub struct SentCount {
     pub told: usize,
 }
 
-/// Nothing was found, and nothing told.
+/// Nothing was found, and nothing written.
 pub(crate) const UNTOLD: SentCount = SentCount { found: 0, told: 0 };
 
 /// The box with these corners.

@@ -1,4 +1,4 @@
-//! Statuses, as C is told them.
+//! Statuses, as C gets them.
 ghost use Rattle.std.specs.Prelude.{◌≡◌};
 ghost use Rattle.gx_c.specs.Statuses.{number_in, refused, replied, resulted, session_in};
 

@@ -1,4 +1,4 @@
-//! Entries that C is told.
+//! Entries that C gets.
 ghost use Rattle.std.specs.Prelude.{◌≡◌, ◌≤◌, map, length};
 ghost use Rattle.gx_c.specs.Sent.{IsTold, sent_entry, sent_entry3};
 
@@ -36,7 +36,7 @@ fn write_solids(entries: &[Entry<Box3>], out: &mut [SentEntry3])
     }
 }
 
-/// Tells as many of the entries that are left as there are places for, and takes them away.
+/// Writes as many of the entries that are left as there are places for, and takes them away.
 pub(crate) fn tell_boxes(rest: &mut Rest<Box2>, out: &mut [SentEntry]) -> SentCount
     ensures { IsTold sent_entry rest.old rest.new out.old out.new result }
 {

@@ -1,4 +1,4 @@
-//! Verifies the index on a handle's device, and tells what it holds.
+//! Verifies the index on a handle's device, and reports what it holds.
 ghost use Rattle.std.specs.Prelude.{◌≡◌, ◌≢◌};
 ghost use Rattle.gx_c.specs.Stages.{IsCreated, OfDevice, OfStage};
 ghost use Rattle.gx_c.specs.Verified.{VerifiesAs};

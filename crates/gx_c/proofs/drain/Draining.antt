@@ -50,7 +50,7 @@ not_told status told none = omega arith
 not_empty : (call : Call) (rest : List Call) → call ∷ rest ≡ [] → ⊥
 not_empty call rest none = cc
 
--- Of calls and those behind them the first is told, if there are none behind no calls.
+-- Of calls and those after them C gets the first, if there are none after no calls.
 pub tells_all : (calls left behind : List Call) (call : SentCall) (had bytes : List ℕ) (status : ℕ) → (calls ≡ [] → behind ≡ []) → Tells calls left call had bytes status
     → Tells (calls ++ behind) (left ++ behind) call had bytes status
 tells_all [] left behind call had bytes status none told =
@@ -65,7 +65,7 @@ tells_all (Write first written ∷ rest) left behind call had bytes status none 
   (λ small. ((told.4 small).0, (told.4 small).1, ap (λ calls. calls ++ behind) (told.4 small).2)),
 )
 
--- The call in front was put where C has room for it, and taken away if its bytes fit: it is told.
+-- The call in front was put where C has room for it, and taken away if its bytes fit: C gets it.
 pub tells_put : (calls left : List Call) (front : Option DeviceCall) (call : SentCall) (had bytes : List ℕ) (status : ℕ) → IsFront calls front → Puts front call had bytes status
     → (status ≡ 0 → left ≡ drop 1 calls) → ((status ≡ 0 → ⊥) → left ≡ calls) → Tells calls left call had bytes status
 tells_put calls left None call had bytes status front put popped kept =
