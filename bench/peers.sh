@@ -41,7 +41,7 @@ peers=()
 library="$top/c/out/libgist.a"
 if [ -r "$library" ]; then
     peers+=(process)
-    cc "${flags[@]}" -DIN_PROCESS -o "$work/process" "$from/workload.c" "$from/gist.c" "$library" "$(dirname "$(rt doc)")/c/liblibc_c.a"
+    cc "${flags[@]}" -DIN_PROCESS -o "$work/process" "$from/workload.c" "$from/gist.c" "$library"
 else
     echo "left out: gist in process, for want of $library" >&2
 fi
