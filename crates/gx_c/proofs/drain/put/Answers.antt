@@ -1,9 +1,6 @@
 use Rattle.std.proofs.Common.{rules}
 use Rattle.gx_c.proofs.drain.put.Goals as goal
 
-pub returns-in-Some-Sync : goal.returns-in-Some-Sync
-returns-in-Some-Sync c = search rules
-
 pub returns-then-bytes-size : goal.returns-then-bytes-size
 returns-then-bytes-size c = search rules
 
