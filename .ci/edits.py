@@ -1,9 +1,9 @@
 #!/usr/bin/env python3
-"""Looks at edits, and at how long functions and files are. Prints nothing where all is well.
+"""Looks at edits, and at how long functions and files are. Prints nothing if all is well.
 
 - Each edit of crates/NAME/must-fail and planted/NAME can be applied: an `old:` text occurs once in its file, as the
   pairs above it left that file, and the text changes.
-- What a table of wrong rules names in README or docs/ is a word of the sources or an edit; where its head says 'the gate
+- What a table of wrong rules names in README or docs/ is a word of the sources or an edit; if its head says 'the gate
   refuses', it is an edit.
 - A function has at most 40 lines without its contract, and a file of src at most 400, but for those listed below.
 """
@@ -54,7 +54,7 @@ def tables(text):
 
 
 def wrong_names(page, tried, words):
-    """Names in tables of wrong rules that are neither edits nor, where the head doesn't say that the gate refuses them, words of the sources."""
+    """Names in tables of wrong rules that are neither edits nor, if the head doesn't say that the gate refuses them, words of the sources."""
     for head, rows in tables(page.read_text()):
         if not re.match(r"\| (Wrong|Change)", head):
             continue

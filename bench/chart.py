@@ -11,13 +11,13 @@ import re
 import sys
 
 COLOURS = ["#1f77b4", "#d62728", "#2ca02c", "#9467bd", "#8c564b"]
-WIDTH, LEFT, RIGHT, TOP = 760, 190, 40, 62
+WIDTH, LEFT, RIGHT, TOP = 860, 190, 40, 62
 BAR, BETWEEN = 9, 10
 
 
 def read(text):
-    """The names of the other indexes, and of each row its name and their ratios, none where a cell has no number."""
-    run = re.search(r"^\|Work\|gist, a second\|.*\n(?:\|.*\n?)+", text, re.M)
+    """The names of the other indexes, and of each row its name and their ratios, none if a cell has no number."""
+    run = re.search(r"^\|Work\|gist, (?:in process, )?a second\|.*\n(?:\|.*\n?)+", text, re.M)
     if not run:
         sys.exit("there is no table of peers.sh")
     head, _, *rows = [line.strip("|").split("|") for line in run[0].splitlines()]

@@ -1,8 +1,8 @@
 #!/bin/sh
 # Builds the program that makes the engine's calls over a device in memory, and the tree's steps on pages in memory without one, compares
 # their sums, and times both in turn: boxes inserted in transactions of a hundred, windows looked for, and pairs marked (with the engine,
-# deleted, in transactions of a hundred). Then it times boxes that have a commit each, with nothing beside them. Behind the times stand
-# the events of each kind and the bytes that the device was given, for one of what was asked.
+# deleted, in transactions of a hundred). Then it times boxes that have a commit each, with nothing beside them. After the times it prints,
+# for one of what was asked, the events of each kind and the bytes that were written to the device.
 # Times are processor time, the system's too, without what a run takes that is asked for nothing. The argument, if there is one, is how
 # many inserts and marks a run has, 100,000 at most; it has three times as many queries, and a tenth of the commits.
 set -eu

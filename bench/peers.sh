@@ -1,12 +1,13 @@
 #!/usr/bin/env bash
-# Compares gist, asked by its client for C, with other indexes of boxes: SQLite's R*Tree, PostgreSQL's GiST, libspatialindex's R-tree in a
-# file, and Boost's in memory. All do the same seeded workload (peers/workload.c), and what they find is compared. Prints two tables. One has
+# Compares gist, in process and asked by its client for C over pipes, with other indexes of boxes: SQLite's R*Tree, PostgreSQL's GiST,
+# libspatialindex's R-tree in a file, and Boost's in memory. All do the same seeded workload (peers/workload.c), and what they find is compared. Prints two tables. One has
 # gist's rates, and their ratio to each peer's; of bytes, gist's by the peer's. The other has the microseconds of processor that each thing
 # took, of all processes that an index has, and how many times as many each peer needs.
 #
 #   bench/peers.sh [ENTRIES SEARCHES SINGLES [PROGRAM]]
 #
-# The counts are 100000, 100000 and 2000 where they aren't given. Without PROGRAM the one of this checkout is proved and built. A peer that
+# The counts are 100000, 100000 and 2000 where they aren't given. Without PROGRAM the one of this checkout is proved and built; the library
+# in process is the one of c/out, which `make -C c embedded` proves and builds. A peer that
 # isn't installed is left out, and that is said: Debian's packages are libsqlite3-dev, postgresql with libpq-dev, libspatialindex-dev and
 # libboost-dev. ROUNDS (3) is how often all is done, in turn; ratios are medians of the rounds' own. FOLDER (/tmp) is where the files lie.
 # With SLOW=1 each sync of a file takes a millisecond more. Where GROWTH names other numbers of entries (GROWTH='10000 1000000'), all is done
@@ -36,8 +37,16 @@ chmod 755 "$work"
 
 flags=(-O2 -std=c11 -Wall -Wextra -pthread "-I$top/c")
 from="$top/bench/peers"
-peers=(gist)
-cc "${flags[@]}" -o "$work/gist" "$from/workload.c" "$from/gist.c" "$top"/c/gist_*.c
+peers=()
+library="$top/c/out/libgist.a"
+if [ -r "$library" ]; then
+    peers+=(process)
+    cc "${flags[@]}" -DIN_PROCESS -o "$work/process" "$from/workload.c" "$from/gist.c" "$library"
+else
+    echo "left out: gist in process, for want of $library" >&2
+fi
+peers+=(pipes)
+cc "${flags[@]}" -o "$work/pipes" "$from/workload.c" "$from/gist.c" "$top"/c/gist_*.c
 
 # NAME HEADER PACKAGE: whether a peer can be built; says what is missing.
 has() {
@@ -102,7 +111,7 @@ python3 - "$work" "${ROUNDS:-3}" "$entries" "$sizes" "${peers[@]}" <<'P' | tee "
 import statistics, sys
 
 work, rounds, entries, sizes, peers = sys.argv[1], int(sys.argv[2]), int(sys.argv[3]), [*map(int, sys.argv[4].split())], sys.argv[5:]
-TITLES = {"sqlite": "SQLite", "postgres": "PostgreSQL", "spatialindex": "libspatialindex", "boost": "Boost"}
+TITLES = {"process": "gist, in process", "pipes": "gist, by pipes", "sqlite": "SQLite", "postgres": "PostgreSQL", "spatialindex": "libspatialindex", "boost": "Boost"}
 RATE, PROCESSOR = 0, 1
 
 def read(peer, size, number):
@@ -114,18 +123,18 @@ def read(peer, size, number):
 
 told = {(peer, size): [read(peer, size, number + 1) for number in range(rounds)] for size in sizes for peer in peers}
 for (peer, size), runs in told.items():
-    wanted = told["gist", size][0][1]
+    wanted = told[peers[0], size][0][1]
     for _, found in runs:
         if found != wanted:
-            sys.exit(f"{peer} found something else among {size}: {found}, and gist {wanted}")
+            sys.exit(f"{peer} found something else among {size}: {found}, and {peers[0]} {wanted}")
 
 def cell(peer, size, work, kind):
-    """gist's own figure; or its ratio to a peer's, of processor time the peer's to gist's."""
-    figures = [[it[0].get(work) for it in told[one, size]] for one in ("gist", peer)]
+    """The first one's own figure; or its ratio to a peer's, of processor time the peer's to its own."""
+    figures = [[it[0].get(work) for it in told[one, size]] for one in (peers[0], peer)]
     if None in figures[1] or any(it[0] == 0 for it in figures[1]):
         return "-"
     figures = [[it[kind] for it in one] for one in figures]
-    if peer == "gist":
+    if peer == peers[0]:
         figure = statistics.median(figures[1])
         return f"{figure:.1f}" if kind == PROCESSOR else f"{figure / 1e6:.1f} MB" if work.startswith("bytes") else f"{figure:,.0f}"
     if kind == PROCESSOR:
@@ -148,12 +157,13 @@ NAMES = {"searches, a tenth of all": f"searches, {entries // 10:,} hits", "singl
 RATES = ("load, random order", "load, local order", "searches, ten hits", "searches, ten hits, by sixteen", "searches, a tenth of all",
          "deletes", "single commits", "single commits of four writers", "single commits of four writers in turn")
 BYTES = ("bytes on disk", "bytes of memory")
-table("gist, a second", [(NAMES.get(it, it), entries, it) for it in RATES + BYTES], RATE)
-table("gist, microseconds of processor", [(NAMES.get(it, it), entries, it) for it in RATES], PROCESSOR)
+own = TITLES[peers[0]]
+table(f"{own}, a second", [(NAMES.get(it, it), entries, it) for it in RATES + BYTES], RATE)
+table(f"{own}, microseconds of processor", [(NAMES.get(it, it), entries, it) for it in RATES], PROCESSOR)
 if len(sizes) > 1:
     grown = [(f"{it}; {size:,}", size, it) for it in RATES[:7] + BYTES for size in sizes]
-    table("gist, a second, as it grows", grown, RATE)
-print(f"{entries:,} entries; what {len(told['gist', entries][0][1])} series of searches found is the same in all {len(peers)}, "
+    table(f"{own}, a second, as it grows", grown, RATE)
+print(f"{entries:,} entries; what {len(told[peers[0], entries][0][1])} series of searches found is the same in all {len(peers)}, "
       f"in each of {rounds} rounds.")
 P
 [ -z "${CHART-}" ] || "$top/bench/chart.py" < "$work/tables" > "$CHART"

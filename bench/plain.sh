@@ -1,5 +1,5 @@
 #!/usr/bin/env bash
-# Times `gist plain` where its lists are long: 100,000 inserts in transactions of 100; and, over 10,000 entries, 1,600
+# Times `gist plain` with long lists: 100,000 inserts in transactions of 100; and, over 10,000 entries, 1,600
 # searches in transactions that first delete 500 entries, and in ones that don't. Takes the program's path, or builds the
 # one of this checkout.
 set -euo pipefail

@@ -1,5 +1,5 @@
-// Looks at pages of a file through frames in plain C, beside the proved pool of gx_bench_runs. The arguments are `hits`, where
-// each page is in a frame, or `misses`, where few are, and how often. It prints a sum of what the pages say.
+// Looks at pages of a file through frames in plain C, beside the proved pool of gx_bench_runs. The arguments are `hits`,
+// with each page in a frame, or `misses`, with few of them, and how often. It prints a sum of what the pages say.
 // A page that comes in is tested as the proved pool tests it: the whole image, its own number, and that it is a leaf.
 #include <fcntl.h>
 #include <stdbool.h>

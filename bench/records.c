@@ -86,7 +86,7 @@ static size_t size_of(const Record *record) {
     }
 }
 
-// Writes a record of any kind at the front. The bytes that it has, or 0 where there is no room.
+// Writes a record of any kind at the front. The bytes that it has, or 0 if there is no room.
 __attribute__((noinline)) static size_t c_written(const Record *record, uint8_t *out, size_t room) {
     size_t size = size_of(record);
     if (room < size)
@@ -220,7 +220,7 @@ static bool read_mark(uint8_t byte, bool *mark) {
     return byte <= 1;
 }
 
-// Reads a record of one kind behind the byte for it. The bytes that it took with that byte, or 0.
+// Reads a record of one kind after the byte for it. The bytes that it took with that byte, or 0.
 static size_t read_record(const uint8_t *bytes, size_t left, size_t key, Record *record) {
     if (left == 0)
         return 0;

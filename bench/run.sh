@@ -7,7 +7,7 @@
 #
 #   bench/run.sh [INSERTS QUERIES SINGLES [PROGRAM]]
 #
-# The counts are 100000, 100000 and 10000 where they aren't given; SINGLES is also how many rows are deleted. With SLOW=1 each sync of a file
+# The counts are 100000, 100000 and 10000 if they aren't given; SINGLES is also how many rows are deleted. With SLOW=1 each sync of a file
 # takes a millisecond more. Without PROGRAM the one of this checkout is proved and built. FRAMES
 # (4096) names the frames, FOLDER (/tmp) where the files lie. Needs libsqlite3-dev and strace.
 set -euo pipefail

@@ -2,8 +2,8 @@
 // The arguments are what is asked and how often: `inserts`, so many boxes in a new tree; `pages`, the same, and a sum of all
 // pages' bytes; `queries`, so many windows looked for in a tree of a hundred thousand boxes; `marks`, so many of its pairs
 // looked for and marked. It prints a sum of what was done.
-// Nobody else is at work, but each page that is read is tested as if: whether it is taken, and whether it was split since
-// its number was read.
+// No other session is at work, but each page that is read is tested as if one were: whether it is taken, and whether it
+// was split since its number was read.
 #include <stdbool.h>
 #include <stdint.h>
 #include <stdio.h>
@@ -27,7 +27,7 @@ typedef struct {
     Box key;
 } Entry;
 
-// A page that is to be read, and the counter of splits as it was when the page's number was read.
+// A page that is to be read, and the counter of splits at the time when the page's number was read.
 typedef struct {
     uint32_t page;
     uint64_t seen;
@@ -356,7 +356,7 @@ static uint32_t slot_of(uint8_t *page, uint32_t child) {
     return slot;
 }
 
-// The sibling gets the sequence number and the rightlink that the node had. Nothing is done where the parent has no place.
+// The sibling gets the sequence number and the rightlink that the node had. Nothing is done if the parent has no place.
 static void split_below(uint32_t number, uint32_t parent) {
     bool sides[MOST];
     Box covers[2];

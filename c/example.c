@@ -1,4 +1,4 @@
-/* Keeps the parks of a town in an index, and asks which of them a map's window shows. The argument behind the program's
+/* Keeps the parks of a town in an index, and asks which of them a map's window shows. The argument after the program's
  * name is the file, which must not be there. */
 #include "gist_client.h"
 

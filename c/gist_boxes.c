@@ -30,19 +30,19 @@ _Static_assert(offsetof(gist_entry, box) == ROW && offsetof(gist_entry3, box) ==
 _Static_assert(sizeof(hits) == sizeof(gist_hits) && offsetof(hits, count) == offsetof(gist_hits, count), "hits");
 _Static_assert(sizeof(hits) == sizeof(gist_hits3) && offsetof(hits, count) == offsetof(gist_hits3, count), "hits");
 
-/* GIST_OK where this process may use the index, and its boxes are of this shape. */
+/* GIST_OK if this process may use the index, and its boxes are of this shape. */
 static int takes(const gist_index *index, const shape *of) {
     int told = gist_index_usable(index);
     return told == GIST_OK && index->dimensions != of->dimensions ? GIST_BAD_PARAMETER : told;
 }
 
-/* Writes the words with which a line begins, and returns what stands behind them. */
+/* Writes the words with which a line begins, and returns the place after them. */
 static char *print_words(char *line, unsigned session, const char *command) {
     line = gist_write_text(gist_write_number(line, session), " ");
     return gist_write_text(line, command);
 }
 
-/* Writes a box, ends the line, and returns what stands behind it. */
+/* Writes a box, ends the line, and returns the place after it. */
 static char *print_box(char *line, const shape *of, const char *box) {
     int32_t corners[MOST_CORNERS];
     memcpy(corners, box, of->box);
@@ -128,7 +128,7 @@ int gist_delete_many3(gist_index *index, unsigned session, const gist_entry3 *en
     return delete_many(index, &SPACE, session, entries, count, done);
 }
 
-/* Reads a line `S entry R` with a box behind. Returns what follows it, or NULL if it is no such line. */
+/* Reads a line `S entry R` with a box after it. Returns what follows it, or NULL if it is no such line. */
 static const char *read_entry(const char *line, const shape *of, unsigned session, char *entry) {
     int32_t corners[MOST_CORNERS];
     uint64_t its, row;
@@ -153,7 +153,7 @@ static bool hold(gist_index *index, const shape *of, size_t count) {
     return true;
 }
 
-/* Reads the answer of a search that begins at `*line`, and puts its entries behind so many that were found. */
+/* Reads the answer of a search that begins at `*line`, and puts its entries after so many that were found. */
 static int read_found(gist_index *index, const shape *of, unsigned session, const char **line, size_t before,
                       size_t *count) {
     uint64_t entries;
@@ -177,7 +177,7 @@ static size_t print_searches(char *lines, const shape *of, unsigned session, con
     return (size_t)(line - lines);
 }
 
-/* Says where the entries lie that searches found, one search's behind the other's. */
+/* Says where the entries lie that searches found, one search's after the other's. */
 static void place_hits(const gist_index *index, const shape *of, void *all, size_t searches) {
     const char *found = index ? index->found : NULL;
     for (char *at = all; searches > 0; searches--, at += sizeof(hits)) {

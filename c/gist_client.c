@@ -19,7 +19,7 @@ int gist_index_usable(const gist_index *index) {
     return GIST_SYSTEM;
 }
 
-/* Makes the room for answers larger. One byte of it is for the 0 behind them. */
+/* Makes the room for answers larger. One byte of it is for the 0 after them. */
 static bool grow(gist_index *index) {
     size_t room = index->room ? 2 * index->room : 1 << 16;
     char *bytes = realloc(index->bytes, room);
@@ -29,7 +29,7 @@ static bool grow(gist_index *index) {
     return true;
 }
 
-/* Reads what has come behind the answers that are kept. Returns how much, 0 at the end of all, -1 for a fault. */
+/* Reads what has come after the answers that are kept. Returns how much, 0 at the end of all, -1 for a fault. */
 static ssize_t read_more(gist_index *index) {
     ssize_t got = gist_run_read(&index->run, index->bytes + index->length, index->room - index->length - 1);
     index->length += got > 0 ? (size_t)got : 0;
@@ -80,12 +80,12 @@ static size_t announced(const char *line) {
     return gist_index_last_number(line, &found) ? (size_t)found : 0;
 }
 
-/* The next line feed of what was read, or NULL where none has come. */
+/* The next line feed of what was read, or NULL if none has come. */
 static const char *next_feed(const gist_index *index, size_t from) {
     return memchr(index->bytes + from, '\n', index->length - from);
 }
 
-/* Leaves the line that isn't whole yet, where there is no room for more. */
+/* Leaves the line that isn't whole yet, if there is no room for more. */
 static void drop_lines(gist_index *index, size_t begins) {
     index->length = begins > 0 ? index->length - begins : 0;
     memmove(index->bytes, index->bytes + begins, index->length);
@@ -155,7 +155,7 @@ int gist_index_answer(gist_index *index, unsigned session, const char *line, con
     return told == GIST_PROTOCOL ? gist_index_senseless(index) : told;
 }
 
-/* Makes one call, with these words behind the session. */
+/* Makes one call, with these words after the session. */
 static int call(gist_index *index, unsigned session, const char *words, const char *expected, const char **rest) {
     char line[GIST_LINE];
     const char *unused;

@@ -7,13 +7,13 @@
 #include <stddef.h>
 #include <stdint.h>
 
-/* Reads a number below 2^64, of one to twenty digits. Returns what stands behind it, or NULL where there is none. */
+/* Reads a number below 2^64, of one to twenty digits. Returns the place after it, or NULL if there is none. */
 static inline const char *gist_read_number(const char *at, uint64_t *number) {
     const char *begins = at;
     uint64_t read = 0;
     for (unsigned digit; (digit = (unsigned)*at - '0') <= 9; at++) read = 10 * read + digit;
     *number = read;
-    /* (nineteen digits always fit; twenty do where they begin with 1, and where no 2^64 was lost, which leaves less than
+    /* (nineteen digits always fit; twenty do if they begin with 1, and if no 2^64 was lost, which leaves less than
        10^19) */
     if (at - begins < 20) return at > begins ? at : NULL;
     return at - begins == 20 && *begins == '1' && read >= UINT64_C(10000000000000000000) ? at : NULL;
@@ -29,14 +29,14 @@ static inline const char *gist_read_corner(const char *at, int32_t *corner) {
     return at;
 }
 
-/* Returns what stands behind a text, or NULL where that text isn't there. */
+/* Returns the place after a text, or NULL if that text isn't there. */
 static inline const char *gist_read_text(const char *at, const char *text) {
     for (; *text; at++, text++)
         if (*at != *text) return NULL;
     return at;
 }
 
-/* Each of these writes, and returns what stands behind it: a number has 20 digits at most, a corner 11 bytes. */
+/* Each of these writes, and returns the place after that: a number has 20 digits at most, a corner 11 bytes. */
 static inline char *gist_write_number(char *to, uint64_t number) {
     char digits[20];
     size_t count = 0;

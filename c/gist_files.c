@@ -45,7 +45,7 @@ static bool read_through(gist_run *it, FILE *to, char last[GIST_LINE]) {
     return is_taken && got == 0;
 }
 
-/* Runs a program that asks nothing to its end. `to`, where it isn't NULL, gets what it prints, but for a refusal. */
+/* Runs a program that asks nothing to its end. `to`, if it isn't NULL, gets what it prints, but for a refusal. */
 static int run_through(const char *program, const char **words, FILE *to, char last[GIST_LINE], gist_end *end) {
     gist_run it;
     gist_end own;
@@ -61,7 +61,7 @@ static int run_through(const char *program, const char **words, FILE *to, char l
     return GIST_SYSTEM;
 }
 
-/* Makes the file, where there is none. Returns whether an index may be laid down in it: it is new, it is empty, or it is
+/* Makes the file, if there is none. Returns whether an index may be laid down in it: it is new, it is empty, or it is
    left to the program to say why it can't be made. */
 static bool may_lay_down(const char *path, bool *is_made) {
     struct stat found;

@@ -30,7 +30,7 @@ struct gist_index {
     size_t held; /* how many bytes there are for that */
 };
 
-/* GIST_OK where this process may use the index. */
+/* GIST_OK if this process may use the index. */
 int gist_index_usable(const gist_index *index);
 
 /* Ends a program that said what makes no sense, and returns GIST_PROTOCOL. */
@@ -39,10 +39,10 @@ int gist_index_senseless(gist_index *index);
 /* Writes lines, and reads the answers of the calls that they make. */
 int gist_index_exchange(gist_index *index, const char *lines, size_t length, size_t calls);
 
-/* What one answer says: GIST_OK where it is the expected one, and what follows that. */
+/* What one answer says: GIST_OK if it is the expected one, and what follows that. */
 int gist_index_answer(gist_index *index, unsigned session, const char *line, const char *expected, const char **rest);
 
-/* Reads the number that ends a line, and returns the next line, or NULL where no number ends it. */
+/* Reads the number that ends a line, and returns the next line, or NULL if no number ends it. */
 const char *gist_index_last_number(const char *at, uint64_t *number);
 
 #endif

@@ -40,7 +40,7 @@ static void shut(int *descriptor) {
     *descriptor = -1;
 }
 
-/* The environment for the program: this process's, by which a launcher that isn't built starts no build. NULL where
+/* The environment for the program: this process's, by which a launcher that isn't built starts no build. NULL if
    memory is refused. */
 static char **environment(void) {
     static char no_build[] = "GIST_NO_BUILD=1";
@@ -53,7 +53,7 @@ static char **environment(void) {
     return all;
 }
 
-/* Starts the program on these streams and with no other descriptor, where the C library can do that; with no signal
+/* Starts the program on these streams and with no other descriptor, if the C library can do that; with no signal
    blocked; and in a separate session, so that a Ctrl-C meant for this process doesn't end it in the middle of a
    transaction. Returns 0, or the error's number. */
 static int spawn(pid_t *pid, const char *const *words, const int streams[3]) {
@@ -78,7 +78,7 @@ static int spawn(pid_t *pid, const char *const *words, const int streams[3]) {
     return failed;
 }
 
-/* Its standard input is a socket: the program learns that it ends there even where a process that was forked off
+/* Its standard input is a socket: the program learns that it ends there even if a process that was forked off
    meanwhile holds the descriptor too. */
 int gist_run_start(gist_run *made, const char *program, const char **words) {
     int lines[2] = {-1, -1}, answers[2] = {-1, -1};
@@ -137,7 +137,7 @@ static const char *cause(int signal) {
 }
 
 /* Puts what the program wrote to standard error into the sentence, without its name and line feeds at the end; and
-   a text for how it ended, where a signal did that or it wrote nothing. */
+   a text for how it ended, if a signal did that or it wrote nothing. */
 static void tell(gist_end *end, int faults) {
     char *told = end->sentence;
     if (end->status < 0) told += snprintf(told, 256, "ended because %s (signal %d)", cause(-end->status), -end->status);

@@ -17,7 +17,7 @@ typedef struct gist_run {
     int faults; /* a file in memory for its standard error, which never fills as a pipe may */
 } gist_run;
 
-/* Starts the program with the arguments behind its name; words[0] is set to its path. Returns GIST_OK or GIST_SYSTEM. */
+/* Starts the program with the arguments after its name; words[0] is set to its path. Returns GIST_OK or GIST_SYSTEM. */
 int gist_run_start(gist_run *made, const char *program, const char **words);
 
 /* Reads what has come of its output, once there is something. Returns how much, 0 at the end of all, -1 for a fault. */
@@ -30,20 +30,20 @@ void gist_run_close_input(gist_run *it);
 void gist_run_forget(gist_run *it);
 
 /* Waits for its end, says how it ended, and closes what is left of it. `last` is the last line that it printed. Returns
-   GIST_OK where it ended well, the refusal with which it ended, or GIST_ENDED. */
+   GIST_OK if it ended well, the refusal with which it ended, or GIST_ENDED. */
 int gist_run_finish(gist_run *it, const char *last, gist_end *end);
 
-/* The status for what a line says behind `refused `, or GIST_PROTOCOL. */
+/* The status for what a line says after `refused `, or GIST_PROTOCOL. */
 int gist_run_refusal(const char *words);
 
 /* Refuses a call whose arguments make no sense: GIST_SYSTEM, with EINVAL. */
 int gist_run_invalid(void);
 
-/* As many frames as the index in a file has pages, 16 to 4096; 64 where the file can't be read. */
+/* As many frames as the index in a file has pages, 16 to 4096; 64 if the file can't be read. */
 unsigned gist_run_frames(const char *path);
 
-/* Of which boxes the index in a file is: GIST_OK where `*dimensions` is 2 or 3, GIST_SYSTEM where the file can't be
-   read, and GIST_PROTOCOL where it is of other keys. */
+/* Of which boxes the index in a file is: GIST_OK if `*dimensions` is 2 or 3, GIST_SYSTEM if the file can't be
+   read, and GIST_PROTOCOL if it is of other keys. */
 int gist_run_dimensions(const char *path, unsigned *dimensions);
 
 #endif

@@ -131,7 +131,7 @@ static const struct {
 };
 static size_t running;
 
-/* Ends all where a test hangs. */
+/* Ends all if a test hangs. */
 static void late(int signal) {
     static const char TEXT[] = " had not ended in its time\n";
     (void)signal;

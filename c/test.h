@@ -8,7 +8,7 @@
 
 extern const gist_box PLANE;
 
-/* Counts a fault where something doesn't hold. */
+/* Counts a fault if something doesn't hold. */
 void check(bool holds, const char *what, const char *file, int line);
 #define HOLDS(what) check(what, #what, __FILE__, __LINE__)
 

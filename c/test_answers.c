@@ -13,7 +13,7 @@ static gist_index *answering(const char *text) {
     return index;
 }
 
-/* What a search is answered with, where the program prints this and reads on, or ends. */
+/* What a search is answered with, if the program prints this and reads on, or ends. */
 static int searched(const char *text, bool ends, gist_entry *first, size_t *count) {
     char whole[384];
     const gist_entry *found;
@@ -60,7 +60,7 @@ static const char *const WRONG[] = {
     "1 refused -6 bad box\\n",
 };
 
-/* Numbers at the ends of their ranges are read. Those behind the ends, and words that are no numbers, are no answer. */
+/* Numbers at the ends of their ranges are read. Those beyond the ends, and words that are no numbers, are no answer. */
 void answers(void) {
     gist_entry first;
     size_t count;

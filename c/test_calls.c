@@ -123,7 +123,7 @@ void sessions(void) {
     HOLDS(found_in("sessions") == 160);
 }
 
-/* Several searches in one call: what each finds, in more than one write, and where one is refused. */
+/* Several searches in one call: what each finds, in more than one write, and if one is refused. */
 void searches(void) {
     gist_entry entries[500];
     gist_box boxes[100];

@@ -195,7 +195,7 @@ static void *kill_later(void *pid) {
     return kill(*(pid_t *)pid, SIGKILL) == 0 ? pid : NULL;
 }
 
-/* A call that waits for a program that doesn't answer ends where the program is killed. */
+/* A call that waits for a program that doesn't answer ends if the program is killed. */
 void stopped(void) {
     gist_index *index = fresh("stopped", 16, 4);
     gist_end end;
@@ -208,7 +208,7 @@ void stopped(void) {
     HOLDS(gist_close(index, &end) == GIST_ENDED && end.status == -SIGKILL && strstr(end.sentence, "SIGKILL"));
 }
 
-/* The program gets none of this process's descriptors, and where none can be made no call is made of it. */
+/* The program gets none of this process's descriptors, and if none can be made no call is made of it. */
 void descriptors_end(void) {
     char ours[64], its[64], path[64];
     gist_index *index, *other;

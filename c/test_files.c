@@ -60,7 +60,7 @@ static bool is_there(const char *path) {
     return access(path, F_OK) == 0;
 }
 
-/* What a file holds is lost only where that is asked for. */
+/* What a file holds is lost only if that is asked for. */
 void overwriting(void) {
     gist_end end;
     gist_index *index = fresh("kept", 16, 4);
@@ -117,7 +117,7 @@ void migrations(void) {
     HOLDS(gist_open(&index, NULL, "older", 64, &end) == GIST_OLD_VERSION && !index);
     HOLDS(gist_migrate(NULL, "older", "newer", 0, &found, &end) == GIST_OK && end.status == 0);
     HOLDS(found.commits == 0 && found.used == 2 && found_in("newer") == 0);
-    /* what a file holds is lost only where that is asked for */
+    /* what a file holds is lost only if that is asked for */
     HOLDS(gist_migrate(NULL, "older", "newer", 0, &found, &end) == GIST_SYSTEM && errno == EEXIST && found.used == 0);
     HOLDS(strcmp(end.sentence, "newer: it isn't empty, and wasn't to be overwritten") == 0);
     HOLDS(gist_migrate(NULL, "older", "newer", GIST_OVERWRITE, NULL, NULL) == GIST_OK);

@@ -36,7 +36,7 @@ void killed(void) {
     }
 }
 
-/* The file's first ten pages end at 8,523,776 + 40,960 bytes; no page behind them can be written. */
+/* The file's first ten pages end at 8,523,776 + 40,960 bytes; no page after them can be written. */
 void full_disk(void) {
     gist_entry entries[100];
     gist_end end;
@@ -92,7 +92,7 @@ void surroundings(void) {
     HOLDS(getpgid((pid_t)gist_pid(index)) != getpgid(0));
     HOLDS(kill((pid_t)gist_pid(index), SIGTERM) == 0 && gist_close(index, &end) == GIST_ENDED &&
           end.status == -SIGTERM && strstr(end.sentence, "SIGTERM"));
-    /* where children are not waited for, a fault is still reported */
+    /* if children are not waited for, a fault is still reported */
     signal(SIGCHLD, SIG_IGN);
     HOLDS(gist_format(NULL, "signals", 16, 4, GIST_OVERWRITE, NULL) == GIST_OK);
     HOLDS(gist_open(&index, NULL, "nowhere", 64, &end) == GIST_DEVICE);

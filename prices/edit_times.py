@@ -3,7 +3,7 @@
 
     prices/edit_times.py CRATE [EDIT..]
 
-One line an edit: its status (1 where it is refused), its processor seconds, and by the clock the stages that took a second
+One line an edit: its status (1 if it is refused), its processor seconds, and by the clock the stages that took a second
 or more: front-end reads the crate and its libraries, session proves, offers writes answers for each goal that is left open.
 Below it is the first error, or which goals had no answer. `rt check` in the crate's folder builds its libraries first."""
 import glob

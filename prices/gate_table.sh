@@ -1,5 +1,5 @@
 #!/usr/bin/env bash
-# Makes a table of a log of `gate_times.sh`, beside that of an earlier revision where a second log is given: for each crate
+# Makes a table of a log of `gate_times.sh`, beside that of an earlier revision if a second log is given: for each crate
 # the processor seconds of its proof, its tests, its stored runs, its edits and its planted bugs; then the slowest edits of all.
 set -euo pipefail
 log="${1:?the log}"

@@ -1,11 +1,11 @@
 #!/usr/bin/env bash
 # Runs the gate on a fresh clone, all of it anew, whatever this machine has kept of earlier runs, and logs what its parts take,
 # in processor seconds: each crate's proof, the second proof of its tests, the build of each program by two compilers, and each
-# must-fail edit (the first of a crate proves the crate again, and `(none)` is the check behind the last), and the planted bugs of a crate
+# must-fail edit (the first of a crate proves the crate again, and `(none)` is the check after the last), and the planted bugs of a crate
 # that are tried in this run. The last line has
 # the whole gate's processor seconds, its time by the clock, and its own last line. `gate_table.sh` makes a table of it. The
 # argument, if there is one, is the revision; RT_JOBS says how many crates are proved side by side (as many as there are
-# processors). Run it alone on the machine. The gate's own output goes to the file GATE_OUTPUT, if one is named. Where GATE_CRATES names
+# processors). Run it alone on the machine. The gate's own output goes to the file GATE_OUTPUT, if one is named. If GATE_CRATES names
 # crates, these and those below them are gated alone.
 set -euo pipefail
 top="$(cd "$(dirname "${BASH_SOURCE[0]}")/.." && pwd)"
@@ -14,7 +14,7 @@ trap 'rm -rf "$made"' EXIT
 git clone -q "$top" "$made/gate"
 git -C "$made/gate" checkout -q "${1:-HEAD}"
 python3 - "$made/gate" "${GATE_OUTPUT:-/dev/null}" <<'P'
-import collections, glob, os, re, resource, subprocess, sys, time
+import collections, glob, os, re, resource, shutil, subprocess, sys, time
 
 folder, output = sys.argv[1:]
 tick = os.sysconf("SC_CLK_TCK")
@@ -74,7 +74,10 @@ def run(words, told):
 began = time.time()
 named = os.environ.get("GATE_CRATES", "").split()
 with open(output, "w+", encoding="utf-8") as told:
-    last = run(["rt", "ci", "--anew", *named], told)
+    # (some kits keep proofs between runs unless they are told otherwise, and only they gate crates by name)
+    with open(shutil.which("rt"), encoding="utf-8") as it:
+        anew = ["--anew", *named] if "--anew" in it.read() else []
+    last = run(["rt", "ci", *anew], told)
     turn = subprocess.run([".ci/turns"], cwd=folder, stdout=subprocess.PIPE, text=True).stdout.split()
     last += "; planted: " + run(["tools/planted.py", *(it for it in turn if not named or it in named)], told)
 clock = time.time() - began

@@ -1,5 +1,5 @@
 #!/usr/bin/env python3
-"""Tells what each function's proof took in a crate, and for what, by the times at which a check wrote what it keeps.
+"""Prints what each function's proof took in a crate, and for what, by the times at which a check wrote what it keeps.
 
     prices/proof_times.py CRATE [LINES]
 

@@ -33,7 +33,7 @@ def copied(crate, to):
 
 
 def kept_by_rt(crate, to):
-    """Copies what `rt check` in the crate's folder keeps, so that a check begins with it; nothing where it keeps nothing."""
+    """Copies what `rt check` in the crate's folder keeps, so that a check begins with it; nothing if it keeps nothing."""
     kept = f"{TOP}/crates/{crate}/out/incremental"
     if os.path.isdir(kept):
         shutil.copytree(kept, to, symlinks=True)

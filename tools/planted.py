@@ -211,7 +211,7 @@ class Crate:
         return found
 
     def judge(self, edit, said, status, is_alone):
-        """Says what a check showed of an edit, where it did; else it is tried alone."""
+        """Says what a check showed of an edit, if it did; else it is tried alone."""
         names = [it for it in edit.near or edit.functions if it]
         verdicts = [verdict for name, verdict in VERDICT.findall(said) if any(f"::{name}".endswith(f"::{it}") for it in names)]
         errors = self.errors_of(edit, said)
@@ -280,7 +280,7 @@ def edits_in(folder, crate):
 
 
 def untried():
-    """The planted bugs that no gate has tried yet, as CRATE/NAME; none where there is no list."""
+    """The planted bugs that no gate has tried yet, as CRATE/NAME; none if there is no list."""
     listed = pathlib.Path(f"{TOP}/planted/untried")
     return set(listed.read_text(encoding="utf-8").split()) if listed.exists() else set()
 

@@ -1,6 +1,6 @@
 #!/usr/bin/env python3
 """serves.py [--wrong] [CRATE]..: prints which sources each lemma file of a crate serves: those whose answers cite it, directly or through other
-lemma files; a crate above counts as one. Where a file serves one source alone and isn't in the folder of that source's name, the line ends in
+lemma files; a crate above counts as one. If a file serves one source alone and isn't in the folder of that source's name, the line ends in
 `=> FOLDER`; --wrong prints only such lines."""
 import collections
 import pathlib
@@ -41,7 +41,7 @@ def cited(crate, text):
 
 
 def sources_of(crate, answer):
-    """The source that an answer is of: its module's, or that which has its function, where this is a type's."""
+    """The source that an answer is of: its module's, or that which has its function, if this is a type's."""
     *path, function, _ = answer.split(".")
     module = max((name for name in CODE[crate] if (".".join(path) + ".").startswith(name + ".")), key=len, default="lib")
     having = [name for name, functions in FUNCTIONS[crate].items() if function in functions]

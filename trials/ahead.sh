@@ -1,6 +1,6 @@
 #!/usr/bin/env bash
 # Looks at the early syncs of threads over one file, of which no contract speaks: most syncs are early, and the device
-# makes none of these again; and where an early one fails once, and the next would succeed, every waiting commit is
+# makes none of these again; and if an early one fails once, and the next would succeed, every waiting commit is
 # answered `device` or `failed`, no sync is begun any more, and the file opens with all commits that were acknowledged.
 # Takes the paths of `gx_threads_example` and of the program, or proves and builds those of this checkout. The last line
 # counts.
@@ -48,7 +48,7 @@ is_refused() {
         [ "$(grep -c 'the record agrees: true$' out)" = 4 ] && [ "$(acknowledged)" -lt 160 ]
 }
 
-# Whether no sync was made behind the one that was refused, but for one that another thread had begun.
+# Whether no sync was made after the one that was refused, but for one that another thread had begun.
 ends_refused() { awk 'gone && /^(early|sync|fault)$/ { more++ } /^refused$/ { gone = 1 } END { exit !gone || more > 1 }' calls; }
 
 # Whether the file has all commits that were acknowledged, and one more of each session at most.

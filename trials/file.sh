@@ -69,7 +69,7 @@ status, told, calls = run([devices], "file write\nfile write\nfile open\nfile cr
 case("a file is reported", told.splitlines(), ["file write: in use", "file write: in use", "file open: 4 sectors, 00 00 c3 00", "file create 5: 5 sectors, 00 00 c3 00"])
 case("a file's calls", calls, first + again + reads(0, 1, 2, 3) + [("ftruncate", 2560)] + reads(0, 1, 2, 3))
 
-# An extent of the log: 128 times a body and its gate, each with a sync behind it.
+# An extent of the log: 128 times a body and its gate, each with a sync after it.
 SECTORS, PLACES, BODIES, BODY = 16648, 128, 136, 32768
 def extent(begins, sync):
     calls = list(begins)

@@ -1,5 +1,5 @@
 // Loaded in front of the C library, keeps beside the file named by FILE what a stop of the machine would leave of it at
-// least: the file named by KEPT gets a write once a sync that began behind it has ended. With LATE set a sync keeps only
+// least: the file named by KEPT gets a write once a sync that began after it has ended. With LATE set a sync keeps only
 // what the one before it was to keep, and answers as if it had kept all: so behaves a disk that lies.
 #define _GNU_SOURCE
 #include <fcntl.h>
@@ -17,7 +17,7 @@ typedef struct part {
     char bytes[];
 } part;
 
-// (`turn` is held while a part is put behind the others, or all are taken; `order` through a whole sync, and before it)
+// (`turn` is held while a part is put after the others, or all are taken; `order` through a whole sync, and before it)
 static pthread_mutex_t turn = PTHREAD_MUTEX_INITIALIZER, order = PTHREAD_MUTEX_INITIALIZER;
 static part *first, **last = &first, *late;
 

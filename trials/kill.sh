@@ -9,13 +9,13 @@
 # file, which has only what was synced (keep_synced.c): what a stop of the machine leaves at least. A disk that lies is noticed.
 #
 # `gist migrate` brings an index of the format's first version into another file, over nothing or over another index. After each kill the
-# first file is byte for byte as it was, and the other is as it was, is refused, or holds the whole index; so does what was synced of it.
+# first file has the same bytes, and the other is unchanged, is refused, or holds the whole index; so does what was synced of it.
 # Before that each of its calls that changes the new file is killed in turn, and has an error in turn. Needs strace.
 #
 #   trials/kill.sh [KILLS [SEED [KILLS-OF-THREADS [KILLS-OF-MIGRATIONS]]]]
 #
-# PROGRAM and THREADS, where they are set, are the paths of the program and of gx_threads_example; else those of this checkout are proved and
-# built. KILLS is 200, SEED 1, KILLS-OF-THREADS 40 and KILLS-OF-MIGRATIONS 100 where they aren't given. The last line counts the kills.
+# PROGRAM and THREADS, if they are set, are the paths of the program and of gx_threads_example; else those of this checkout are proved and
+# built. KILLS is 200, SEED 1, KILLS-OF-THREADS 40 and KILLS-OF-MIGRATIONS 100 if they aren't given. The last line counts the kills.
 set -euo pipefail
 top="$(cd "$(dirname "${BASH_SOURCE[0]}")/.." && pwd)"
 if [ -n "${PROGRAM-}" ]; then

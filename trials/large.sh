@@ -5,7 +5,7 @@ set -euo pipefail
 top="$(cd "$(dirname "${BASH_SOURCE[0]}")/.." && pwd)"
 program="$top/crates/gx_front/out/gx_front"
 if [ $# -eq 1 ]; then program="$(realpath "$1")"; else "$top/gist" plain < /dev/null; fi
-# (in memory where there is such a folder, since each split is synced)
+# (in memory if there is such a folder, since each split is synced)
 [ -w /dev/shm ] && export TMPDIR=/dev/shm
 work="$(mktemp -d)"
 trap 'rm -rf "$work"' EXIT

@@ -13,7 +13,7 @@ P
     cp "$top/trials/version1/$1.dump" tree
 }
 
-# KIND COMMITS USED: a file of this kind is migrated, stays as it is, and its tree is in the new file.
+# KIND COMMITS USED: a file of this kind is migrated, isn't changed, and its tree is in the new file.
 migrates() {
     unpack "$1"
     rm -f migrated
@@ -30,6 +30,9 @@ lines=""
 migrates fresh 0 2
 migrates log 60 40
 migrates open 2 2
+migrates cut 1 3
+on_file "what a transaction that was open had written is undone" 0 'ok commits 1 entries 2 used 3
+' "" verify migrated
 migrates both 200 43
 migrates full 59 8
 migrates rows 3 2

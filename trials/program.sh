@@ -302,7 +302,7 @@ holds "wrong arguments don't change the file" cmp -s places before
 on_file "wrong arguments for a new file" 2 "$nothing" "7 is not in 8..=65536" format new 7 4
 holds "wrong arguments make no file" [ ! -e new ]
 
-# Why a file can't be opened is written behind its name; nothing is made.
+# Why a file can't be opened is written after its name; nothing is made.
 missing="^gist: nowhere: no such file or directory$"
 on_file "a file that isn't there" 1 "$none" "$missing" run nowhere
 on_file "a file that isn't there, to be dumped" 1 "$none" "$missing" dump nowhere
@@ -329,7 +329,7 @@ on_file "its tree: none" 1 'refused 14 not formatted
 ' "^gist: " dump zeros
 on_file "zeros, verified" 1 'refused 14 not formatted
 ' "^gist: " verify zeros
-# Files that version 1 made, and one of this version's length with its letters: each is refused by these, and left as it is. One that was
+# Files that version 1 made, and one of this version's length with its letters: each is refused by these, and left unchanged. One that was
 # cut shorter than any index of that version has is refused by its length, whatever it begins with.
 python3 - "$top/trials/version1" <<- 'END'
 	import base64, lzma, sys

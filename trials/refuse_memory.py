@@ -135,7 +135,7 @@ def counted():
 
 
 def ask(name, child, line, wanted):
-    """Asks a line, once more where it is refused memory. Whether it was; None where the program is at its end, refused memory alone."""
+    """Asks a line, once more if it is refused memory. Whether it was; None if the program is at its end, refused memory alone."""
     lacked = False
     while True:
         try:
@@ -169,7 +169,7 @@ def end(child):
 
 
 def run(name, words, script, refused=0):
-    """Runs a script call by call. How many calls were refused memory; None where the program was."""
+    """Runs a script call by call. How many calls were refused memory; None if the program was."""
     child = start(words, refused)
     lacked = 0
     for line, wanted in script:
@@ -188,7 +188,7 @@ def run(name, words, script, refused=0):
 
 
 def tell(name, words, ample, refused=0):
-    """Runs a command that reads nothing. Whether it was refused memory, perhaps behind a beginning of what it writes."""
+    """Runs a command that reads nothing. Whether it was refused memory, perhaps after a beginning of what it writes."""
     child = start(words, refused)
     status, text = end(child)
     if (status, text) == (0, ample):
@@ -235,7 +235,7 @@ def format_file(pages, most, counts=None):
 
 
 def holding(tree):
-    """What verifying an index with this tree prints, where no transaction was open."""
+    """What verifying an index with this tree prints, if no transaction was open."""
     lines = tree.splitlines()
     commits, used = lines[0].split()[1::2][:2]
     return f"ok commits {commits} entries {sum(line.endswith(' live') for line in lines)} used {used}\n"

@@ -21,7 +21,7 @@ static void note(const char *line)
     close(notes);
 }
 
-// Notes a call where it is made of the file; returns whether it is.
+// Notes a call if it is made of the file; returns whether it is.
 static int noted(int descriptor, const char *line)
 {
     struct stat its, own;

@@ -1,6 +1,6 @@
 #!/usr/bin/env bash
 # Looks at the syncs of the built program, of which no contract speaks: no `committed` is written while a write to the
-# file has no sync behind it; a sync that fails is answered `refused 11 device` and all that follows `refused 12
+# file has no sync after it; a sync that fails is answered `refused 11 device` and all that follows `refused 12
 # failed`, no call of the file follows it, and what was committed is found again. Takes the program's path, or proves
 # and builds the one of this checkout. The last line counts.
 set -euo pipefail
@@ -43,11 +43,11 @@ is_settled() {
         END { exit !told || bad }' calls
 }
 
-# Whether the calls behind the sync that was refused are none of the file.
+# Whether the calls after the sync that was refused are none of the file.
 ends_refused() { awk 'gone && !/^reply$/ { bad = 1 } /^refused$/ { gone = 1 } END { exit !(gone && !bad) }' calls; }
 
 # Whether the last run was answered as the ample one, whose replies are in `ample`, up to some call, that one by 11
-# and the rest by 12; or by 11 alone as it opened; or amply, where what failed was the last sync of all.
+# and the rest by 12; or by 11 alone as it opened; or amply, if what failed was the last sync of all.
 is_told() {
     awk 'NR == FNR { ample[FNR] = $0; next }
         FNR == 1 && $0 == "refused 11 device" { early = 1; next }

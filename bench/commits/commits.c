@@ -1,7 +1,7 @@
 /* Times transactions in threads: `PEER KIND THREADS EACH PATH` makes an index anew, and has each thread work on it by a
    connection of its own, in a strip of its own.
 
-   `single`: each thread commits so many inserts, one a transaction and in no order; `pair`: each behind a search. The
+   `single`: each thread commits so many inserts, one a transaction and in no order; `pair`: each after a search. The
    seconds that the threads took are printed.
 
    `paced`: the first thread commits so many inserts, while each of the others commits one and pauses for a millisecond;

@@ -18,7 +18,7 @@ static inline void stop(const char *what, const char *why) {
 /* A connection of its own; the first one makes the index anew. */
 client *client_open(const char *path, bool is_first);
 void client_close(client *by);
-/* A transaction: a search of the session's strip, where one is wanted; then the insert of a box at this place of it,
+/* A transaction: a search of the session's strip, if one is wanted; then the insert of a box at this place of it,
    and a commit. */
 void client_transact(client *by, long session, int place, bool searches);
 /* A transaction that reads alone: its begin, a search of the session's strip, and its end. */

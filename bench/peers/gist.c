@@ -1,15 +1,21 @@
-/* gist, by its client for C. GIST names the program, FRAMES how many pages it holds in memory. */
+/* gist: by its client for C, where GIST names the program; or in process, where IN_PROCESS is defined. */
 #include "peers.h"
 
+#ifdef IN_PROCESS
+#include "gist.h"
+#else
 #include "gist_client.h"
+#endif
 
 #include <pthread.h>
 #include <stdio.h>
 #include <stdlib.h>
 
 static gist_index *index_of;
+#ifndef IN_PROCESS
 /* the client is used by one thread at a time */
 static pthread_mutex_t turn = PTHREAD_MUTEX_INITIALIZER;
+#endif
 
 static void expect(const char *what, int status) {
     if (status != GIST_OK) stop(what, gist_text(status));
@@ -83,8 +89,12 @@ void peer_search_many(const pair *windows, size_t count, void (*found)(const pai
     for (size_t i = 0; i < count; i++) hand(hits[i].found, hits[i].count, found);
 }
 
-/* A call, in its turn. */
+/* A call, in its turn: threads share an index in process, which takes turns itself. */
+#ifdef IN_PROCESS
+#define IN_TURN(call) (status = (call), expect("write", status))
+#else
 #define IN_TURN(call) (pthread_mutex_lock(&turn), status = (call), pthread_mutex_unlock(&turn), expect("write", status))
+#endif
 
 void peer_write(unsigned writer, const pair *it) {
     int status;

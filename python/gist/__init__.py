@@ -28,10 +28,11 @@ What is used most:
     GistError                what any call raises; its classes say why
 
 Rows are integers below 2**64, boxes four integers of 32 bits: x1, y1, x2, y2;
-in an index of boxes of space six: x1, y1, z1, x2, y2, z2. Each open index is
-a process of its own, which is asked over two pipes: a fault of this process
-leaves the index alone. docs/CLIENTS.md has the whole picture, docs/SCRIPT.md
-what each call means and each refusal.
+in an index of boxes of space six: x1, y1, z1, x2, y2, z2. Where the library
+libgist is installed, this process has the index itself (docs/LIBRARY.md);
+else, and with embedded=False, an open index is a process of its own, which is
+asked over two pipes: a fault of this process leaves it alone. docs/CLIENTS.md
+has the whole picture, docs/SCRIPT.md what each call means and each refusal.
 """
 
 from gist._entries import MAX_CORNER, MAX_ROW, MIN_CORNER, Box, Box3, Hits

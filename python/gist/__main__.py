@@ -25,7 +25,7 @@ _Entry = Tuple[int, AnyBox]
 
 def main(words: Optional[List[str]] = None) -> int:
     """Does what the arguments ask, and returns the status: 0 if all was done,
-    1 with a line on standard error where it failed, 130 after Ctrl-C. Wrong
+    1 with a line on standard error if it failed, 130 after Ctrl-C. Wrong
     words end the process with status 2."""
     asked = _parser().parse_args(words)
     try:
@@ -117,7 +117,7 @@ def _draw(asked: argparse.Namespace) -> None:
 
 @contextlib.contextmanager
 def _table(name: str) -> Iterator[TextIO]:
-    """The lines of a file, or of standard input where it is called -."""
+    """The lines of a file, or of standard input if it is called -."""
     if name == "-":
         yield sys.stdin
         return

@@ -61,7 +61,7 @@ def pages_for(pages: int, entries: int, fanout: int) -> int:
 
 
 def _refuse_content(path: Path) -> None:
-    """Raises FileExistsError where the file holds anything."""
+    """Raises FileExistsError if the file holds anything."""
     if path.is_dir() or path.exists() and path.stat().st_size > 0:
         raise FileExistsError(errno.EEXIST, "there is something in it already",
                               str(path))

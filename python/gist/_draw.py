@@ -64,7 +64,7 @@ def draw(lines: Iterable[str], fanout: int, title: str) -> Iterator[str]:
 
     Boxes of space are seen from above: the higher an entry reaches the darker
     it is, and it lies over those that are lower. Pages are outlines then, but
-    where no entries are drawn leaves have the shades.
+    if no entries are drawn leaves have the shades.
     """
     levels = _levels(pages_of(lines))
     frame = _Frame([bound for level in levels.values() for _, bound in level])

@@ -2,6 +2,7 @@
 
 from contextlib import suppress
 from itertools import chain, repeat
+from struct import Struct
 from typing import (Any, Dict, Iterator, List, NamedTuple, Sequence, Tuple,
                     Type, Union)
 
@@ -11,7 +12,7 @@ MAX_ROW = 2 ** 64 - 1
 MIN_CORNER = -2 ** 31
 MAX_CORNER = 2 ** 31 - 1
 
-# How much of what was found is taken apart at once, in bytes.
+# How much of what the program printed is taken apart at once, in bytes.
 _BLOCK = 1 << 14
 
 # Makes a box of as many numbers as it has; _make would count them again.
@@ -21,7 +22,7 @@ _new: Any = tuple.__new__
 class Box(NamedTuple):
     """A box with its edges, of 32-bit integers: x1 <= x2 and y1 <= y2.
 
-    Where a box is asked for, any four integers in this order will do.
+    If a box is asked for, any four integers in this order will do.
     """
 
     x1: int
@@ -47,6 +48,9 @@ class Box3(NamedTuple):
 
 AnyBox = Union[Box, Box3]
 
+# An entry as the library in process has it.
+_LAYOUTS: Dict[type, Struct] = {Box: Struct("=Q4i"), Box3: Struct("=Q6i")}
+
 
 class Hits(Iterator[Tuple[int, AnyBox]]):
     """What a search found, in order by row and then box: an iterator.
@@ -56,14 +60,17 @@ class Hits(Iterator[Tuple[int, AnyBox]]):
     Its length is how many were found, also once some or all were taken.
     """
 
-    __slots__ = ("count", "_entries")
+    __slots__ = ("count", "_box", "_found", "_is_packed", "_entries")
 
-    def __init__(self, count: int, lines: bytes,
-                 box: Type[AnyBox] = Box) -> None:
+    def __init__(self, count: int, found: bytes,
+                 box: Type[AnyBox] = Box, is_packed: bool = False) -> None:
         #: How many were found, as len() returns.
         self.count = count
-        self._entries = chain.from_iterable(
-            _entries(block, box) for block in _blocks(lines))
+        self._box = box
+        # (lines of the program, or entries as the library in process has them)
+        self._found = found
+        self._is_packed = is_packed
+        self._entries = self._all()
 
     def __len__(self) -> int:
         return self.count
@@ -77,6 +84,33 @@ class Hits(Iterator[Tuple[int, AnyBox]]):
     def __next__(self) -> Tuple[int, AnyBox]:
         return next(self._entries)
 
+    def to_numpy(self) -> Any:
+        """All that was found, as an array of numpy, whatever was taken: its
+        fields are row and the box's corners. It may be one that can't be
+        written to.
+
+        Raises ImportError where numpy isn't installed.
+        """
+        import numpy
+        kind = numpy.dtype([("row", "=u8")] + [(name, "=i4")
+                                               for name in self._box._fields])
+        if self._is_packed:
+            return numpy.frombuffer(self._found, kind)
+        return numpy.array([(row, *box) for row, box in self._all()], kind)
+
+    def _all(self) -> Iterator[Tuple[int, AnyBox]]:
+        if self._is_packed:
+            return _unpacked(self._found, self._box)
+        return chain.from_iterable(_entries(block, self._box)
+                                   for block in _blocks(self._found))
+
+
+def _unpacked(found: bytes, box: Type[AnyBox]
+              ) -> Iterator[Tuple[int, AnyBox]]:
+    """The entries of bytes as the library in process has them."""
+    for numbers in _LAYOUTS[box].iter_unpack(found):
+        yield numbers[0], _new(box, numbers[1:])
+
 
 def _blocks(lines: bytes) -> Iterator[bytes]:
     """The lines in pieces."""
@@ -89,7 +123,7 @@ def _blocks(lines: bytes) -> Iterator[bytes]:
 
 def _entries(lines: bytes, box: Type[AnyBox]
              ) -> List[Tuple[int, AnyBox]]:
-    """The entries of lines `S entry R` with a box's corners behind."""
+    """The entries of lines `S entry R` with a box's corners after it."""
     words = lines.split()
     step = 3 + len(box._fields)
     count = lines.count(b"\n")
@@ -118,17 +152,27 @@ class Kind:
 
     def corners_of(self, box: Sequence[int]) -> str:
         """The words of a box; whether it is reversed is left to the index."""
+        # (numbers that aren't whole have no format d)
+        with suppress(ValueError):
+            return self._spell(*self.numbers_of(box))
+        raise self.no_box(box)
+
+    def numbers_of(self, box: Sequence[int]) -> Tuple[int, ...]:
+        """The numbers of a box, as many as there have to be, of 32 bits."""
         corners = tuple(box)
-        if len(corners) != self.count:
-            raise ValueError(
+        if (len(corners) == self.count and MIN_CORNER <= min(corners)
+                and max(corners) <= MAX_CORNER):
+            return corners
+        raise self.no_box(box)
+
+    def no_box(self, box: Sequence[int]) -> ValueError:
+        """Why this isn't a box."""
+        if len(tuple(box)) != self.count:
+            return ValueError(
                 f"{box!r}: the index is of {self.name}, which are "
                 f"{self.count} numbers: {', '.join(self.box._fields)}")
-        if MIN_CORNER <= min(corners) and max(corners) <= MAX_CORNER:
-            # (numbers that aren't whole have no format d)
-            with suppress(ValueError):
-                return self._spell(*corners)
-        raise ValueError(f"{box!r}: corners are integers of 32 bits; "
-                         "degrees times 10,000,000 fit")
+        return ValueError(f"{box!r}: corners are integers of 32 bits; "
+                          "degrees times 10,000,000 fit")
 
     def entry_of(self, row: int, box: Sequence[int]) -> str:
         """The words of an entry."""

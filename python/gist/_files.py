@@ -5,10 +5,12 @@ import operator
 import os
 import time
 from contextlib import contextmanager, suppress
+from ctypes import CDLL
 from typing import Iterator, NamedTuple, Optional
 
 from gist._entries import kind_of
 from gist._index import Index
+from gist._libgist import format_file, library, verify_file
 from gist._numbers import numbers_of, opened
 from gist._process import AnyPath, lines_of, words_of
 from gist._refusals import InUse, ProtocolError
@@ -60,21 +62,34 @@ class Stat(NamedTuple):
 
 
 def open(path: AnyPath, frames: Optional[int] = None,
-         program: Optional[AnyPath] = None, wait: float = 0.0) -> Index:
+         program: Optional[AnyPath] = None, wait: float = 0.0,
+         embedded: Optional[bool] = None) -> Index:
     """Opens the index in a file; what a crash cut off is undone first.
 
     frames, 16 to 4096, is how many pages of 4,096 bytes are held in memory:
-    all pages of the index, where that many may be, unless a number is given.
-    program is the path of gist, where it isn't the one that the environment
-    variable GIST names, or the file gist beside this package's folder. wait
-    is for how many seconds this tries again while another process has the
-    file open; then it raises InUse.
+    all pages of the index, if that many may be, unless a number is given.
+    wait is for how many seconds this tries again while another process has
+    the file open; then it raises InUse.
 
-    Raises OSError, as FileNotFoundError, for a file that can't be opened, and
-    OldVersion, NotFormatted, Damaged, TooSmall or BadParameter for what it
-    holds.
+    With embedded this process has the index itself, by the library in
+    process (docs/LIBRARY.md): the environment variable GIST_LIBRARY names
+    it, where it isn't installed; an empty one stands for none. Without, the
+    index is a process of its own: program is the path of gist, where it
+    isn't the one that the variable GIST names, or the file gist beside this
+    package's folder. By default the library has the index, where there is
+    one and no program is given.
+
+    Raises OSError, as FileNotFoundError, for a file that can't be opened or a
+    library that isn't installed, and OldVersion, NotFormatted, Damaged,
+    TooSmall or BadParameter for what it holds.
     """
-    words_of(program)
+    if embedded is None:
+        embedded = program is None and library() is not None
+    if not embedded:
+        words_of(program)
+    elif library() is None:
+        raise OSError(errno.ENOENT, "the library in process isn't installed, "
+                      "and GIST_LIBRARY doesn't name it", "libgist.so")
     pages, _, _ = numbers_of(path, os.O_RDWR)
     if frames is None:
         frames = min(max(pages, MIN_FRAMES), MAX_FRAMES)
@@ -82,7 +97,7 @@ def open(path: AnyPath, frames: Optional[int] = None,
     end = time.monotonic() + wait
     while True:
         try:
-            return Index(path, frames, program)
+            return Index(path, frames, program, embedded)
         except InUse:
             if time.monotonic() >= end:
                 raise
@@ -102,6 +117,11 @@ def format(path: AnyPath, pages: int, fanout: int = 100,
     _check("pages", pages, MIN_PAGES, MAX_PAGES)
     _check("fanout", fanout, MIN_FANOUT, MAX_FANOUT)
     kind = kind_of(dimensions)
+    it = _library_alone(program)
+    if it:
+        with _made(path, overwrite):
+            format_file(it, os.fspath(path), pages, fanout, dimensions)
+        return
     # (a program that has no boxes of space doesn't know the word)
     chosen = ["--class", f"{kind.number:d}"] if kind.number > 1 else []
     words = words_of(program, "format", *chosen, "--", os.fspath(path),
@@ -152,6 +172,10 @@ def verify(path: AnyPath, program: Optional[AnyPath] = None) -> Report:
     The index must not be open, and its file isn't changed. Raises Damaged
     for one that isn't sound, and what open raises.
     """
+    it = _library_alone(program)
+    if it:
+        numbers_of(path)
+        return Report(*verify_file(it, os.fspath(path)))
     words = words_of(program, "verify", "--", os.fspath(path))
     numbers_of(path)
     line = "".join(lines_of(words))
@@ -168,6 +192,16 @@ def stat(path: AnyPath, program: Optional[AnyPath] = None) -> Stat:
     return Stat(pages, fanout, kind, used, commits, entries, used / pages)
 
 
+def _library_alone(program: Optional[AnyPath]) -> Optional[CDLL]:
+    """The library, where no program is given, and none is installed."""
+    if program is None:
+        try:
+            words_of(None)
+        except FileNotFoundError:
+            return library()
+    return None
+
+
 def _check(name: str, number: int, least: int, most: int) -> None:
     if not least <= operator.index(number) <= most:
         raise ValueError(f"{name} is {number}: an integer from {least} to "
@@ -176,7 +210,7 @@ def _check(name: str, number: int, least: int, most: int) -> None:
 
 @contextmanager
 def _made(path: AnyPath, overwrite: bool) -> Iterator[None]:
-    """Makes a file where none exists; it goes again if what follows fails."""
+    """Makes a file if none exists; it goes again if what follows fails."""
     is_made = _make(path, overwrite)
     try:
         yield
@@ -191,7 +225,7 @@ def _made(path: AnyPath, overwrite: bool) -> Iterator[None]:
 
 
 def _make(path: AnyPath, overwrite: bool) -> bool:
-    """Makes a file where none exists, and returns whether it did."""
+    """Makes a file if none exists, and returns whether it did."""
     try:
         os.close(opened(path, os.O_RDWR | os.O_CREAT | os.O_EXCL))
         return True

@@ -5,9 +5,10 @@ import time
 from itertools import islice
 from os import fspath
 from typing import (Any, Callable, Iterable, List, Optional, Sequence, Tuple,
-                    Type, TypeVar)
+                    Type, TypeVar, Union)
 
-from gist._entries import KINDS, Hits
+from gist._entries import KINDS, Hits, kind_of
+from gist._library import Library
 from gist._load import load
 from gist._numbers import numbers_of
 from gist._process import AnyPath, words_of
@@ -28,14 +29,26 @@ _Kind = TypeVar("_Kind", bound=Reader)
 class Index:
     """An open index; `gist.open` opens one.
 
-    Threads may share it: each call is a whole by itself, one at a time, and
-    each thread makes its calls in transactions of its own.
+    Threads may share it: each call is a whole by itself, and each thread
+    makes its calls in transactions of its own.
     """
 
     def __init__(self, path: AnyPath, frames: int,
-                 program: Optional[AnyPath]) -> None:
+                 program: Optional[AnyPath],
+                 embedded: bool = False) -> None:
         #: The file's path, as it was given.
         self.path = path
+        if embedded:
+            self._program: Union[Program, Library] = Library(fspath(path),
+                                                             frames)
+            self._kind = kind_of(self._program.dimensions)
+        else:
+            self._start(path, frames, program)
+        self._sessions = Sessions(self._program, path, self._kind)
+
+    def _start(self, path: AnyPath, frames: int,
+               program: Optional[AnyPath]) -> None:
+        """Starts the program that has the index."""
         self._program = Program(words_of(
             program, "run", "--frames", f"{frames:d}", "--", fspath(path)))
         # (this changes nothing, and is answered once the index is open)
@@ -49,7 +62,6 @@ class Index:
             self._program.kill()
             raise ProtocolError(f"an index of class {number} was opened")
         self._kind = KINDS[number]
-        self._sessions = Sessions(self._program, path, self._kind)
 
     def __enter__(self) -> "Index":
         return self
@@ -62,19 +74,20 @@ class Index:
 
     @property
     def pid(self) -> int:
-        """The number of the program's process."""
+        """The number of the process that has the index: the program's, or
+        this one's where it is embedded."""
         return self._program.pid
 
     @property
     def dimensions(self) -> int:
-        """2 where its boxes are four numbers, as Box; 3 where they are six,
+        """2 if its boxes are four numbers, as Box; 3 if they are six,
         as Box3."""
         return self._kind.dimensions
 
     def transaction(self, wait: Optional[float] = 0.0) -> Transaction:
         """Begins a transaction in one of the sessions that are free.
 
-        Where none is free this waits for one, so many seconds at most, or
+        If none is free this waits for one, so many seconds at most, or
         as long as it takes (None); then it raises NoSession.
         """
         return self._begin(Transaction, wait)
@@ -86,7 +99,7 @@ class Index:
     def search(self, box: Sequence[int]) -> Hits:
         """Finds the entries whose box shares a point with this one.
 
-        It is a transaction of its own. Where another one is in the way, this
+        It is a transaction of its own. If another one is in the way, this
         tries again for five seconds, and then raises Busy.
         """
         return self.retry(lambda t: t.overlap(box), reading=True, tries=None,
@@ -123,7 +136,7 @@ class Index:
               within: Optional[float] = None) -> _Result:
         """Does work(transaction), commits, and returns what it returned.
 
-        Where another transaction is in the way (Busy), it is all given up and
+        If another transaction is in the way (Busy), it is all given up and
         done anew after a short pause: so many times in all, and for so many
         seconds; None is no bound. With reading, work is given a Reader.
         """

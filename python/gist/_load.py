@@ -43,7 +43,7 @@ def load(index: "Index", kind: Kind, entries: Iterable[Entry],
     All entries are read and sorted before the first is added. progress is
     called after each commit with how many are committed so far. What is
     raised says how many were, and has that number as its attribute
-    committed; where the index refused an entry, it has that one as entry.
+    committed; if the index refused an entry, it has that one as entry.
     A commit that was broken off may be in the file too.
     """
     done = 0

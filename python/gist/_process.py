@@ -11,7 +11,7 @@ AnyPath = Union[str, "os.PathLike[str]"]
 
 
 def words_of(program: Optional[AnyPath], *words: str) -> List[str]:
-    """The program's path, with these arguments behind it.
+    """The program's path, with these arguments after it.
 
     It is the one that is given, or else named by the environment variable
     GIST, or the file gist beside the folder that this package is in. PATH
@@ -41,7 +41,7 @@ def lines_of(words: List[str]) -> Iterator[str]:
             except GeneratorExit:
                 process.terminate()
                 raise
-            # (where SIGCHLD is ignored the status is lost, and is 0 here)
+            # (if SIGCHLD is ignored the status is lost, and is 0 here)
             if process.wait() != 0 or last.startswith(b"refused "):
                 raise fault_of(process.returncode, last, sentence_of(faults))
 
@@ -50,8 +50,8 @@ def start(words: List[str], stdin: int, faults: BinaryIO,
           bufsize: int) -> "subprocess.Popen[bytes]":
     """Starts the program; its standard error goes to the file of faults.
 
-    It is in a session of its own, so that a Ctrl-C meant for this process
-    doesn't end it in the middle of a transaction. Where it is the launcher of
+    It has its own session, so that a Ctrl-C meant for this process
+    doesn't end it in the middle of a transaction. If it is the launcher of
     a repository in which nothing is built, it says so and builds nothing.
     """
     return subprocess.Popen(words, stdin=stdin, stdout=subprocess.PIPE,

@@ -46,7 +46,8 @@ class Call:
     searches, at most SEARCHES.
     """
 
-    __slots__ = ("lines", "count", "is_search", "heads", "head", "answer")
+    __slots__ = ("lines", "count", "is_search", "heads", "head", "answer",
+                 "answers")
 
     def __init__(self, lines: bytes, count: int = 1,
                  is_search: bool = False) -> None:
@@ -57,11 +58,13 @@ class Call:
         #: Where in all answers the answer of each search begins.
         self.heads: List[int] = []
         #: The front of the answers, and zeros. A read puts it here itself, so
-        #: that it is kept where the read is the last that is done.
+        #: that it is kept if the read is the last that is done.
         self.head = bytearray(64)
         #: All answers; of a call that was broken off the first line, or
-        #: nothing where it never reached the program.
+        #: nothing if it never reached the program.
         self.answer: Optional[bytes] = None
+        #: The answers one by one, where the library in process gave them.
+        self.answers: List[bytes] = []
 
 
 class Program:
@@ -122,6 +125,11 @@ class Program:
                     raise self._why()
                 return result
 
+    def shared(self, work: Callable[..., _Result], *arguments: object
+               ) -> _Result:
+        """Does work that asks calls of one session, which one thread uses."""
+        return self.alone(work, *arguments)
+
     def exchange(self, call: Call) -> bytes:
         """Writes the lines of a call, and returns all answers."""
         return self.alone(self.ask, call)
@@ -148,7 +156,7 @@ class Program:
         self.alone(self._settle)
 
     def look(self) -> None:
-        """Raises Ended where the program has ended, noticed or not."""
+        """Raises Ended if the program has ended, noticed or not."""
         self._refuse_handlers()
         if self._why or self._process.poll() is not None:
             raise self.alone(self._reap)
@@ -156,7 +164,7 @@ class Program:
     def close(self, printed: bytes = b"") -> Optional[GistError]:
         """Ends the script, waits for the program and returns its fault.
 
-        What it printed last is given where that was read already. In a
+        What it printed last is given if that was read already. In a
         signal handler within a call of the same thread the program is ended
         at once, and the call raises Ended.
         """
@@ -193,7 +201,7 @@ class Program:
         self._make_locks()
         self._release.detach()
         if not self._why:
-            self._why = partial(Ended, 0, _FORKED)
+            self._why = partial(Ended, 0, FORKED)
             self._is_ending = True
             self._process.returncode = 0
             self._close_pipes()
@@ -237,7 +245,7 @@ class Program:
         return data
 
     def _read(self, call: Call) -> bytes:
-        """Reads the answers of a call, and nothing behind them."""
+        """Reads the answers of a call, and nothing after them."""
         if call.is_search:
             return self._read_found(call)
         data = self._some(call)
@@ -312,7 +320,7 @@ class Program:
     def _cut_off(self) -> None:
         """Ends the program under a call, which then finds why."""
         if not self._why:
-            self._why = partial(Ended, 0, _CUT_OFF)
+            self._why = partial(Ended, 0, CUT_OFF)
             self._is_ending = True
             self._kill()
             self._await()
@@ -358,9 +366,10 @@ class Program:
         self._release.detach()
 
 
-_CUT_OFF = ("the index was closed by a signal handler within a call; whether "
+#: Why a call was broken off, or can't be made.
+CUT_OFF = ("the index was closed by a signal handler within a call; whether "
             "that call was done isn't known")
-_FORKED = ("the index was opened before a fork, and can be used only by the "
+FORKED = ("the index was opened before a fork, and can be used only by the "
            "process that opened it")
 
 
@@ -376,7 +385,7 @@ def _behind(lines: bytes, at: int, count: int, found: bytes
     """Where so many lines end, and how many of them are yet to come.
 
     Mostly they end in front of an answer that begins with found; so they are
-    counted up to there, and looked at one by one only where that fails.
+    counted up to there, and looked at one by one only if that fails.
     """
     end = lines.find(found, at) + 1 or len(lines)
     there = lines.count(b"\n", at, end)
@@ -388,7 +397,7 @@ def _behind(lines: bytes, at: int, count: int, found: bytes
 
 
 def _last_line(data: bytes) -> bytes:
-    """The last line of what was printed; nothing where it hasn't ended."""
+    """The last line of what was printed; nothing if it hasn't ended."""
     return data[data.rfind(b"\n", 0, -1) + 1:] if data[-1:] == b"\n" else b""
 
 

@@ -42,7 +42,7 @@ class Ended(GistError):
 class ProtocolError(GistError):
     """The program answered what no gist of this kind answers.
 
-    It is ended then, since whose an answer is couldn't be told any more.
+    It is ended then, since nothing would say to whom an answer belongs.
     """
 
 
@@ -66,7 +66,7 @@ class Refused(GistError):
         super().__init__(text)
         #: The refusal's text, as docs/SCRIPT.md has it.
         self.text = text
-        #: Where the program ended with the refusal: its status, and what it
+        #: If the program ended with the refusal: its status, and what it
         #: wrote to standard error.
         self.status = status
         self.sentence = sentence

@@ -32,7 +32,7 @@ class Hold:
         self.session = 0
         #: The commit that was asked last.
         self.commit: Optional[Call] = None
-        #: What can still end it. Where that is gone, it is aborted.
+        #: What can still end it. If that is gone, it is aborted.
         self.holder: Optional["weakref.ref[object]"] = None
 
     @property
@@ -64,14 +64,14 @@ class Sessions:
         self._path = path
         # (changed only by what the program does alone)
         self._holds: Dict[int, Hold] = {}
-        # Released where a session may be free: it wakes a thread that waits.
+        # Released when a session may be free: it wakes a thread that waits.
         self._bell = threading.Lock()
 
     def begin(self, hold: Hold, holder: object,
               wait: Optional[float]) -> None:
         """Begins a transaction in a free session.
 
-        Where none is free this waits for one, so many seconds at most, or
+        If none is free this waits for one, so many seconds at most, or
         as long as it takes (None); then it raises NoSession.
         """
         end = None if wait is None else time.monotonic() + wait
@@ -100,7 +100,7 @@ class Sessions:
             self._bell.release()
 
     def _free(self) -> int:
-        """A session that nobody holds; 0 where there is none."""
+        """A session that nobody holds; 0 if there is none."""
         for session in range(1, SESSIONS + 1):
             hold = self._holds.get(session)
             if hold is None or not hold.session or hold.is_left():

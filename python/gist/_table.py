@@ -20,7 +20,7 @@ def entries_of(lines: Iterable[str], name: str, dimensions: int = 2
     """The entries of a table, whose boxes have so many dimensions; name is
     what a bad line's table is called.
 
-    Empty lines are passed over, and the first line too where none of its
+    Empty lines are passed over, and the first line too if none of its
     words is a number.
     """
     kind = kind_of(dimensions)

@@ -5,6 +5,7 @@ from typing import (Iterable, List, Optional, Sequence, Tuple, Type,
                     TypeVar)
 
 from gist._entries import Hits
+from gist._library import Found, Library
 from gist._program import AHEAD, SEARCHES, Call, Program
 from gist._refusals import GistError, NoTransaction, ProtocolError, refusal
 from gist._sessions import Hold
@@ -57,6 +58,8 @@ class Reader:
         call = self._asking(*[f"OVERLAP {kind.corners_of(box)}"
                               for box in boxes], is_search=True)
         answers = self._exchange(call)
+        if call.answers:
+            return [self._hits(answer) for answer in call.answers]
         ends = call.heads[1:] + [len(answers)]
         return [self._hits(answers[at:end])
                 for at, end in zip(call.heads, ends)]
@@ -88,12 +91,19 @@ class Reader:
                 raise
 
     def _search(self, command: str, box: Sequence[int]) -> Hits:
+        sessions = self._hold.sessions
+        if sessions and isinstance(sessions.program, Library):
+            # (by no lines, which would take most of the time)
+            return sessions.program.find(self._hold, command, box)
         corners = self._hold.kind.corners_of(box)
         return self._hits(self._exchange(
             self._asking(f"{command} {corners}")))
 
     def _hits(self, answer: bytes) -> Hits:
         """What a search found, by its answer; raises its refusal."""
+        if isinstance(answer, Found):
+            return Hits(answer.count, answer.entries, self._hold.kind.box,
+                        is_packed=True)
         head, _, lines = answer.partition(b"\n")
         count = self._result(head, b"found ")
         if not count.isdigit():
@@ -114,7 +124,7 @@ class Reader:
         sessions = self._hold.sessions
         if not sessions:
             raise NoTransaction("no transaction")
-        return sessions.program.alone(self._ask, sessions.program, call)
+        return sessions.program.shared(self._ask, sessions.program, call)
 
     def _ask(self, program: Program, call: Call) -> bytes:
         if not self._hold.session:
@@ -124,7 +134,7 @@ class Reader:
 
     def _result(self, line: bytes, expected: bytes,
                 place: Optional[int] = None) -> bytes:
-        """What an answer has behind a word; raises its refusal."""
+        """What an answer has after a word; raises its refusal."""
         mark = b"%d " % self._hold.session
         answer = line[2:] if line[:2] == mark else b""
         if answer.startswith(expected):
@@ -150,8 +160,8 @@ class Transaction(Reader):
     """A transaction: its changes are kept as a whole, or not at all.
 
     `Index.transaction` begins one. At the end of a with block it is
-    committed, or given up where an exception leaves the block. A call that
-    is refused raises the refusal and changes nothing; where that is caught,
+    committed, or given up if an exception leaves the block. A call that
+    is refused raises the refusal and changes nothing; if that is caught,
     the transaction goes on. It is used by one thread at a time.
     """
 
@@ -174,7 +184,7 @@ class Transaction(Reader):
 
         Up to 100 are written before their answers are read, which takes a
         fraction of the time of so many inserts. The first refusal is raised,
-        with its entry's place; entries behind it may have been added then.
+        with its entry's place; entries after it may have been added then.
         """
         return self._write_many("INSERT", b"inserted", entries)
 
@@ -187,7 +197,7 @@ class Transaction(Reader):
         """Ends the transaction, keeps its changes and returns its number.
 
         When this returns, they are in the file and outlive a crash; when it
-        raises Device or Ended, they are kept whole or not at all. Where an
+        raises Device or Ended, they are kept whole or not at all. If an
         exception of another kind broke it off, as KeyboardInterrupt, call it
         again: it commits what wasn't committed, and returns the number.
         """
@@ -208,7 +218,7 @@ class Transaction(Reader):
     def abort(self) -> None:
         """Ends the transaction, and drops its changes.
 
-        Where a commit was broken off and yet made, this raises NoTransaction,
+        If a commit was broken off and yet made, this raises NoTransaction,
         and `number` is the commit's.
         """
         hold = self._hold

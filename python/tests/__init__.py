@@ -1,5 +1,6 @@
 """Tests of the client, over the built program: GIST names it, or it is the
-file gist at the repository's top."""
+file gist at the repository's top. The library in process is left out, also
+where one is installed."""
 
 import os
 import stat
@@ -13,6 +14,7 @@ from typing import Iterator, List, Tuple
 import gist
 from gist._process import words_of
 
+os.environ["GIST_LIBRARY"] = os.environ.get("GIST_TESTED_LIBRARY", "")
 REPOSITORY = Path(__file__).resolve().parents[2]
 #: The program's path.
 PROGRAM = words_of(None)[0]
@@ -28,7 +30,7 @@ os.execv({program!r}, [{program!r}] + sys.argv[1:])
 
 
 def box_of(row: int) -> gist.Box:
-    """A box of its own for each row."""
+    """A different box for each row."""
     return gist.Box(10 * row, -row, 10 * row + 5, row)
 
 

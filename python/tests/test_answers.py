@@ -10,7 +10,7 @@ import gist
 from gist._entries import AnyBox
 from tests import PLANE, Case, box_of, entries, rows
 
-# Answers each line by pieces, and lets some time pass behind each; then it
+# Answers each line by pieces, and lets some time pass after each; then it
 # ends, or reads on.
 ANSWERING = """#!{python}
 import sys, time

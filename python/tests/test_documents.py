@@ -25,7 +25,7 @@ CLIENT = [str(it) for it in sorted(REPOSITORY.glob("c/gist_*.c"))]
 def blocks(page: str, language: str) -> List[Tuple[str, str]]:
     """The fenced blocks of a page in a language, and what each prints.
 
-    That is the next fenced block, where it has no language.
+    That is the next fenced block, if it has no language.
     """
     text = (REPOSITORY / page).read_text()
     found = re.findall(r"^```(\w*)\n(.*?)^```$", text, re.M | re.S)

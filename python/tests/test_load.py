@@ -1,4 +1,4 @@
-"""Loads: the order of entries, and what is said where a load fails."""
+"""Loads: the order of entries, and what is said if a load fails."""
 
 import random
 import threading

@@ -150,7 +150,7 @@ class Moments(Case):
             self.assertEqual(t.number, 5)
 
     def test_commit_by_the_moment(self) -> None:
-        """The signal comes just before a call of the system, or behind it."""
+        """The signal comes just before a call of the system, or after it."""
         def interrupted(call: Callable[..., int], is_made: bool
                         ) -> Callable[..., int]:
             def instead(*words: object) -> int:
@@ -314,7 +314,7 @@ class Forks(Case):
 
     @staticmethod
     def status_of_a_child(index: gist.Index) -> int:
-        """What a child ends with: 0 where each call raises Ended at once."""
+        """What a child ends with: 0 if each call raises Ended at once."""
         child = os.fork()
         if child == 0:
             signal.alarm(3)

@@ -13,7 +13,7 @@ from typing import Callable, List
 import gist
 from tests import PLANE, PROGRAM, REPOSITORY, Case, box_of, entries, rows
 
-# Where the file's first ten pages end: no page behind them can be written.
+# Where the file's first ten pages end: no page after them can be written.
 TEN_PAGES = 512 * 16648 + 10 * 4096
 
 # A separate client, which is killed in the middle of a transaction.
@@ -262,7 +262,7 @@ class Pipes(Case):
 
 
 class Threads(Case):
-    """Threads share an index, each with transactions of its own."""
+    """Threads share an index, and each has its own transactions."""
 
     def test_twelve_threads_over_eight_sessions(self) -> None:
         self.new(2048, 100)

@@ -1,4 +1,4 @@
-"""Each refusal, by the program where a script can meet it."""
+"""Each refusal, by the program if a script can meet it."""
 
 import os
 import pickle
@@ -160,7 +160,7 @@ class Openings(Case):
 
     @contextmanager
     def without_rights(self) -> Iterator[None]:
-        """Not as root, who may read and write every file."""
+        """Not as root, which may read and write every file."""
         user = os.geteuid()
         self.folder.chmod(0o755)
         try:

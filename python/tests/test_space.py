@@ -22,7 +22,7 @@ SPACE = (*[gist.MIN_CORNER] * 3, *[gist.MAX_CORNER] * 3)
 
 
 def box3_of(row: int) -> gist.Box3:
-    """A box of its own for each row."""
+    """A different box for each row."""
     return gist.Box3(10 * row, -row, row % 7, 10 * row + 5, row, row % 7 + 3)
 
 

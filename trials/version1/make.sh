@@ -33,6 +33,22 @@ cp open open.left; pack open; cp open.left open
 python3 -c '
 import base64,lzma
 open("'"$O"'/open.xz.base64","wb").write(base64.encodebytes(lzma.compress(open("open","rb").read(),preset=9|lzma.PRESET_EXTREME)))'
+# cut: a script that ended while a transaction had inserted three entries over a commit of two
+"$P" format cut 16 4
+"$P" run cut > /dev/null <<'E0'
+1 BEGIN
+1 INSERT 1 0 0 10 10
+1 INSERT 2 5 5 15 15
+1 COMMIT
+2 BEGIN
+2 INSERT 3 1 1 2 2
+2 INSERT 4 2 2 3 3
+2 INSERT 5 3 3 4 4
+E0
+cp cut cut.left; pack cut; cp cut.left cut
+python3 -c '
+import base64,lzma
+open("'"$O"'/cut.xz.base64","wb").write(base64.encodebytes(lzma.compress(open("cut","rb").read(),preset=9|lzma.PRESET_EXTREME)))'
 # both: checkpoints have gone from one extent to the other and back
 "$P" format both 64 8
 python3 - <<'E2' | "$P" run both > /dev/null

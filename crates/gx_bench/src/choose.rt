@@ -25,9 +25,8 @@ fn choose_all(inner: &Inner<'_, Box2Class>, keys: &[SentBox], slots: &mut [usize
 }
 
 /// For each of some boxes, writes into `slots`, which has a place for each, the slot of an inner node's child that
-/// needs least enlargement for it, and of those the smallest, the first of several. False, and nothing is written,
-/// where the image is no inner node of boxes with a child, where `used` is the greatest page in use, or memory is
-/// refused.
+/// needs least enlargement for it, and of those the smallest, the first of several. False, and nothing is written, if
+/// the image is no inner node of boxes with a child, where `used` is the greatest page in use, or memory is refused.
 #[unsafe(no_mangle)]
 pub extern "C" fn gx_bench_choose(
     alloc: Global,

@@ -2,8 +2,7 @@
 //! index, in transactions of a hundred. `queries`: so many windows looked for in an index of a hundred thousand boxes,
 //! in transactions of sixteen, each aborted at its end. `marks`: so many of its pairs deleted, in transactions of a
 //! hundred. `undo`: so many boxes in a new index, deleted in transactions of 512, each aborted at its end. `commits`:
-//! so many boxes in a new index, each with a commit of its own. The boxes and windows are those of the benchmark
-//! `tree`.
+//! so many boxes in a new index, each with a separate commit. The boxes and windows are those of the benchmark `tree`.
 //!
 //! `index` has the sum of what was done: the pages in use, the rows that were found, or the pairs that were deleted. In
 //! its place `asks`, `moves`, `helps`, `log-steps`, `page-writes` and `checkpoint-steps` count the events of a kind

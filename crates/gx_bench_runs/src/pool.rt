@@ -1,4 +1,4 @@
-//! Looks at pages of a file through frames: `hits`, where each page is in a frame, or `misses`, where few are. The sum
+//! Looks at pages of a file through frames: `hits`, with each page in a frame, or `misses`, with few of them. The sum
 //! is of what the pages say.
 
 mod looks;
@@ -11,10 +11,10 @@ use std::fs::{File, Files};
 /// The file, which is made where the program runs.
 pub(crate) const FILE: &str = "pages.device";
 
-/// How many pages and frames there are where each page has a frame.
+/// How many pages and frames there are if each page has a frame.
 const KEPT: u32 = 1024;
 
-/// How many pages there are where few have a frame.
+/// How many pages there are if few have a frame.
 const PAGES: u32 = 4096;
 
 /// How many frames there are then.

@@ -1,4 +1,4 @@
--- Sixteen bytes as corners, which are a box's where none is reversed.
+-- Sixteen bytes as corners, which are a box's if none is reversed.
 use Rattle.std.proofs.Common.{◌≡◌, ℕ, ◌<◌, true, ◌&&◌, ◌==◌, refl, List, length, Some}
 use Rattle.std.specs.Prelude.{slice_index, int_le}
 use Rattle.std.proofs.lemmas.Bool.{and_from, eq-eqb}

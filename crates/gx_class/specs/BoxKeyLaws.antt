@@ -91,7 +91,7 @@ same_order Less e = cc
 same_order Same e = refl
 same_order Greater e = cc
 
--- boxes are equal where their corners are
+-- boxes are equal if their corners are
 pub equal_tells : (a b : Rectangle) → (int_eq a.x1 b.x1 && (int_eq a.y1 b.y1 && (int_eq a.x2 b.x2 && int_eq a.y2 b.y2))) ≡ is_eq (rectangle_cmp a b)
 equal_tells a b = grind (arith, common_steps)
 

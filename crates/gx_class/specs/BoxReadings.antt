@@ -18,7 +18,7 @@ pub number_back : (z : ℤ) → FitsSigned w32 z → number_of (number_bytes z) 
 unfolding number_of
 number_back z fits = read_back z fits
 
--- four bytes behind n others
+-- four bytes after n others
 part_at : (all front x back : List ℕ) (n : ℕ) → all ≡ front ++ (x ++ back) → length front ≡ n → length x ≡ 4 → take 4 (drop n all) ≡ x
 part_at all front x back n e long four =
     ap (λ l. take 4 (drop n l)) e ∙ ap (take 4) (drop_at front (x ++ back) n long) ∙ take_at x back 4 four

@@ -19,7 +19,7 @@ place_among cmp keys x = count_by (λ y. comes_before cmp y x) (enumerate_from 0
 abbrev pub first_half : ℕ → ℕ
 first_half n = (n + 1) / 2
 
--- the side of each key: the second where its place is past the first half
+-- the side of each key: the second if its place is past the first half
 abbrev pub halves_by_order : {K : Type 0} → (K → K → Ordering) → List K → List Bool
 halves_by_order cmp keys = map (λ x. nat_le (first_half (length keys)) (place_among cmp keys x)) (enumerate_from 0 keys)
 

@@ -1,4 +1,4 @@
--- Sixteen bytes as ends, which are an interval's where they aren't reversed.
+-- Sixteen bytes as ends, which are an interval's if they aren't reversed.
 use Rattle.std.proofs.Common.{◌≡◌, ℕ, ◌<◌, Bool, true, ◌&&◌, ◌==◌, refl, List, length, Some}
 use Rattle.std.specs.Prelude.{slice_index, int_le}
 use Rattle.std.proofs.lemmas.Bool.{and_from, eq-eqb}

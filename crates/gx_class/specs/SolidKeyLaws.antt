@@ -55,7 +55,7 @@ within_covered k b q is p inside =
     (inside_covered (along_y k) (along_y b) (along_y q) is.y_in_order (in_by_ends (along_y k) (along_y q) there.in_y) (in_by_ends (along_y k) (along_y b) here.in_y))
     (inside_covered (along_z k) (along_z b) (along_z q) is.z_in_order (in_by_ends (along_z k) (along_z q) there.in_z) (in_by_ends (along_z k) (along_z b) here.in_z)))
 
--- boxes are equal where their corners are
+-- boxes are equal if their corners are
 pub equal_tells : (a b : Solid)
     → (int_eq a.x1 b.x1 && (int_eq a.y1 b.y1 && (int_eq a.z1 b.z1 && (int_eq a.x2 b.x2 && (int_eq a.y2 b.y2 && int_eq a.z2 b.z2))))) ≡ is_eq (solid_cmp a b)
 equal_tells a b = grind (arith, common_steps)

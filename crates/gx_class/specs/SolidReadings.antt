@@ -14,7 +14,7 @@ use Rattle.gx_class.specs.SolidKeyLaws.{length-three_bytes, length-spelling, sam
 
 -- ---- a box's bytes
 
--- the three numbers behind some bytes, where more follow
+-- the three numbers after some bytes, if more follow
 first_at : (x y z : ℤ) (back : List ℕ) → FitsSigned w32 x → number_of (take 4 (three_bytes x y z ++ back)) ≡ x
 first_at x y z back fits =
     ap (λ l. number_of (take 4 l)) (append_assoc (number_bytes x) (number_bytes y ++ number_bytes z) back)
@@ -40,7 +40,7 @@ third_at x y z back fits =
     ∙ ap number_of (take_at (number_bytes z) back 4 (length-number_bytes z))
     ∙ number_back z fits
 
--- the second corner's bytes, behind the first one's
+-- the second corner's bytes, after the first one's
 behind : (b : Solid) → drop 12 (spelling b) ≡ three_bytes b.x2 b.y2 b.z2 ++ []
 behind b =
     drop_at (three_bytes b.x1 b.y1 b.z1) (three_bytes b.x2 b.y2 b.z2) 12 (length-three_bytes b.x1 b.y1 b.z1)

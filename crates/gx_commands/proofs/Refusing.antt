@@ -1,4 +1,4 @@
--- The status of a refused opening, and what the user is told.
+-- The status of a refused opening, and what is reported to the user.
 use Rattle.std.proofs.Common.{◌≡◌, ℕ, Bool, List, refl}
 use Rattle.gx_geom.specs.declared.refusal.Refusal.{Refusal}
 use Rattle.gx_geom.specs.declared.refusal.Refusal.TheVariants.{Absent, BadBox, BadParameter, BadSession, Busy, CallOpen, ClaimsFull, Damaged, Device, Failed, HistoryFull, InTransaction, Memory, NoCall, NoTransaction, NotFormatted, OldVersion, PagesFull, PredicatesFull, Present, TooSmall}
@@ -11,7 +11,7 @@ use Rattle.gx_geom.specs.Refusals.{refusal_text}
 use Rattle.gx_commands.specs.Lines.{sentence_of}
 use Rattle.gx_commands.specs.Refusing.{Refuses, TellsOpening}
 
--- for a refusal without a separate sentence the user is told its text
+-- a refusal without a separate sentence is reported to the user by its text
 pub told_by_text : (why : Refusal) → (why ≡ Memory → ⊥) → (why ≡ Device → ⊥) → (why ≡ Failed → ⊥) → (why ≡ Damaged → ⊥) → (why ≡ NotFormatted → ⊥)
     → (why ≡ TooSmall → ⊥) → (why ≡ BadParameter → ⊥) → (why ≡ OldVersion → ⊥) → refusal_text why ≡ sentence_of why
 told_by_text Memory a b c d e f g h = absurd (a refl)

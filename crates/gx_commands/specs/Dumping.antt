@@ -36,8 +36,8 @@ use Rattle.gx_commands.specs.Endings.{device_of}
 use Rattle.gx_commands.specs.Openings.{Opens}
 use Rattle.gx_commands.specs.Refusing.{Refuses, TellsOpening}
 
--- A dump's refusal is written behind the text so far; if the writer failed, the user is told; if the dump ended well,
--- nothing more is written.
+-- A dump's refusal is written after the text so far; if the writer failed, that is reported to the user; if the dump
+-- ended well, nothing more is written.
 abbrev pub TellsDump : Result (Unit {0}) DumpFault → Outputs → Outputs → ℕ → Type 0
 TellsDump (Ok done) old new status = (status ≡ 0) × (new ≡ old)
 TellsDump (Err fault.Write) old new status =
@@ -61,7 +61,7 @@ module _ {B D : Type 0} (shape : Members B) (traits : Traits B) (state : D → D
 
 module _ {B D : Type 0} (grammar : Grammar B) (shape : Members B) (traits : Traits B) (state : D → Device) where
   -- An index was dumped, with this result, which is reported, and its device is returned. The writer held the tree's
-  -- text by then; or only a beginning of it, where the dump did not end well.
+  -- text by then; or only a beginning of it, if the dump did not end well.
   pub record DumpsIndex (old : State B D) (after : D) (from to : Outputs) (status : ℕ) : Type 0 where
     pub result : Result (Unit {0}) DumpFault
     pub new : State B D

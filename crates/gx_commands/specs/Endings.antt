@@ -37,8 +37,8 @@ use Rattle.gx_commands.specs.Openings.{Opens}
 use Rattle.gx_commands.specs.Refusing.{Refuses, TellsOpening}
 use Rattle.gx_commands.specs.Watching.{Watches}
 
--- A format is reported: its line was written; or a beginning of it, if the writer takes no more, which the user is
--- told.
+-- A format is reported: its line was written; or a beginning of it, if the writer takes no more, which is reported to
+-- the user.
 abbrev pub TellsFormatted : ℕ → ℕ → Outputs → Outputs → ℕ → Type 0
 TellsFormatted pages most old new status =
     ((status ≡ 0) × (Appends old.replies.bytes new.replies.bytes (formatted_line pages most) × (new.person ≡ old.person)))
@@ -82,8 +82,8 @@ module _ {B D : Type 0} (shape : Members B) (traits : Traits B) (state : D → D
     pub told : TellsSettled result from to status
     pub left : after ≡ device_of new
 
-  -- What follows a script's end: if a reply reported a fault, the user is told, and nothing more is done; else the
-  -- index is settled.
+  -- What follows a script's end: if a reply reported a fault, that is reported to the user, and nothing more is done;
+  -- else the index is settled.
   abbrev pub EndsBy : Bool → State B D → D → Outputs → Outputs → ℕ → Type 0
   EndsBy true index after from to status =
       (status ≡ 1) × ((to.replies ≡ from.replies) × (TellsPerson fault_sentence from.person to.person × (after ≡ device_of index)))

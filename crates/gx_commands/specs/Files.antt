@@ -24,18 +24,18 @@ use Rattle.gx_commands.specs.declared.opener.Access.TheVariants.{Create, Write, 
 use Rattle.gx_commands.specs.declared.devices.Kind.{Kind}
 use Rattle.gx_commands.specs.declared.opener.Opener.{Opener}
 
--- A file that couldn't be opened: the user is told its name and why.
+-- A file that couldn't be opened: its name and the cause are reported to the user.
 pub record HasNoDevice (file : List ℕ) (fault : DiskFault) (from to : Outputs) (status : ℕ) : Type 0 where
   pub status_is : status ≡ 1
   pub told : Prints (refusal_line NoDevice) from.replies to.replies
   pub heard : TellsPerson (named file (fault_text fault)) from.person to.person
 
--- the user is told why the last call of a file that failed did so, if one did
+-- if a call of a file failed, why the last one did is reported to the user
 abbrev pub TellsCause : List ℕ → Option DiskFault → Stream → Stream → Type 0
 TellsCause file None old new = new ≡ old
 TellsCause file (Some fault) old new = TellsPerson (named file (fault_text fault)) old new
 
--- The device of a file is kept as it was left, and why a call of it failed is reported.
+-- The device of a file is kept as the command left it, and why a call of it failed is reported.
 pub record Leaves {F : Type 0} (file : List ℕ) (disk : FileDisk) (old new : Opener F) (from to : Stream) : Type 0 where
   pub kept : new ≡ record old { left = Some disk }
   pub cause : TellsCause file disk.fault from to
@@ -145,8 +145,8 @@ module _ {C E F : Type 0} (plane : Members Rectangle) (plane_class : Ghosts C Re
   FollowsOlder file old new frames had read from to status =
       MigratesKind file old new frames had read from to status ⊎ HasNoOlder old new had read from to status
 
-  -- Two files: the first was opened to be read alone, and what followed was done before anything became of it. It is kept last as it was left, and nothing is done to it
-  -- from then on; why a call of it failed is reported.
+  -- Two files: the first was opened to be read alone, and what followed was done before anything became of it. At last
+  -- it is kept as the command left it, and nothing is done to it from then on; why a call of it failed is reported.
   pub record MigratesFiles (first second : List ℕ) (old new : Opener F) (frames : ℕ) (from to : Outputs) (status : ℕ) : Type 0 where
     pub disk : FileDisk
     pub after : FileDisk

@@ -30,7 +30,7 @@ verified_line r =
 abbrev pub migrated_line : ℕ → ℕ → List ℕ
 migrated_line commits used = codes "migrated commits " ++ (decimal commits ++ (codes " used " ++ (decimal used ++ (10 ∷ []))))
 
--- what the user is told of a refusal outside of a script
+-- what is reported to the user of a refusal outside of a script
 abbrev pub sentence_of : Refusal → List ℕ
 sentence_of Memory = codes "there isn't enough memory"
 sentence_of Device = codes "a read, a write or a sync of the device failed"
@@ -42,11 +42,11 @@ sentence_of TooSmall = codes "the file is shorter than any index, or was cut"
 sentence_of BadParameter = codes "a number is out of its range, or the index has another kind of keys"
 sentence_of other = refusal_text other
 
--- what the user is told of damage: where it lies, and which rule is broken there
+-- what is reported to the user of damage: where it is, and which rule is broken there
 abbrev pub damage_sentence : Damage → List ℕ
 damage_sentence damage = codes "what the device holds is damaged: " ++ damage_text damage
 
--- what the user is told after a script if one of its replies reported a fault
+-- what is reported to the user after a script if one of its replies reported a fault
 abbrev pub fault_sentence : List ℕ
 fault_sentence = codes "the device failed, or what it holds is damaged; what isn't committed is lost"
 
@@ -84,7 +84,7 @@ fault_text disk.InputOutput = codes "input or output error"
 fault_text disk.InUse = codes "another process has it in use"
 fault_text disk.ReadOnly = codes "it is open for reading alone"
 
--- that, behind the name of the file; without the name where that is too long for a line
+-- that, after the name of the file; without the name if that is too long for a line
 abbrev pub named : List ℕ → List ℕ → List ℕ
 named file why = if nat_le (length file) (1022 - length why) then file ++ (codes ": " ++ why) else why
 
@@ -93,7 +93,7 @@ abbrev pub stream_text : ScriptFault → List ℕ
 stream_text Read = codes "the script can't be read"
 stream_text Write = codes "a reply can't be written"
 
--- that, and why, where the stream gave an error
+-- that, and why, if the stream gave an error
 abbrev pub stream_sentence : ScriptFault → Option ErrorKind → List ℕ
 stream_sentence fault None = stream_text fault
 stream_sentence fault (Some kind) = stream_text fault ++ (codes ": " ++ kind_text kind)

@@ -1,4 +1,4 @@
--- How a command ends that is refused: its status, what it has written, and what the user was told.
+-- How a command that is refused ends: its status, what it has written, and what it reported to the user.
 use Rattle.std.specs.Prelude.{ℕ, ◌≡◌, ◌<◌, ◌≤◌, true, Option, Some, Result, Ok, Err}
 use Rattle.gx_disk.specs.declared.layout.TheConstants.{LEAST_SECTORS}
 use Rattle.gx_geom.specs.declared.refusal.Refusal.{Refusal}
@@ -13,20 +13,21 @@ use Rattle.gx_opening.specs.Shown.{Examines, FindsDamage, HoldsDamaged}
 use Rattle.gx_commands.specs.Streams.{Stream, Outputs, Prints, TellsPerson}
 use Rattle.gx_commands.specs.Lines.{refusal_line, sentence_of, damage_sentence}
 
--- The line of a refusal outside of a script was written, and the user is told what it means.
+-- The line of a refusal outside of a script was written, and what it means is reported to the user.
 pub record Refuses (why : Refusal) (old new : Outputs) (status : ℕ) : Type 0 where
   pub status_is : status ≡ 1
   pub told : Prints (refusal_line why) old.replies new.replies
   pub heard : TellsPerson (sentence_of why) old.person new.person
 
--- the user is told where damage was found; or that there is some, if it wasn't found
+-- it is reported to the user where damage was found; or that there is some, if it wasn't found
 abbrev pub TellsFound : Result (Option Damage) Refusal → Stream → Stream → Type 0
 TellsFound (Ok (Some damage)) old new = TellsPerson (damage_sentence damage) old new
 TellsFound found old new = TellsPerson (sentence_of Damaged) old new
 
 module _ {B D : Type 0} (shape : Members B) (traits : Traits B) (state : D → Device) where
-  -- A device whose opening was refused as damaged was settled and read, and the user is told what was found there: of an honest device it is
-  -- true, and where that is damaged something was found, unless a call failed or memory was refused.
+  -- A device whose opening was refused as damaged was settled and read, and what was found there is reported to the
+  -- user. Of an honest device that is true; and if the device is damaged something was found, unless a call failed or
+  -- memory was refused.
   pub record TellsDamage (number : ℕ) (disk after : D) (old new : Outputs) (status : ℕ) : Type 0 where
     pub found : Result (Option Damage) Refusal
     pub is_true : (state disk).honest ≡ true → LEAST_SECTORS ≤ (state disk).sectors

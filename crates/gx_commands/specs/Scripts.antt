@@ -21,8 +21,8 @@ pub record TellsMemory (old new : Stream) (status : ℕ) : Type 0 where
   pub status_is : status ≡ 1
   pub told : Prints memory_line old new
 
--- the user is told of a fault that comes from an error of this kind; of none if the reader of the replies has closed
--- its end
+-- a fault that comes from an error of this kind is reported to the user; nothing is, if the reader of the replies has
+-- closed its end
 pub record TellsFault (fault : ScriptFault) (kind : Option ErrorKind) (old new : Stream) : Type 0 where
   pub quiet : kind ≡ Some BrokenPipe → new ≡ old
   pub heard : kind ≢ Some BrokenPipe → TellsPerson (stream_sentence fault kind) old new

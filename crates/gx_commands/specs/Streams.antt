@@ -46,7 +46,7 @@ abbrev pub IsFaultOf : Stream → Stream → ScriptFault → Type 0
 IsFaultOf read written Read = HasFailed read
 IsFaultOf read written Write = TakesNoMore written
 
--- the kind of the error that it comes from, where one was given
+-- the kind of the error that it comes from, if one was given
 abbrev pub kind_of : Stream → Stream → ScriptFault → Option ErrorKind
 kind_of read written Read = read.kind
 kind_of read written Write = written.kind
@@ -55,10 +55,10 @@ kind_of read written Write = written.kind
 abbrev pub Prints : List ℕ → Stream → Stream → Type 0
 Prints text old new = Appends old.bytes new.bytes text ⊎ (IsCut old.bytes new.bytes text × TakesNoMore new)
 
--- the line that tells the user this sentence
+-- the line that reports this sentence to the user
 abbrev pub person_line : List ℕ → List ℕ
 person_line sentence = codes "gist: " ++ (sentence ++ (10 ∷ []))
 
--- the user was told this sentence
+-- this sentence was written for the user
 abbrev pub TellsPerson : List ℕ → Stream → Stream → Type 0
 TellsPerson sentence old new = Prints (person_line sentence) old new

@@ -1,4 +1,4 @@
--- How a device is verified: the result, what is printed, and what the user is told.
+-- How a device is verified: the result, what is printed, and what is reported to the user.
 use Rattle.std.specs.Prelude.{ℕ, ◌≡◌, ◌⊎◌, ◌<◌, ◌≤◌, true, Option, Some, Result, Ok, Err, IfErr, IfOk}
 use Rattle.std.specs.Io.KnownBytes.{Appends}
 use Rattle.gx_disk.specs.declared.layout.TheConstants.{LEAST_SECTORS}
@@ -37,20 +37,21 @@ pub record Verifies {B D : Type 0} (shape : Members B) (traits : Traits B)
   pub refused : (state old).honest ≡ true → 16 ≤ frames → frames ≤ 4096 → LEAST_SECTORS ≤ (state old).sectors
       → IfErr result (IsUnverified shape traits.is_proper traits.said (format_of (own traits)) number (state old))
 
--- A report is written: its whole line; or a beginning of it, if the writer takes no more, which the user is told.
+-- A report is written: its whole line; or a beginning of it, if the writer takes no more, which is reported to the
+-- user.
 abbrev pub TellsReport : Report → Outputs → Outputs → ℕ → Type 0
 TellsReport report old new status =
     ((status ≡ 0) × (Appends old.replies.bytes new.replies.bytes (verified_line report) × (new.person ≡ old.person)))
     ⊎ ((status ≡ 1) × (IsCut old.replies.bytes new.replies.bytes (verified_line report)
     × (TakesNoMore new.replies × TellsFault Write new.replies.kind old.person new.person)))
 
--- The user is told what was found damaged, of which this is true.
+-- What was found damaged is reported to the user, and this is true of it.
 pub record TellsTrue (is_so : Result (Option Damage) Refusal → Type 0) (old new : Stream) : Type 0 where
   pub found : Result (Option Damage) Refusal
   pub is_true : is_so found
   pub heard : TellsFound found old new
 
--- Damage is reported: the line of its refusal is written, and the user is told where it lies.
+-- Damage is reported: the line of its refusal is written, and the user gets a sentence that says where it is.
 pub record TellsCopy (is_so : Result (Option Damage) Refusal → Type 0) (old new : Outputs) (status : ℕ) : Type 0 where
   pub status_is : status ≡ 1
   pub told : Prints (refusal_line Damaged) old.replies new.replies

@@ -35,7 +35,7 @@ fn tell_dump<W: Write, E: Write>(
     }
 }
 
-// Writes the text of an index's tree, tells what ended that, and returns the device and the status.
+// Writes the text of an index's tree, reports what ended that, and returns the device and the status.
 fn dump_index<
     D: SectorDisk + Drop,
     B: Corners,
@@ -57,9 +57,9 @@ fn dump_index<
 /// as `gx_restart::Index::dump` does, and returns the device and the status.
 ///
 /// The status is 0 if the device was opened and the whole text was written. It is 1 in all other cases. If the opening
-/// is refused, the function writes `refused N text`, and tells the user what it means, and for damage where it lies; if
-/// a page is refused while the text is written, that line follows the text written so far. If the text couldn't be
-/// written, the user is told, unless the reader of the text has closed its end.
+/// is refused, the function writes `refused N text`, and reports to the user what it means, and for damage where it is;
+/// if a page is refused while the text is written, that line follows the text written so far. If the text couldn't be
+/// written, the function reports that to the user, unless the reader of the text has closed its end.
 pub fn dump_over<
     D: SectorDisk + Drop,
     B: Corners,

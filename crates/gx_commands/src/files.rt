@@ -23,8 +23,8 @@ const FRAMES: usize = 64;
 /// Opens or creates a file, extends a shorter one, and writes a new index of a class of keys into it.
 ///
 /// The status is that of `format_over`. It is also 1 if the file can't be opened, created or extended: then the
-/// function writes `refused 11 device`, and tells the user the file's name and why. If a call of the file failed, the
-/// user is told why.
+/// function writes `refused 11 device`, and reports the file's name and the cause to the user. If a call of the file
+/// failed, it reports why.
 pub fn format_file<'w, K: KeyClass, F: Files<File = File>, W: Write, E: Write>(
     opener: &mut Opener<'w, F>,
     alloc: Global,
@@ -53,8 +53,8 @@ pub fn format_file<'w, K: KeyClass, F: Files<File = File>, W: Write, E: Write>(
 /// Opens an existing file, and runs a script on the index of boxes that it holds.
 ///
 /// The status is that of `run_device`. It is also 1 if the file can't be opened: then the function writes `refused 11
-/// device`, tells the user the file's name and why, and reads nothing. If a call of the file failed, the user is told
-/// why.
+/// device`, reports the file's name and the cause to the user, and reads nothing. If a call of the file failed, it
+/// reports why.
 pub fn run_file<'w, F: Files<File = File>, R: Read, W: Write, E: Write>(
     opener: &mut Opener<'w, F>,
     alloc: Global,
@@ -83,8 +83,8 @@ pub fn run_file<'w, F: Files<File = File>, R: Read, W: Write, E: Write>(
 /// Opens an existing file, and writes the text of the tree of the index of boxes that it holds.
 ///
 /// The status is that of `dump_device`, with 64 frames. It is also 1 if the file can't be opened: then the function
-/// writes `refused 11 device`, and tells the user the file's name and why. If a call of the file failed, the user is
-/// told why.
+/// writes `refused 11 device`, and reports the file's name and the cause to the user. If a call of the file failed, it
+/// reports why.
 pub fn dump_file<'w, F: Files<File = File>, W: Write, E: Write>(
     opener: &mut Opener<'w, F>,
     alloc: Global,
@@ -110,8 +110,8 @@ pub fn dump_file<'w, F: Files<File = File>, W: Write, E: Write>(
 /// Opens an existing file only for reading, and verifies the index of boxes that it holds. The file doesn't change.
 ///
 /// The status is that of `verify_device`, with 64 frames. It is also 1 if the file can't be opened: then the function
-/// writes `refused 11 device`, and tells the user the file's name and why. If a call of the file failed, the user is
-/// told why.
+/// writes `refused 11 device`, and reports the file's name and the cause to the user. If a call of the file failed, it
+/// reports why.
 pub fn verify_file<'w, F: Files<File = File>, W: Write, E: Write>(
     opener: &mut Opener<'w, F>,
     alloc: Global,
@@ -138,9 +138,9 @@ pub fn verify_file<'w, F: Files<File = File>, W: Write, E: Write>(
 /// the index of boxes of the first version that the first holds to the other. The first file doesn't change.
 ///
 /// The status is that of `migrate_device`. It is also 1 if either file can't be opened, so also if both are one: then
-/// the function writes `refused 11 device`, and tells the user that file's name and why. If the first holds no index of
-/// boxes of the first version, the function writes `refused N text`, tells the user what that means, and opens no other
-/// file. If a call of a file failed, it tells the user why.
+/// the function writes `refused 11 device`, and reports that file's name and the cause to the user. If the first holds
+/// no index of boxes of the first version, the function writes `refused N text`, reports to the user what that means,
+/// and opens no other file. If a call of a file failed, it reports why.
 pub fn migrate_file<'w, F: Files<File = File>, W: Write, E: Write>(
     opener: &mut Opener<'w, F>,
     alloc: Global,
@@ -217,8 +217,8 @@ fn migrate_to<'w, F: Files<File = File>, W: Write, E: Write>(
     }
 }
 
-// Keeps the device of a file as the command left it, and if a call of it failed, tells the user why the last of those
-// did.
+// Keeps the device of a file as the command left it, and if a call of it failed, reports to the user why the last of
+// those did.
 fn leave<'w, F: Files<File = File>, E: Write>(
     opener: &mut Opener<'w, F>,
     file: &str,
@@ -234,7 +234,7 @@ fn leave<'w, F: Files<File = File>, E: Write>(
     opener.keep(disk);
 }
 
-// Writes that the device was refused, tells the user why, and returns the status.
+// Writes that the device was refused, reports to the user why, and returns the status.
 fn refuse_file<W: Write, E: Write>(
     file: &str,
     fault: DiskFault,

@@ -57,9 +57,9 @@ fn tell_formatted<W: Write, E: Write>(
 /// node, as `gx_restart::format` does; writes `formatted pages P fanout M`; and returns the status.
 ///
 /// The status is 0 if both were done. It is 1 if the line couldn't be written: the device is formatted then, and the
-/// user is told, unless the reader of the line has closed its end. It is also 1 if the format was refused: then the
-/// function writes `refused N text`, and tells the user what that means: `BadParameter` for numbers out of range,
-/// `TooSmall` for too few sectors, `Memory`, and `Device` if a call failed.
+/// function reports that to the user, unless the reader of the line has closed its end. It is also 1 if the format was
+/// refused: then the function writes `refused N text`, and reports to the user what that means: `BadParameter` for
+/// numbers out of range, `TooSmall` for too few sectors, `Memory`, and `Device` if a call failed.
 pub fn format_over<D: SectorDisk, K: KeyClass, W: Write, E: Write>(
     alloc: Global,
     disk: &mut D,

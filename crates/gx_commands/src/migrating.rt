@@ -69,8 +69,8 @@ fn migrated<D: SectorDisk, N: SectorDisk, K: ReadKeys>(
 /// `migrated commits N used U`; and returns the status. Nothing is written to the first device.
 ///
 /// The status is 0 if both were done. It is 1 if the line couldn't be written: the index is migrated then, and the
-/// function tells the user why, unless the reader of the line has closed its end. It is also 1 if the migration was
-/// refused: then the function writes `refused N text`, and tells the user what that means.
+/// function reports to the user why, unless the reader of the line has closed its end. It is also 1 if the migration
+/// was refused: then the function writes `refused N text`, and reports to the user what that means.
 pub fn migrate_over<D: SectorDisk, N: SectorDisk, K: ReadKeys, W: Write, E: Write>(
     alloc: Global,
     old: &mut D,

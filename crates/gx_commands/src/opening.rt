@@ -28,7 +28,7 @@ pub(crate) fn opened<D: SectorDisk, K: ReadKeys + Probing>(
     open(alloc, disk, frames)
 }
 
-/// Tells the user of damage, where it was found; else that there is some.
+/// Reports to the user where damage was found; if none was found, only that there is some.
 pub(crate) fn tell_found<E: Write>(faults: &mut Noted<E>, found: Result<Option<Damage>, Refusal>)
     ensures { TellsFound found (stream_of E.contents faults.old) (stream_of E.contents faults.new) }
 {
@@ -41,8 +41,8 @@ pub(crate) fn tell_found<E: Write>(faults: &mut Noted<E>, found: Result<Option<D
     }
 }
 
-/// Writes the line of an opening that was refused, `refused N text`, tells the user what it means, and returns the
-/// device and the status, 1. If the device is damaged it is examined, and the user is told where: in its log or on
+/// Writes the line of an opening that was refused, `refused N text`, reports to the user what it means, and returns the
+/// device and the status, 1. If the device is damaged, the function examines it, and reports where: in its log or on
 /// which page, and which rule is broken there, unless a call fails or memory is refused.
 pub(crate) fn refuse_opening<D: SectorDisk + Drop, K: ReadKeys, W: Write, E: Write>(
     alloc: Global,

@@ -23,7 +23,7 @@ pub fn print<W: Write>(writer: &mut Noted<W>, text: &[u8])
     let _ = write_whole(writer, text);
 }
 
-/// Tells the user a sentence of at most 1,024 bytes, on a line that begins with the program's name.
+/// Writes a sentence of at most 1,024 bytes for the user, on a line that begins with the program's name.
 pub fn tell_person<E: Write>(faults: &mut Noted<E>, sentence: &str)
     requires { length sentence.now ≤ SENTENCE }
     ensures { TellsPerson sentence.now (stream_of E.contents faults.old) (stream_of E.contents faults.new) }
@@ -35,7 +35,7 @@ pub fn tell_person<E: Write>(faults: &mut Noted<E>, sentence: &str)
     print(faults, line.as_str().as_bytes());
 }
 
-/// Tells the user that reading or writing a script failed, and why, as far as it is known. It writes nothing on
+/// Reports to the user that reading or writing a script failed, and why, as far as that is known. It writes nothing on
 /// `BrokenPipe`: the reader of the replies may close its end early.
 pub fn tell_fault<E: Write>(faults: &mut Noted<E>, fault: ScriptFault, kind: Option<ErrorKind>)
     ensures { TellsFault fault kind (stream_of E.contents faults.old) (stream_of E.contents faults.new) }
@@ -52,7 +52,7 @@ pub fn tell_fault<E: Write>(faults: &mut Noted<E>, fault: ScriptFault, kind: Opt
     tell_person(faults, sentence.as_str());
 }
 
-// Says that a file can't be opened, or that a call of it failed, behind the file's name if there is room for that.
+// Says that a file can't be opened, or that a call of it failed, after the file's name if there is room for that.
 fn named(file: &str, fault: DiskFault) -> ArrayString<SENTENCE>
     ensures { result.bytes ≡ named file.now (fault_text fault) }
 {
@@ -66,7 +66,7 @@ fn named(file: &str, fault: DiskFault) -> ArrayString<SENTENCE>
     sentence
 }
 
-/// Tells the user why a file can't be opened, or a call of it failed.
+/// Reports to the user why a file can't be opened, or a call of it failed.
 pub(crate) fn tell_file<E: Write>(faults: &mut Noted<E>, file: &str, fault: DiskFault)
     ensures { TellsPerson (named file.now (fault_text fault))
         (stream_of E.contents faults.old) (stream_of E.contents faults.new) }

@@ -55,7 +55,7 @@ fn sentence(why: Refusal, text: &str) -> &str
     }
 }
 
-/// Tells the user what a refusal outside of a script means.
+/// Reports to the user what a refusal outside of a script means.
 pub(crate) fn tell_refused<E: Write>(faults: &mut Noted<E>, why: Refusal)
     ensures { TellsPerson (sentence_of why) (stream_of E.contents faults.old) (stream_of E.contents faults.new) }
 {
@@ -70,7 +70,7 @@ pub fn print_refusal<W: Write>(writer: &mut Noted<W>, why: Refusal)
     print(writer, line_of(why).as_str().as_bytes());
 }
 
-/// Writes the line of a refusal, `refused N text`, tells the user what it means, and returns the status, 1.
+/// Writes the line of a refusal, `refused N text`, reports to the user what it means, and returns the status, 1.
 pub fn refuse<W: Write, E: Write>(writer: &mut Noted<W>, faults: &mut Noted<E>, why: Refusal) -> u8
     ensures { Refuses why (outputs_of W.contents E.contents writer.old faults.old)
         (outputs_of W.contents E.contents writer.new faults.new) result }

@@ -31,7 +31,7 @@ fn tell_settled<W: Write, E: Write>(
     }
 }
 
-// Settles an index, tells what that was refused with, and returns the device and the status.
+// Settles an index, reports a refusal of that, and returns the device and the status.
 fn settle_after<
     D: SectorDisk + Drop,
     B: Corners,
@@ -49,8 +49,8 @@ fn settle_after<
     (index.into_engine().into_disk(), status)
 }
 
-// Ends a script that was read to its end: if a reply reported a fault, tells the user, else settles the index. Returns
-// the device and the status.
+// Ends a script that was read to its end: if a reply reported a fault, reports that to the user, else settles the
+// index. Returns the device and the status.
 fn end_script<
     D: SectorDisk + Drop,
     B: Corners,
@@ -102,7 +102,7 @@ fn run_watched<
     }
 }
 
-/// Tells the user what stopped a script.
+/// Reports to the user what stopped a script.
 pub(crate) fn tell_stopped<R: Read, W: Write, E: Write>(
     faults: &mut Noted<E>,
     fault: ScriptFault,
@@ -125,10 +125,11 @@ pub(crate) fn tell_stopped<R: Read, W: Write, E: Write>(
 ///
 /// The status is 0 if the device was opened, the script was read to its end, no reply was refused with `Device`,
 /// `Failed` or `Damaged`, and all that was logged is gated. It is 1 in all other cases. If the opening is refused, the
-/// function reads nothing, writes `refused N text`, and tells the user what it means, and for damage where it lies; if
-/// the settling behind the script is refused, that line follows the replies. If a read or a write of the script failed,
-/// or a reply reported a fault, nothing is settled, and the user is told, unless the reader of the replies has closed
-/// its end. The opening, the script's calls and the settling make all calls of the device.
+/// function reads nothing, writes `refused N text`, and reports to the user what it means, and for damage where it is;
+/// if the settling after the script is refused, that line follows the replies. If a read or a write of the script
+/// failed, or a reply reported a fault, nothing is settled, and the function reports that to the user, unless the
+/// reader of the replies has closed its end. The opening, the script's calls and the settling make all calls of the
+/// device.
 pub fn run_over<
     D: SectorDisk + Drop,
     B: Corners,

@@ -22,9 +22,9 @@ pub fn refuse_memory<W: Write>(writer: &mut Noted<W>) -> u8
 
 /// Runs a script on a fresh index in memory, writes the index's replies, and returns the status.
 ///
-/// The status is 0 if the script was read to its end. It is 1 if a read or a write failed: then the user is told,
-/// unless the reader of the replies has closed its end. It is also 1 if memory is refused before the script begins:
-/// then the function writes `refused 10 memory`.
+/// The status is 0 if the script was read to its end. It is 1 if a read or a write failed: then the function reports
+/// that to the user, unless the reader of the replies has closed its end. It is also 1 if memory is refused before the
+/// script begins: then the function writes `refused 10 memory`.
 pub fn run_script<B: Corners, R: Read, W: Write, E: Write>(
     alloc: Global,
     reader: &mut Noted<R>,

@@ -108,9 +108,10 @@ fn verified<D: SectorDisk, K: ReadKeys + Probing>(
 /// Verifies a device with so many frames for pages, 16 to 4,096, as `gx_restart::verify` does, writes `ok commits N
 /// entries E used U`, and returns the status. Nothing is written to the device.
 ///
-/// The status is 0 if the line was written. It is 1 in all other cases. If the line couldn't be written, the user is
-/// told, unless the reader of the line has closed its end. If the device isn't verified, the function writes `refused N
-/// text`, and tells the user what that means, and for damage where it lies, which it finds in a copy of the device.
+/// The status is 0 if the line was written. It is 1 in all other cases. If the line couldn't be written, the function
+/// reports that to the user, unless the reader of the line has closed its end. If the device isn't verified, the
+/// function writes `refused N text`, and reports to the user what that means, and for damage where it is, which it
+/// finds in a copy of the device.
 pub fn verify_over<D: SectorDisk, K: ReadKeys + Probing, W: Write, E: Write>(
     alloc: Global,
     disk: &mut D,

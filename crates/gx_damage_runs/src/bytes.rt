@@ -18,7 +18,7 @@ pub(crate) fn set(bytes: &mut [u8], at: usize, value: u8) {
     }
 }
 
-/// A byte; 0 where there is none.
+/// A byte; 0 if there is none.
 pub(crate) fn byte(bytes: &[u8], at: usize) -> u8 {
     bytes.get(at).copied().unwrap_or(0)
 }

@@ -2,7 +2,7 @@
 //! and likewise verifies; the damage that is reported is found there, and an image that opens is a sound one of the
 //! same set.
 //!
-//! A line of `stdin` asks for one thing, and the outcome is printed behind it. `boxes SEED IMAGES` and `intervals SEED
+//! A line of `stdin` asks for one thing, and the outcome is printed after it. `boxes SEED IMAGES` and `intervals SEED
 //! IMAGES` make random images of an index of nine rows. `new PAGES MOST` begins the life of an index of boxes. A line
 //! that begins with a digit is one of a script; `stop` opens the index, runs the script since the last stop, and keeps
 //! the image that it leaves then. `moments SEED IMAGES` takes random ones of these, with bytes changed, sectors

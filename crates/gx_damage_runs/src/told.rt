@@ -79,7 +79,7 @@ impl Written {
     }
 }
 
-/// The text of a refusal and of its sentence, where all commands that open the device print the same.
+/// The text of a refusal and of its sentence, if all commands that open the device print the same.
 fn refused(
     alloc: Global,
     bytes: &[u8],

@@ -140,7 +140,7 @@ fn crashes<R: Print>(rt: &R, alloc: Global, work: Work) -> Result<(), RunFault> 
     Ok(())
 }
 
-/// Crashes behind a fault, and one once all calls were made: whether all were, and what the crash leaves.
+/// Crashes after a fault, and one once all calls were made: whether all were, and what the crash leaves.
 const BEHIND: [(bool, Left); 5] = [
     (false, Left::Old),
     (false, Left::New),

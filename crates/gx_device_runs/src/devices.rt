@@ -43,7 +43,7 @@ fn renew(disk: &mut Device, alloc: Global, line: &Line<'_>) -> Result<(), AllocE
     Ok(())
 }
 
-/// A fuse by its words: behind how many calls it blows, how often, and whether a failing write is done.
+/// A fuse by its words: after how many calls it blows, how often, and whether a failing write is done.
 fn fuse_by(disk: &mut Device, alloc: Global, line: &Line<'_>) {
     let fuse = if line.words[2] == "once" {
         Fuse::Once
@@ -84,7 +84,7 @@ fn reserve(disk: &mut Device, alloc: Global, line: &Line<'_>) -> Result<(), Allo
     reserved
 }
 
-/// Cuts the device off behind so many sectors.
+/// Cuts the device off after so many sectors.
 fn cut(disk: &mut Device, alloc: Global, line: &Line<'_>) {
     let sectors = to_usize(line.numbers[1]);
     let mut inner = take(disk, alloc);
@@ -94,7 +94,7 @@ fn cut(disk: &mut Device, alloc: Global, line: &Line<'_>) {
     *disk = whole(inner);
 }
 
-/// A sector's first byte, 0 where it can't be read.
+/// A sector's first byte, 0 if it can't be read.
 pub(crate) fn first_of<D: SectorDisk>(disk: &mut D, sector: u64) -> u8 {
     if sector >= disk.sectors() {
         return 0;

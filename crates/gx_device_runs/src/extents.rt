@@ -105,12 +105,12 @@ fn say_body<R: Print>(rt: &R, size: usize, body: &[u8]) -> Result<(), RunFault> 
     say_record(rt, body.get(4..).unwrap_or(&[]))
 }
 
-/// The place of an extent that a number names, or one behind the last.
+/// The place of an extent that a number names, or one after the last.
 fn place(number: u64) -> u8 {
     u8::try_from(number).unwrap_or(PLACES)
 }
 
-/// A line about the log as a device has it: of the extent that it names where it asks for a place, else of the selected
+/// A line about the log as a device has it: of the extent that it names if it asks for a place, else of the selected
 /// one.
 pub(crate) fn call<R: Print, D: SectorDisk>(
     rt: &R,

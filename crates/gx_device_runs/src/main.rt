@@ -1,5 +1,5 @@
 //! Calls public functions of the layers below the engine: devices, records, frames, the log, scans of nodes, and random
-//! runs of the storage. Each line of `stdin` asks for one, and is printed with the answer behind it.
+//! runs of the storage. Each line of `stdin` asks for one, and is printed with the answer after it.
 //!
 //! An empty line, and one that begins with `#`, is printed unchanged. The first word of any other names what it is
 //! about; a line that can't be done ends the program, with status 1.
@@ -92,7 +92,7 @@ fn is_title(line: &str) -> bool {
     matches!(line.as_bytes(), [] | [b'#', ..])
 }
 
-/// Prints a line, and behind it what is answered.
+/// Prints a line, and after it what is answered.
 fn take_line(rt: &HostRuntime, bench: &mut Bench, line: &str) -> Result<(), RunFault> {
     if is_title(line) {
         return say_parts(rt, &[Part::Text(line)]);

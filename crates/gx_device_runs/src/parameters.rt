@@ -5,7 +5,7 @@ use crate::words::{Line, Part, say, say_parts, to_u32};
 use gx_disk::{DiskFault, SectorDisk};
 use gx_glog::{PARAMETERS, Parameters};
 
-/// A number of at most 16 bits; the greatest where it is greater.
+/// A number of at most 16 bits; the greatest if it is greater.
 fn to_u16(number: u64) -> u16 {
     u16::try_from(number).unwrap_or(u16::MAX)
 }

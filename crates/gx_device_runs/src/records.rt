@@ -24,7 +24,7 @@ fn is_read(given: &Record<'_>, bytes: &[u8], size: usize) -> bool {
     matches!(Record::decode(bytes, KEY), Some((read, taken)) if read == *given && taken == size)
 }
 
-/// Whether the record is read from its spelling, with nothing and with something behind it, and nothing from a shorter
+/// Whether the record is read from its spelling, with nothing and with something after it, and nothing from a shorter
 /// front.
 fn reads_back(given: &Record<'_>, text: &[u8], size: usize) -> bool {
     if size >= text.len() {
@@ -158,7 +158,7 @@ fn spell_two<R: Print>(rt: &R, text: &mut [u8], low: &Page, high: &Page) -> Resu
     spell(rt, &record, text)
 }
 
-/// Prints how many pages there are, whether the one at place 1 is this one, and whether there is none behind the last.
+/// Prints how many pages there are, whether the one at place 1 is this one, and whether there is none after the last.
 fn say_second<R: Print>(
     rt: &R,
     pages: &PageImages<'_>,
@@ -231,7 +231,7 @@ fn three_pages<R: Print>(
     spell_three(rt, text, [&first, &second, &third])
 }
 
-/// The record of the first commit where there are so many bytes.
+/// The record of the first commit if there are so many bytes.
 fn short<R: Print>(rt: &R, text: &mut [u8], line: &Line<'_>) -> Result<(), RunFault> {
     match text.get_mut(..to_usize(line.numbers[1])) {
         Some(front) => spell(rt, &Record::Commit { tx: 1, n: 1 }, front),

@@ -197,9 +197,9 @@ fn run_with_faults<D: SectorDisk>(run: &mut Run, disk: &mut D, stream: u64) -> O
 /// What becomes of a run over a device that fails at one of its calls.
 #[derive(Clone, Copy)]
 enum End {
-    /// No step failed, and all reads as it was last given.
+    /// No step failed, and all reads as it was last written.
     Passed,
-    /// One step failed, or the end; all reads as it was last given but where the end failed.
+    /// One step failed, or the end; all reads as it was last written, unless the end failed.
     Failed,
     /// Something was lost.
     Lost,

@@ -5,7 +5,7 @@ use gx_disk::{DiskFault, SectorDisk};
 use gx_glog::PLACES;
 use std::io::ErrorKind;
 
-/// What a call answers, as a word.
+/// What a call returns, as a word.
 pub(crate) fn word_of(answer: Result<(), DiskFault>) -> &'static str {
     match answer {
         Ok(()) => "done",
@@ -80,7 +80,7 @@ fn open_gate() -> [u8; 512] {
     gate
 }
 
-/// Prints how many of an extent's gates from a sector on are written open, and how many behind these closed.
+/// Prints how many of an extent's gates from a sector on are written open, and how many after these closed.
 fn say_gates<R: Print, D: SectorDisk>(rt: &R, disk: &mut D, first: u64) -> Result<(), RunFault> {
     let mut open = 0_u64;
     let mut closed = 0_u64;

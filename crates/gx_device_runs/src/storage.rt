@@ -1,7 +1,7 @@
 //! Random runs of the storage, with a tree in memory beside it: after each run the device is read back by its format
 //! alone, and must have the pages, the set and the numbers that the tree had when the last batch was gated.
 //!
-//! Behind the word of a line come the greatest number of entries a node, a number of frames, a seed and a number of
+//! After the word of a line come the greatest number of entries a node, a number of frames, a seed and a number of
 //! steps. `whole` makes a run of so many steps and prints how often each thing was done. `each` has a stride, and makes
 //! the run of that many steps, of twice as many, and so on up to its steps, so that the device is read back after each
 //! so many of them; it prints how often it was. `fail` has three numbers more, and makes two runs for each of so many

@@ -1,7 +1,7 @@
-//! The words of a line, and answers printed behind it.
+//! The words of a line, and answers printed after it.
 use crate::fault::RunFault;
 
-/// How many words a line has behind its first one at most.
+/// How many words a line has after its first one at most.
 const WORDS: usize = 10;
 
 /// A line's words.
@@ -9,9 +9,9 @@ const WORDS: usize = 10;
 pub(crate) struct Line<'a> {
     /// The first word: what the line is about.
     pub(crate) name: &'a str,
-    /// Those behind it, empty ones behind the last. The first of them mostly says what is asked for.
+    /// Those after it, empty ones after the last. The first of them mostly says what is asked for.
     pub(crate) words: [&'a str; WORDS],
-    /// Each of these as a number, 0 where it is none.
+    /// Each of these as a number, 0 if it is none.
     pub(crate) numbers: [u64; WORDS],
 }
 
@@ -38,13 +38,13 @@ impl<'a> Line<'a> {
         self.words[0]
     }
 
-    /// The number at this place behind the first word, from 0.
+    /// The number at this place after the first word, from 0.
     pub(crate) fn number(&self, place: usize) -> u64 {
         self.numbers.get(place).copied().unwrap_or(0)
     }
 }
 
-/// A number as a page's, or as how many of anything; the greatest where it is greater.
+/// A number as a page's, or as how many of anything; the greatest if it is greater.
 pub(crate) fn to_u32(number: u64) -> u32 {
     u32::try_from(number).unwrap_or(u32::MAX)
 }
@@ -54,7 +54,7 @@ pub(crate) fn to_usize(number: u64) -> usize {
     usize::try_from(number).unwrap_or(usize::MAX)
 }
 
-/// A byte of two hexadecimal digits, 0 where the word is none.
+/// A byte of two hexadecimal digits, 0 if the word is none.
 pub(crate) fn byte(word: &str) -> u8 {
     u8::from_str_radix(word, 16).unwrap_or(0)
 }
@@ -70,7 +70,7 @@ pub(crate) enum Part<'a> {
     Byte(u8),
 }
 
-/// Prints parts, one behind the other.
+/// Prints parts, one after the other.
 pub(crate) fn print_parts<R: Print>(rt: &R, parts: &[Part<'_>]) -> Result<(), RunFault> {
     for part in parts {
         match part {
@@ -103,7 +103,7 @@ pub(crate) fn say_number<R: Print>(rt: &R, number: u64) -> Result<(), RunFault> 
     say_parts(rt, &[Part::Number(number)])
 }
 
-/// Bytes that are equal, one behind the other.
+/// Bytes that are equal, one after the other.
 #[derive(Clone, Copy)]
 struct Run {
     byte: u8,

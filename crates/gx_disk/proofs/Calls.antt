@@ -23,7 +23,7 @@ pub second_of_both : (a b : Bool) → IsTrue (a && b) → IsTrue b
 second_of_both true b p = p
 second_of_both false b p = absurd (false≢true p)
 
--- two lists of calls fit where each does
+-- two lists of calls fit if each does
 pub fit_all-append : (sectors : ℕ) (calls more : List PastCall) → IsTrue (fit_all sectors calls) → IsTrue (fit_all sectors more) → IsTrue (fit_all sectors (calls ++ more))
 unfolding fit_all
 fit_all-append sectors [] more fit fits = fits

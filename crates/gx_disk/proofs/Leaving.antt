@@ -23,7 +23,7 @@ leaves_weaker P Q a b less run = record {
   keeps = run.keeps;
 }
 
--- one call is a run, where each image after it has P
+-- one call is a run, if each image after it has P
 pub call_leaves : (P : List ℕ → Type 0) (old new : Device) → Elapses old new → ((image : List ℕ) → MayLeave new image → P image) → Leaves P old new
 call_leaves P old new time now = record {
   later = time.later;
@@ -31,7 +31,7 @@ call_leaves P old new time now = record {
   keeps = time.keeps;
 }
 
--- each image since the start of a run has P, where those of the start did
+-- each image since the start of a run has P, if those of the start did
 pub each_has : (P : List ℕ → Type 0) (old new : Device) → Leaves P old new → ((image : List ℕ) → old.left_since old.moment image → P image)
     → (image : List ℕ) → new.left_since old.moment image → P image
 each_has P old new run start image left = ⊎_elim (start image) (λ p. p) (run.only old.moment image (omega arith) left)

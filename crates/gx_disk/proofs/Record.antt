@@ -45,7 +45,7 @@ bytes_before-append (c ∷ calls) call kept more now size =
 total_parts : (k : ℕ) (calls : List PastCall) → total_kept (take k calls) + total_kept (drop k calls) ≡ total_kept calls
 total_parts k calls = sym (total_kept-append (take k calls) (drop k calls)) ∙ ap total_kept (take-append-drop k calls)
 
--- an earlier moment's bytes, where one call more is recorded that is undone to the bytes before it
+-- an earlier moment's bytes, if one call more is recorded that is undone to the bytes before it
 pub bytes_at-append : (k : ℕ) (calls : List PastCall) (call : PastCall) (kept more was now : List ℕ) → k ≤ length calls → total_kept calls ≡ length kept → bytes_back call more now ≡ was
     → bytes_at k (calls ++ call ∷ []) (kept ++ more) now ≡ bytes_at k calls kept was
 unfolding bytes_at

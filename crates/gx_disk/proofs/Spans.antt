@@ -31,12 +31,12 @@ put_before at new xs b n below fits =
     let front = take-append-le (b + n) (take at xs) rest (omega (arith, length-take-le at xs fits)) ∙ take-take (b + n) at xs below in
     sym (drop-take b n (take at xs ++ rest)) ∙ ap (drop b) front ∙ drop-take b n xs
 
--- what lies behind is unchanged
+-- what comes after is unchanged
 pub put_behind : (at : ℕ) (new xs : List ℕ) (b : ℕ) → at + length new ≤ b → at ≤ length xs → drop b (put at new xs) ≡ drop b xs
 unfolding put
 put_behind at new xs b above fits = drop-put_mid at (length new) xs new b above fits refl
 
--- The first m bytes put back give the list back, where only they had changed, and bytes that were rewritten with the
+-- The first m bytes put back give the list back, if only they had changed, and bytes that were rewritten with the
 -- same values.
 pub put_restores : (at m : ℕ) (xs ys : List ℕ) → at + m ≤ length xs → take at ys ≡ take at xs → drop m (drop at ys) ≡ drop m (drop at xs) → put at (take m (drop at xs)) ys ≡ xs
 unfolding put
@@ -44,7 +44,7 @@ put_restores at m xs ys fits front rest =
     let size : length (take m (drop at xs)) ≡ m = length-take-le m (drop at xs) (omega (arith, length-drop at xs)) in
     rw (size, front, rest, take-append-drop m (drop at xs)) (take-append-drop at xs)
 
--- spans of n sectors are the same where each of the sectors is
+-- spans of n sectors are the same if each of the sectors is
 pub spans_same : (n first : ℕ) (xs ys : List ℕ) → ((s : ℕ) → IsWithin first n s → sector_of xs s ≡ sector_of ys s) → span_of xs first (512 * n) ≡ span_of ys first (512 * n)
 unfolding span_of sector_of
 spans_same zero first xs ys same = refl
@@ -94,7 +94,7 @@ put_trimmed at m new xs fits few same =
     ∙ sym (drop-append-le m (take (length new) D) rest (omega arith)) ∙ ap (drop m) (take-append-drop (length new) D) in
     put_restores at m xs (put at new xs) (omega arith) front tail
 
--- lists that agree on k bytes from m on, and on those behind, agree from m on
+-- lists that agree on k bytes from m on, and on those after them, agree from m on
 pub rest_agrees : (m k n : ℕ) (xs ys : List ℕ) → n ≡ m + k → take k (drop m xs) ≡ take k (drop m ys) → drop n xs ≡ drop n ys → drop m xs ≡ drop m ys
 rest_agrees m k n xs ys end here behind =
     let parts : (zs : List ℕ) → take k (drop m zs) ++ drop n zs ≡ drop m zs =

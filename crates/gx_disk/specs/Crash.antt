@@ -9,7 +9,7 @@ unfoldable pub pending_below : (ℕ → Bool) → ℕ → ℕ
 pending_below pending zero = 0
 pending_below pending (suc s) = pending_below pending s + (if pending s then 1 else 0)
 
--- what the i-th unsynced sector takes of these choices, in turn: its old bytes where there is none
+-- what the i-th unsynced sector takes of these choices, in turn: its old bytes if there is none
 abbrev pub choice_of : List Torn → ℕ → Torn
 choice_of torn i = slice_index_or torn (i % length torn) Old
 

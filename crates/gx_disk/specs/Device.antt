@@ -39,7 +39,7 @@ pub record Elapses (old new : Device) : Type 0 where
   pub only : (t : ℕ) (image : List ℕ) → t ≤ old.moment → new.left_since t image → old.left_since t image ⊎ MayLeave new image
   pub keeps : (t : ℕ) (image : List ℕ) → t ≤ old.moment → old.left_since t image → new.left_since t image
 
--- Only the n sectors from first on may read otherwise, or be pending where they were settled.
+-- Only the n sectors from first on may read otherwise, or be pending if they were settled.
 pub record Touches (first n : ℕ) (old new : Device) : Type 0 where
   pub size : length new.seen ≡ length old.seen
   pub bytes : (s : ℕ) → IsOutside first n s → sector_of new.seen s ≡ sector_of old.seen s
@@ -78,7 +78,7 @@ pub record Reads {T E : Type 0} (first : ℕ) (bytes : List ℕ) (old new : Devi
   pub pending : SamePending old new
   pub time : Elapses old new
 
--- what a write of n sectors from sector first on does: where it fails, each of them is torn or unchanged
+-- what a write of n sectors from sector first on does: if it fails, each of them is torn or unchanged
 pub record Writes {T E : Type 0} (first n : ℕ) (bytes : List ℕ) (old new : Device) (result : Result T E) : Type 0 where
   pub touches : Touches first n old new
   pub written : OnOk result (IsWritten first n bytes old new)
@@ -86,7 +86,7 @@ pub record Writes {T E : Type 0} (first n : ℕ) (bytes : List ℕ) (old new : D
   pub pending : (s : ℕ) → IsOutside first n s → new.pending s ≡ old.pending s
   pub time : Elapses old new
 
--- what a sync does: where it fails, nothing is gained
+-- what a sync does: if it fails, nothing is gained
 pub record Syncs {T E : Type 0} (old new : Device) (result : Result T E) : Type 0 where
   pub settled : OnOk result (IsSettled new)
   pub pending : OnErr result (SamePending old new)
@@ -97,6 +97,6 @@ pub record Syncs {T E : Type 0} (old new : Device) (result : Result T E) : Type 
 abbrev pub SameDevice : Device → Device → Type 0
 SameDevice old new = (new.sectors ≡ old.sectors) × (new.honest ≡ old.honest)
 
--- where a call failed there is one fault more, and no other
+-- if a call failed there is one fault more, and no other
 abbrev pub CountsFault : {T E : Type 0} → Device → Device → Result T E → Type 0
 CountsFault old new result = MatchResult result (λ _. new.faults ≡ old.faults) (λ _. new.faults ≡ old.faults + 1)

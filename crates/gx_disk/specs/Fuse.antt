@@ -25,7 +25,7 @@ pub record Burns (fuse fuse' : Fuse) (done done' : Bool) (left left' : ℕ) (blo
   pub one_less : left' ≡ left - 1
   pub has_blown : blown' ≡ (blown || blows left blown fuse)
 
--- a write of n sectors that was made: it counts, and where it succeeded the bytes are there
+-- a write of n sectors that was made: it counts, and if it succeeded the bytes are there
 pub record IsMade (first n : ℕ) (bytes : List ℕ) (old new : Device) : Type 0 where
   pub counted : new.calls ≡ old.calls + 1
   pub written : old.honest ≡ true → new.faults ≡ old.faults → IsWritten first n bytes old new

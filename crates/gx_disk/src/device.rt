@@ -16,8 +16,8 @@ pub enum DiskFault {
     Memory,
     /// The call was made to fail, in a test.
     Fuse,
-    /// The system refused a call on the file, with an error of this kind. It is `UnexpectedEof` where the file is
-    /// shorter than it was.
+    /// The system refused a call on the file, with an error of this kind. It is `UnexpectedEof` if the file is shorter
+    /// than it was.
     File(ErrorKind),
     /// The system met an input or output error, for which `ErrorKind` has no name.
     InputOutput,

@@ -1,5 +1,5 @@
 //! Where the parts of an index lie on its device, in sectors: in front the magic, the parameters and the selector of
-//! the log, then the log, and behind it the pages.
+//! the log, then the log, and after it the pages.
 
 /// The first sector of the log.
 pub const LOG_AT: u64 = 8;

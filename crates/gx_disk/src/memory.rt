@@ -64,7 +64,7 @@ pub(crate) fn part(bytes: &[u8], at: usize, size: usize) -> &[u8]
     &bytes[at..at + size]
 }
 
-// What lies behind the first so many.
+// What comes after the first so many.
 fn behind<T>(all: &[T], count: usize) -> &[T]
     requires { count ≤ length all.now }
     ensures { result.now ≡ drop count all.now }

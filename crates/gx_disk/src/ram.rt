@@ -71,7 +71,7 @@ impl RamDisk {
         })
     }
 
-    /// Returns the calls that were made of the device, with this one behind them.
+    /// Returns the calls that were made of the device, with this one after them.
     fn past_after(&self, call: &PastCall) -> Past
         ensures { (result.calls ≡ self.now.past.calls ++ call.now ∷ [])
             × (result.kept ≡ self.now.past.kept ++ kept_of call.now self.now.bytes.items) }

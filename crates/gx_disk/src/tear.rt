@@ -54,7 +54,7 @@ fn kept_at(call: &PastCall, kept: &[u8], s: usize) -> Option<usize>
 }
 
 #[tactic(auto, unfolding(crate::specs::Memory::size_kept))]
-// The overwritten bytes behind those of one call.
+// The overwritten bytes after those of one call.
 fn after_kept<'a>(call: &PastCall, kept: &'a [u8]) -> &'a [u8]
     requires { size_kept call.now ≤ length kept.now }
     ensures { result.now ≡ drop (size_kept call.now) kept.now }
@@ -65,7 +65,7 @@ fn after_kept<'a>(call: &PastCall, kept: &'a [u8]) -> &'a [u8]
     }
 }
 
-// A sector's first overwritten bytes since these calls began, where any were kept.
+// A sector's first overwritten bytes since these calls began, if any were kept.
 fn old_bytes<'a>(calls: &[PastCall], kept: &'a [u8], sectors: usize, s: usize) -> Option<&'a [u8]>
     requires fits { fit_all sectors calls.now ≡ true }
     requires sized { total_kept calls.now ≡ length kept.now }

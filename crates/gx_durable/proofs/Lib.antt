@@ -12,8 +12,10 @@ pub mod Legality
 pub mod Moving
 pub mod Nodes
 pub mod Opening
+pub mod Paging
 pub mod Reading
 pub mod Recording
+pub mod Running
 pub mod Sizes
 pub mod Spellings
 pub mod Stamping

@@ -16,8 +16,6 @@ pub mod calls;
 pub mod class_laws;
 mod class_pages;
 pub mod laws;
-pub mod pages;
-pub mod turn;
 
 pub use class_pages::{NodePage, OfClass};
 

@@ -34,7 +34,7 @@ module _ {B D : Type 0} (s : ℕ) (e : Parts B D) where
   pub calling_twice : (call other : Call B) (now work : Work B) → calling s call work (calling s other now e) ≡ calling s call work e
   calling_twice call other now work = ap (λ (x : State B (Work B)). record e { sessions = x }) (phase_twice s (phase.Open other now) (phase.Open call work) e.sessions)
 
-  -- where it rested, and is at other work
+  -- a call that rested, and has other work now
   pub rested : (call other : Call B) (work : Work B) → phase_at (s - 1) e.sessions.phases ≡ phase.Open call Rests → calling s call Rests (calling s other work e) ≡ e
   rested call other work at = calling_twice call other work Rests ∙ as_kept call Rests at
 
@@ -100,7 +100,7 @@ turned_some {B} (one ∷ found) look leaf is = let same : one.leaf ≡ leaf = cc
 pub reads_of : {B D : Type 0} (old new known : Parts B D) → new ≡ known → known ≡ only_read old known → OnlyReads old new
 reads_of old new known is reads = is ∙ reads ∙ sym (ap (λ (x : Parts _ _). only_read old x) is)
 
--- the engine with a call's work, where only pages were brought since
+-- the engine with a call's work, if only pages were brought since
 pub same_calling : {B D : Type 0} (s : ℕ) (call : Call B) (work : Work B) (e there : Parts B D) → there ≡ brought e there → calling s call work there ≡ calling s call work (record e { volume = there.volume })
 same_calling {B} {D} s call work e there only = ap (λ (x : Parts B D). calling s call work (record x { volume = there.volume })) only
 
@@ -113,7 +113,7 @@ pub read_before : {B D : Type 0} (s : ℕ) (call : Call B) (before work : Work B
 read_before {B} {D} s call before work e there only =
     only ∙ sym (ap (λ (x : State B (Work B)). record (brought e there) { sessions = x }) (phase_twice s (phase.Open call before) (phase.Open call work) e.sessions))
 
--- and where its work was other since
+-- and if its work was other since
 pub same_again : {B D : Type 0} (s : ℕ) (call : Call B) (work now : Work B) (e there : Parts B D) → there ≡ calling s call now (brought e there)
     → calling s call work there ≡ calling s call work (record e { volume = there.volume })
 same_again {B} {D} s call work now e there only =

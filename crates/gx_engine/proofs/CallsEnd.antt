@@ -59,7 +59,7 @@ left_by_few (phase.Open call (Seeks leaf)) n few = omega (arith, few)
 left_by_few (phase.Undoing restored work) n few = omega (arith, few)
 left_by_few (phase.Waiting number) n few = omega (arith, few)
 
--- a page's write leaves the sessions as they were, but for a fault
+-- a page's write leaves the sessions unchanged, but for a fault
 write_keeps : {B D : Type 0} (d e : Device) (old new : Parts B D) (page : ℕ) (failed : Bool) (given : Outcome B) → PageIsWritten page d e old new failed given → KeepsSessions old new
 write_keeps d e old new page true given comes = keeps_all old new comes.1
 write_keeps d e old new page false given comes = page_keeps old new given comes.0 comes.2

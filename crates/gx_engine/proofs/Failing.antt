@@ -266,7 +266,7 @@ module _ {B D : Type 0} (state : D → Device) (old middle new : Parts B D) wher
   pub done_told : (s : ℕ) (o : Outcome B) (r : Reply B) → next_of s o ≡ Done r → TellsAs state old middle More → TellsAs state middle new o → TellsAs state old new (Replied r)
   done_told s o r is first next = let fails = ends s o r is in omega (arith, fails, first, next)
 
-  -- where none failed before
+  -- if none failed before
   pub then_told : (o : Outcome B) → (state middle.volume.shelf.disk).faults ≡ (state old.volume.shelf.disk).faults → TellsAs state middle new o → TellsAs state old new o
   then_told o same next = omega (arith, same, next)
 

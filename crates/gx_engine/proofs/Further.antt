@@ -113,7 +113,7 @@ module _ {B D : Type 0} (c : Class B) (lawful : 4 ≤ c.rules.most → IsLawful 
       let one = first bodies i h in
       reply_joined bodies i h one.0 one.1 reply event (next one.0.led.bodies one.0.led.index one.0.led.holds)
 
--- The same where the engine held the look that is at hand, or has read a page for it.
+-- The same if the engine held the look that is at hand, or has read a page for it.
 module _ {B D : Type 0} (c : Class B) (lawful : 4 ≤ c.rules.most → IsLawful c) (r : Reading (Entry B) (Page B)) (f : Format B) (passes : ℕ → Contents → Bool)
     (state : D → Device) (e : Device) (s : ℕ) (old mid new : Parts B D) where
   abbrev was : Device

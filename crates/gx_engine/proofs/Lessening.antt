@@ -104,7 +104,7 @@ flight_few BodySync = omega arith
 flight_few Gate = omega arith
 flight_few GateSync = omega arith
 
--- behind a turn none is due: one place is taken
+-- after a turn none is due: one place is taken
 none_coming : (bytes : List ℕ) → coming (nat_le CHECKPOINT_AT (1 + fillings bytes)) ≡ 0
 none_coming [] = refl
 none_coming (byte ∷ bytes) = refl

@@ -192,7 +192,7 @@ module _ {B D : Type 0} (c : Class B) (l : IsLawful c) (r : Reading (Entry B) (P
         subst (λ (m : ℕ). m < left c r f passes s old i) (sym (ap (λ (p : Phase B (Work B)). left_by p (work_left c j s)) here))
         (subst (λ (m : ℕ). left_by (phase.Open call now) (work_left c j s) < m) (sym left_now) less))
 
-    -- the log's state is as it was then
+    -- the log's state is unchanged
     pub moves_on : (now : Work B) (its : index.Work B) → CallIsAt call now its → DoesWork c (tree_now c i) (slot_at s i.slots) its
         → left_by (phase.Open call now) (work_left c (with_work s its i) s) < left_by (phase.Open call was) (work_left c i s)
         → (moved : Moved c r f passes d e s old (calling s call now (record old { volume = w })) More i (Works ∷ [])) × (moved.led.index.log ≡ i.log)

@@ -54,7 +54,7 @@ module _ {B : Type 0} where
   slots_for [] = refl
   slots_for (g ∷ gs) = let first = slot_for g in let rest = slots_for gs in λ i. first i ∷ rest i
 
-  -- a transaction's touches are of its number, and some where it touched something
+  -- a transaction's touches are of its number, and some if it touched something
   number_own : (t : ℕ) (ys : List (Touch (Entry B))) → touches t ys ≡ true → number_for (touched_by t ys) ≡ t
   number_own t [] h = let no : ⊥ = cc in absurd no
   number_own t (y ∷ ys) h = by (y.transaction == t) refl h (number_own t ys)

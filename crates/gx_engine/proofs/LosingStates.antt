@@ -210,7 +210,7 @@ module _ {B : Type 0} (k : Keys B) (l : IsLawful k) (x : Touch (Entry B)) where
         ap (slice_set (map number_for gs) (s - 1)) (sym (number_last x.transaction x ys refl)) ∙ sym (map_set number_for gs (s - 1) (own ys ++ x ∷ [])) ∙ ap (map number_for) (sym p.after) in
         (given.0, given.1 ∙ (λ i. record old { phases = phases i; table = all i; transactions = numbers i }))
 
-  -- where the last touch is of another transaction, so are all
+  -- if the last touch is of another transaction, so are all
   unnamed : (ys : List (Touch (Entry B))) → ComeInOrder k ys → AllByRecursion (λ y. ComesBefore k y x) ys → (last_of ys ≡ Some x.transaction → ⊥) → touches x.transaction ys ≡ false
   unnamed [] order before other = refl
   unnamed (y ∷ []) order before other =

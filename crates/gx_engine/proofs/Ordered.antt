@@ -1,4 +1,4 @@
--- What an engine keeps on any device stays so where pages were brought, nothing was logged and no commit got on.
+-- What an engine keeps on any device stays so if pages were brought, nothing was logged and no commit got on.
 use Rattle.std.proofs.Common.{◌≡◌, ◌≤◌, ◌∙◌, ap, subst, sym, ℕ, List, length}
 use Rattle.gx_glog.specs.State.{Log}
 use Rattle.gx_phases.specs.States.{State}
@@ -31,7 +31,7 @@ order_read e keys h w log most stamps frames sessions durable latest = record {
   frames = subst (λ (n : ℕ). 16 ≤ n) (sym frames) h.frames;
 }
 
--- the same where the volume alone has changed
+-- the same if the volume alone has changed
 pub order_changed : {B D : Type 0} (e : Parts B D) (keys : List B) → IsInOrder e keys → (w : Volume D) → StandsIn e.checkpoint w → 4 ≤ w.most
     → length w.shelf.frames.marks ≡ length e.volume.shelf.frames.marks → IsInOrder (record e { volume = w }) keys
 order_changed e keys h w stands some frames = record {

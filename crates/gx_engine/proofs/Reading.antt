@@ -353,7 +353,7 @@ on_err {A} {F} P result x is holds = subst (λ (o : Result A F). OnErr o P) is h
 pub on_ok : {A F : Type 0} (P : Type 0) (result : Result A F) (x : A) → result ≡ Ok x → OnOk result P → P
 on_ok {A} {F} P result x is holds = subst (λ (o : Result A F). OnOk o P) is holds
 
--- what holds whichever it is, or where it is so
+-- what holds whichever it is, or if it is so
 pub ok_so : {A F : Type 0} (P : Type 0) (result : Result A F) → ((x : A) → result ≡ Ok x → P) → OnOk result P
 ok_so P (Ok x) so = so x refl
 ok_so P (Err x) so = tt

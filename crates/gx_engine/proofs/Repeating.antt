@@ -25,7 +25,7 @@ module _ {B D : Type 0} (makes : Parts B D → Event B → Outcome B → Parts B
     many = count_more before.steps (event, given) count before.many;
   }
 
-  -- all that was made where it was repeated to its end
+  -- all that was made if it was repeated to its end
   pub repeated_made : (last : Outcome B) (new : Parts B D) → IsRepeated makes event old last new → (steps : List (Event B × Outcome B)) × AreMade makes old steps new
   repeated_made last new again =
       (again.before.steps ++ (event, last) ∷ [], made_more makes again.before.steps old again.middle new event last again.before.made again.last_made)

@@ -1,4 +1,4 @@
--- What checkpoint steps and log steps keep of the sessions, and what is left to do where there is nothing to do.
+-- What checkpoint steps and log steps keep of the sessions, and what is left to do if there is nothing to do.
 use Rattle.std.proofs.Common.{◌≡◌, inl, inr, Bool, true, false, [], refl, ap, sym, ◌∙◌, subst}
 use Rattle.std.specs.Prelude.{nat_le, Ok, Err, Result, IfOk}
 use Rattle.gx_geom.specs.declared.refusal.Refusal.{Refusal}
@@ -19,7 +19,7 @@ use Rattle.gx_engine.specs.States.{Parts, runs}
 use Rattle.gx_engine.specs.Repeated.{GoesOn}
 use Rattle.gx_engine.specs.Resting.{IsAtRest, KeepsSessions, WorksOff}
 
--- where the log has nothing to do, nothing is in flight or waits
+-- if the log has nothing to do, nothing is in flight or waits
 nothing_made : (st : Stage) (due new : Log) → due.stage ≡ st → (st ≡ Idle → ⊥) → Made due new (Ok Idle) → ⊥
 nothing_made st due new at busy made = busy (sym at ∙ sym made.0)
 

@@ -39,7 +39,7 @@ module _ {B : Type 0} (k : Keys B) where
   has_last e x [] = refl
   has_last e x (y ∷ ys) = ap (λ b. same_entry k e y || b) (has_last e x ys) ∙ or_swap (same_entry k e y) (same_entry k e x) (has k e ys)
 
-  -- where the notes are written again they are restored as they were
+  -- a note that gets another leaf counts as restored if it did before
   pub moved_done : (notes : List (Note B)) (place restored : ℕ) (n : Note B) (leaf : ℕ) (done : List (Entry B)) → slice_get notes place ≡ Some n
       → AreDone k notes restored done → AreDone k (moved place n leaf notes) restored done
   moved_done notes place restored n leaf done at are e =
@@ -58,7 +58,7 @@ module _ {B : Type 0} (k : Keys B) where
       ∙ ap (λ (x : Entry B). has k e (take restored es ++ x ∷ [])) (sym (get_or_from_slice_get es restored n.entry n.entry here))
       ∙ ap (has k e) (sym (take_more es restored n.entry (slice_get_within es restored n.entry here)))
 
-  -- where no note is left, what is noted is restored
+  -- if no note is left, what is noted is restored
   pub all_done : (notes : List (Note B)) (restored : ℕ) (done : List (Entry B)) → length notes ≤ restored → AreDone k notes restored done
       → (e : Entry B) (was : Bool) → noted k e (map note_of notes) ≡ Some was → has k e done ≡ true
   all_done notes restored done past are e was is =

@@ -1,4 +1,4 @@
--- The room that a write's move makes where it goes on: which pages were taken, and what was swept.
+-- The room that a write's move makes if it goes on: which pages were taken, and what was swept.
 use Rattle.std.proofs.Common.{◌≡◌, ◌∙◌, ap, sym, refl, subst, inl, inr, ⊎_elim, ◌⊎◌, ℕ, ◌-◌, ◌<◌, true, false, List, length, arith}
 use Rattle.gx_machine.specs.declared.call.Call.{Call}
 use Rattle.gx_machine.specs.Keys.{Keys}

@@ -84,7 +84,7 @@ pub slot_is : {B : Type 0} (k : Keys B) (old : State B (Work B)) (i : index.Stat
     → slot_at s i.slots ≡ slot_of (phase_at (s - 1) old.phases) (held_at (s - 1) old.table)
 slot_is {B} k old i kept of s is = ap (λ (xs : List (Slot B)). slot_at s xs) of.slots ∙ slot_here s old.phases old.table is (kept.phases ∙ sym kept.table)
 
--- A device is as large as it was, and what was settled on it is.
+-- A device has as many sectors as before, and what was settled on it is.
 pub record StaysSettled (d e : Device) : Type 0 where
   pub sectors : e.sectors ≡ d.sectors
   pub settled : (s : ℕ) → d.pending s ≡ false → e.pending s ≡ false
@@ -130,13 +130,13 @@ is_calm Off off turns = absurd (let no : ◌≡◌ {A = Checkpoint} Off Turning 
 is_calm Running off turns = absurd (let no : true ≡ false = off in cc)
 is_calm Turning off turns = absurd (let no : true ≡ false = off in cc)
 
--- where no checkpoint runs the log doesn't turn
+-- if no checkpoint runs the log doesn't turn
 pub is_still : {D : Type 0} (x : Checkpoint) (v : Volume D) → StandsIn x v → runs x ≡ false → v.log.turn ≡ Closed
 is_still Off v stands off = stands
 is_still Running v stands off = stands
 is_still Turning v stands off = absurd (let no : true ≡ false = off in cc)
 
--- where a page may be written the log doesn't turn
+-- if a page may be written the log doesn't turn
 pub writes_still : {D : Type 0} (x : Checkpoint) (v : Volume D) (page : ℕ) → StandsIn x v → is_gated v.shelf.frames.gated (stamp_of (kept v.shelf.frames page)) ≡ true
     → (x ≢ Turning) × (v.log.turn ≡ Closed)
 writes_still Off v page stands gated = (λ turns. (let no : ◌≡◌ {A = Checkpoint} Off Turning = turns in cc), stands)

@@ -86,7 +86,8 @@ from_next : {E : Type 0} (t n : ℕ) (xs : List (Touch E)) → t ≤ n → AreFr
 from_next t n [] low from = tt
 from_next t n (x ∷ xs) low from = ((let next = from.0 in omega (arith, low, next)), from_next t n xs low from.1)
 
--- Between two numbers that no transaction is between: those before the second, and its own, come behind those before the first.
+-- Between two numbers that no transaction is between: those before the second, and its own, come after those before the
+-- first.
 pub one_more : {E : Type 0} (n t : ℕ) (xs : List (Touch E)) → n ≤ t → AreInTurn xs → AllByRecursion (λ x. (x.transaction < n) ⊎ (t ≤ x.transaction)) xs
     → touched_before (t + 1) xs ≡ touched_before n xs ++ touched_by t xs
 one_more n t [] low turn away = refl

@@ -90,7 +90,7 @@ use Rattle.gx_engine.proofs.Undoing as undoing
 
 -- An undo's phase: so many are restored, and this is its work.
 
--- where a note is left
+-- if a note is left
 left_by_test : (m n x : ℕ) (b : Bool) → (if b then Some m else None) ≡ Some x → m ≡ x
 left_by_test m n x true is = let both : ◌≡◌ {A = Option ℕ} (Some m) (Some x) = is in cc
 left_by_test m n x false is = absurd (let no : ◌≡◌ {A = Option ℕ} None (Some x) = is in cc)
@@ -114,7 +114,7 @@ low_by (phase.Open call work) notes m is = absurd (let no : ◌≡◌ {A = Optio
 low_by (phase.Undoing restored work) notes m is = low_by_test restored notes m (nat_lt restored notes) refl is
 low_by (phase.Waiting number) notes m is = absurd (let no : ◌≡◌ {A = Option ℕ} None (Some m) = is in cc)
 
--- and where none is left
+-- and if none is left
 record IsPast {B : Type 0} (p : Phase B (Work B)) (notes : ℕ) : Type 0 where
   restored : ℕ
   is : p ≡ phase.Undoing restored (undo_work p)
@@ -474,7 +474,7 @@ is_next {B} s sessions m place notes its_notes n at =
     let low : m < length own = low_by (phase_at (s - 1) sessions.phases) (length own) m place in
     record { restored = m; place = place; note = slice_get_read own (length own) m n refl low (at ∙ ap (λ (ns : List (Note B)). get_or ns m n) its_notes) }
 
--- What a move comes to where a note is left.
+-- What a move comes to if a note is left.
 pub some_comes : {B D : Type 0} (known : Limits → Known (Entry B) (Page B)) (r : Reading (Entry B) (Page B)) (f : Format B) (passes : ℕ → Contents → Bool) (IsKey : B → Type 0) (k : Keys B)
     (spelling : B → List ℕ) (key : ℕ) (d e : Device) (s : ℕ) (old new : Parts B D) (outcome : Outcome B) → is_due old ≡ false → (m : ℕ) → next_of s old.sessions ≡ Some m
     → (notes : List (Note B)) → notes ≡ (held_by s old.sessions.table).notes → (n : Note B) → n ≡ get_or notes m n → (leaf : ℕ) → leaf ≡ next_leaf s old.sessions n

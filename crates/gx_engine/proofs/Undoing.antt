@@ -128,7 +128,7 @@ module _ {B : Type 0} (c : Class B) (l : IsLawful c) (old : State B (Work B)) (k
   grown_touches : (x : Record (Entry B) (Page B)) → analysis k (all_records (appended x i.log)) ≡ read k (analysis k (all_records i.log)) x
   grown_touches x = ap (λ (rs : List (Record (Entry B) (Page B))). analysis k rs) (grown x i.log) ∙ analysis-snoc k (all_records i.log) x
 
-  -- Where no note is left, the undo ends.
+  -- If no note is left, the undo ends.
   module _ (past : length held.notes ≤ restored) where
     abbrev ends : ℕ → Record (Entry B) (Page B)
     ends n = records.End n

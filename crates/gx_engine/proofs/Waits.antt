@@ -78,7 +78,7 @@ use Rattle.gx_engine.proofs.Lessening.{one_fills}
 
 -- ---- why a move waits
 
--- where a record has no room, something fills
+-- if a record has no room, something fills
 fills_by : (n used size : ℕ) → (nat_lt used PLACES && nat_le (n + size) BODY_ROOM) ≡ false → used < PLACES → size ≤ BODY_ROOM → 1 ≤ n
 fills_by zero used size none place small =
     let a : nat_lt used PLACES ≡ true = lt-ltb used PLACES place in
@@ -150,7 +150,7 @@ module _ {B D : Type 0} where
     why = why;
   }
 
-  -- what fills where a record finds no room, and no checkpoint is due
+  -- what fills if a record finds no room, and no checkpoint is due
   fills : (e : Parts B D) (size : ℕ) → size ≤ BODY_ROOM → is_due e ≡ false → has_room e.volume.log size ≡ false → 1 ≤ length e.volume.log.filling
   fills e size small early none =
       let due = (not_due (runs e.checkpoint) e.volume.log.used early).1 in
@@ -235,7 +235,7 @@ module _ {B D : Type 0} where
 
 -- ---- what a move comes to that waits
 
--- where the record of a write fits a batch, that of a mark does
+-- if the record of a write fits a batch, that of a mark does
 mark_fills : (small : Bool) (key : ℕ) → write_record key ≤ BODY_ROOM → mark_room small key ≤ BODY_ROOM
 mark_fills true key short = omega (arith, short)
 mark_fills false key short = short
@@ -314,7 +314,7 @@ pub empty_of : (bytes : List ℕ) → fillings bytes ≡ 0 → bytes ≡ []
 empty_of [] none = refl
 empty_of (byte ∷ bytes) none = let no : ⊥ = omega (arith, none) in absurd no
 
--- where fewer than two frames are clean, some page has changes
+-- if fewer than two frames are clean, some page has changes
 some_dirty : (x : Frames) → AreFrames x → clean_count x < 2 → NoneDirty x → ⊥
 some_dirty x are few clean =
     let zero_is = none_dirty_zero x are.sound clean in
@@ -324,7 +324,7 @@ some_dirty x are few clean =
     let no : ⊥ = omega (arith, zero_is, all, held, enough, few) in no
 
 module _ {B : Type 0} (c : Class B) (r : Reading (Entry B) (Page B)) (f : Format B) (passes : ℕ → Contents → Bool) {D : Type 0} (d : Device) where
-  -- where the log has nothing to do, each page that may not be written has no changes
+  -- if the log has nothing to do, each page that may not be written has no changes
   stamp_none : (v : Volume D) (bodies : List (List (Record (Entry B) (Page B)))) (s : Logged (Entry B) (Page B)) (page : ℕ) (stamp : Option ℕ) → stamp_of (kept v.shelf.frames page) ≡ stamp
       → Keeps (known_of c) r f passes d v bodies s → ((q : ℕ) → IsWritable v.shelf.frames q → ⊥) → log_left v.log ≡ 0 → stamp ≡ None
   stamp_none v bodies s page None is keeps none rests = refl
@@ -345,7 +345,7 @@ module _ {B : Type 0} (c : Class B) (r : Reading (Entry B) (Page B)) (f : Format
       → ((q : ℕ) → IsWritable v.shelf.frames q → ⊥) → log_left v.log ≡ 0 → NoneDirty v.shelf.frames
   none_dirty v bodies s keeps none rests = λ page. stamp_none v bodies s page (stamp_of (kept v.shelf.frames page)) refl keeps none rests
 
-  -- where the log has nothing to do, all commits are durable
+  -- if the log has nothing to do, all commits are durable
   all_durable : (v : Volume D) (bodies : List (List (Record (Entry B) (Page B)))) (s : Logged (Entry B) (Page B)) → Keeps (known_of c) r f passes d v bodies s → log_left v.log ≡ 0
       → latest (known_of c) s ≡ durable (known_of c) s
   all_durable v bodies s keeps rests =
@@ -410,7 +410,7 @@ module _ {B : Type 0} (c : Class B) (r : Reading (Entry B) (Page B)) (f : Format
         ]
       ]
 
--- where nothing was logged, no checkpoint moved and no page got a change, there is no more to flush
+-- if nothing was logged, no checkpoint moved and no page got a change, there is no more to flush
 no_more : {B D : Type 0} (old new : Parts B D) → new.checkpoint ≡ old.checkpoint → new.volume.log ≡ old.volume.log → StampsStay old.volume.shelf new.volume.shelf → IsOrderly old → IsOrderly new
     → backlog new ≤ backlog old
 no_more old new checkpoint log stamps was are =

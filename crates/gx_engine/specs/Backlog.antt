@@ -42,7 +42,7 @@ turn_left turn.GateSync = 3
 turn_left turn.Selector = 2
 turn_left turn.Done = 1
 
--- a checkpoint that isn't begun: its beginning, its sync and its turn, where it is due once what fills is in flight
+-- a checkpoint that isn't begun: its beginning, its sync and its turn, if it is due once what fills is in flight
 abbrev pub coming : Bool → ℕ
 coming true = 9
 coming false = 0

@@ -16,13 +16,13 @@ use Rattle.gx_engine.specs.States.{Parts}
 abbrev pub IsRead : {B D : Type 0} → (D → Device) → Parts B D → Parts B D → Type 0
 IsRead state old new = OnlyRead (state old.volume.shelf.disk) (state new.volume.shelf.disk)
 
--- how many calls of the device failed where this comes of an event: one where it is refused for that, and else none
+-- how many calls of the device failed if this comes of an event: one if it is refused for that, and else none
 abbrev pub outcome_fails : {B : Type 0} → Outcome B → ℕ
 outcome_fails (Replied (RefusedCall why)) = refusal_fails why
 outcome_fails (Refused why) = refusal_fails why
 outcome_fails other = 0
 
--- as many calls have failed as an outcome says; none where there is no outcome yet
+-- as many calls have failed as an outcome says; none if there is no outcome yet
 abbrev pub TellsAs : {B D : Type 0} → (D → Device) → Parts B D → Parts B D → Outcome B → Type 0
 TellsAs state old new outcome = (state new.volume.shelf.disk).faults ≡ (state old.volume.shelf.disk).faults + outcome_fails outcome
 

@@ -46,7 +46,7 @@ pub record WritesNext {B D : Type 0} (d e : Device) (old new : Parts B D) (outco
   pub least : IsLeastWritable old.volume.shelf.frames (Some page)
   pub writes : PageIsWritten page d e old new false outcome
 
--- The same where pages are dirty, and none may be written: a device that isn't honest.
+-- The same if pages are dirty, and none may be written: a device that isn't honest.
 pub record FindsNoPage {B D : Type 0} (old new : Parts B D) (outcome : Outcome B) : Type 0 where
   pub quiet : IsQuiet old.volume
   pub dirty : NoneDirty old.volume.shelf.frames → ⊥
@@ -57,7 +57,7 @@ pub record FindsNoPage {B D : Type 0} (old new : Parts B D) (outcome : Outcome B
 abbrev pub WritesDirty : {B D : Type 0} → Device → Device → Parts B D → Parts B D → Outcome B → Type 0
 WritesDirty d e old new outcome = WritesNext d e old new outcome ⊎ FindsNoPage old new outcome
 
--- the volume over its device now, with the present log behind another head
+-- the volume over its device now, with the present log and another head
 abbrev pub settled_volume : {D : Type 0} → Volume D → Volume D → Volume D
 settled_volume v w = record v { log = record v.log { flight = w.log.flight }; shelf = record v.shelf { disk = w.shelf.disk } }
 
@@ -107,7 +107,7 @@ pub record TurnsNext {B D : Type 0} (d e : Device) (old new : Parts B D) (outcom
   pub only : new.volume ≡ record old.volume { log = new.volume.log; shelf = record old.volume.shelf { disk = new.volume.shelf.disk; frames = told_result result old.volume.shelf.frames }; imaged = imaged_after result old.volume.imaged }
   pub comes : TurnComes old new outcome result
 
--- where none runs, one is begun once `CHECKPOINT_AT` places of the extent are taken, and goes on at once
+-- if none runs, one is begun once `CHECKPOINT_AT` places of the extent are taken, and goes on at once
 abbrev pub StepsOff : {B D : Type 0} → Device → Device → Parts B D → Parts B D → Bool → Outcome B → Type 0
 StepsOff d e old new false outcome = (outcome ≡ Nothing) × (new ≡ old)
 StepsOff d e old new true outcome = RunsOn d e (record old { checkpoint = Running }) new outcome

@@ -47,8 +47,8 @@ module _ {B : Type 0} (known : Limits → Known (Entry B) (Page B)) (r : Reading
     pub why : IsWhy (faults.IsWhy passes d e (begun v size) w.shelf) fault
 
   module _ (cost : B → B → ℕ × ℕ) (joined : B → B → B) (spelling : B → List ℕ) (key : ℕ) where
-    -- A descent made a step at the page of its item: a bound was widened there, with the record of it, small where the log's extent has an
-    -- image of the page; or nothing is logged.
+    -- A descent made a step at the page of its item: a bound was widened there, with the record of it, small if the
+    -- log's extent has an image of the page; or nothing is logged.
     pub record HasStepped {D : Type 0} (d e : Device) (v w : Volume D) (item : TraversalItem) (coming : B) (did : Descended B) : Type 0 where
       pub logged : DescentIsLogged known r f passes spelling key item.page d e v w did
       pub steps : IsSteady d v.shelf.frames → StepsDown cost joined v.most (store_of f d.seen v.shelf) (store_of f e.seen w.shelf) item coming did
@@ -65,7 +65,8 @@ module _ {B : Type 0} (known : Limits → Known (Entry B) (Page B)) (r : Reading
     Stepping d e v w item coming (Err fault) = HasNotStepped d e v w item fault
 
   module _ (spelling : B → List ℕ) (key : ℕ) where
-    -- An entry's live pair was added to a leaf, with the record of it: small where the log's extent has an image of the leaf.
+    -- An entry's live pair was added to a leaf, with the record of it: small if the log's extent has an image of the
+    -- leaf.
     pub record HasAdded {D : Type 0} (d e : Device) (v w : Volume D) (transaction : ℕ) (entry : Entry B) (page : ℕ) : Type 0 where
       pub logged : IsLogged known r f passes (add_room (is_imaged v.imaged page) key) d e v w
           (add_said spelling (is_imaged v.imaged page) transaction entry.row entry.key page e.seen w.shelf)

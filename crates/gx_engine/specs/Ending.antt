@@ -30,7 +30,7 @@ module _ {B : Type 0} (c : Class B) (r : Reading (Entry B) (Page B)) (f : Format
   Spares d e old new events = (bodies : List (List (Record (Entry B) (Page B)))) (i : index.State B) → Holds c r f passes d old bodies i
       → Spared d e old new i events
 
-  -- the same, where it depends on that index which events these were
+  -- the same, of events of a kind that depends on that index
   abbrev pub SparesSo : {D : Type 0} → Device → Device → Parts B D → Parts B D → (List (Happening B) → Type 0) → Type 0
   SparesSo d e old new AreSo = (bodies : List (List (Record (Entry B) (Page B)))) (i : index.State B) → Holds c r f passes d old bodies i
       → (events : List (Happening B)) × AreSo events × Spared d e old new i events

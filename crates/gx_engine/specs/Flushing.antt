@@ -29,7 +29,7 @@ noted BodySync e = e
 noted Gate e = e
 noted GateSync e = record e { sessions = synced_state e.in_flight e.sessions }
 
--- and what it answers
+-- and what it returns
 abbrev pub log_outcome : {B : Type 0} → Stage → Outcome B
 log_outcome Idle = Nothing
 log_outcome Body = More
@@ -90,7 +90,7 @@ abbrev pub PageIsWritten : {B D : Type 0} → ℕ → Device → Device → Part
 PageIsWritten page d e old new true outcome = IsEnded old new outcome
 PageIsWritten page d e old new false outcome = (result : Result Bool Refusal) × PageGoes page d e old.volume new.volume result × PageComes old new outcome result
 
--- the index's events that it is: the page area is another, where it was written or may have been; a fault
+-- the index's events that it is: the page area is another, if it was written or may have been; a fault
 abbrev pub page_events : {B : Type 0} → Outcome B → List (Happening B)
 page_events More = Works ∷ []
 page_events (Refused DeviceRefusal) = Works ∷ Fails ∷ []

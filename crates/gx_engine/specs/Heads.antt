@@ -1,4 +1,4 @@
--- The head of the renewed log, as it is put in memory: the numbers, and the sessions' notes in the order of their
+-- The head of the renewed log, as it is written in memory: the numbers, and the sessions' notes in the order of their
 -- transactions.
 use Rattle.std.specs.Prelude.{ℕ, ◌≡◌, ◌⊎◌, ◌+◌, ◌-◌, ◌*◌, ◌<◌, ◌≤◌, nat_le, nat_lt, Bool, true, ◌&&◌, Option, None, Some, Result, Ok, Err, List, ◌∷◌, ◌++◌, length}
 use Rattle.gx_machine.specs.declared.entry.Entry.{Entry}
@@ -21,7 +21,7 @@ use Rattle.gx_engine.specs.Noted.{AreNoted, has_transaction}
 abbrev pub note_record : ℕ
 note_record = NOTE_BESIDE_KEY + MAX_KEY
 
--- These records came behind those of a head, in so many bytes at most.
+-- These records came after those of a head, in so many bytes at most.
 pub record Puts {E P : Type 0} (r : Reading E P) (records : List (Record E P)) (size : ℕ) (old new : Log) : Type 0 where
   pub bytes : List ℕ
   pub log : new ≡ record old { flight = old.flight ++ bytes }
@@ -43,7 +43,7 @@ abbrev pub from_of : Option ℕ → ℕ
 from_of None = 0
 from_of (Some last) = last + 1
 
--- a session's transaction has a number from this one on, and one below that of another session's, where there is one
+-- a session's transaction has a number from this one on, and one below that of another session's, if there is one
 abbrev pub is_less : {B W : Type 0} → State B W → ℕ → Option ℕ → Bool
 is_less sessions t None = true
 is_less sessions t (Some other) = nat_lt t (transaction_of other sessions)
@@ -60,11 +60,11 @@ IsNextOf sessions from upto (Some s) =
     × ((a : ℕ) → is_session a ≡ true → a ≤ upto → has_transaction (phase_at (a - 1) sessions.phases) ≡ true
     → (transaction_of a sessions < from) ⊎ (transaction_of s sessions ≤ transaction_of a sessions))
 
--- Where sessions have noted what a log's transactions have touched: a note of each touch comes, by transaction and entry.
+-- If sessions have noted what a log's transactions have touched: a note of each touch comes, by transaction and entry.
 abbrev pub PutsTouches : {B D W : Type 0} {P : Type 0} → Reading (Entry B) P → State B W → Volume D → Volume D → Result (Unit {0}) StoreFault → Type 0
 PutsTouches {B} r sessions v w result = (xs : List (Touch (Entry B))) → AreNoted sessions xs → PutsAll r (notes_of xs) (note_record * length xs) v w result
 
--- the same behind the numbers
+-- the same after the numbers
 abbrev pub PutsHead : {B D W : Type 0} {P : Type 0} → Reading (Entry B) P → State B W → Volume D → Volume D → Result (Unit {0}) StoreFault → Type 0
 PutsHead {B} r sessions v w result = (xs : List (Touch (Entry B))) → AreNoted sessions xs
     → PutsAll r (Counters sessions.latest v.shelf.counter v.shelf.used sessions.next ∷ notes_of xs) (COUNTERS_RECORD + note_record * length xs) v w result

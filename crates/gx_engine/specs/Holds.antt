@@ -157,7 +157,7 @@ module _ {B : Type 0} (c : Class B) (r : Reading (Entry B) (Page B)) (f : Format
   abbrev pub Leads : {D : Type 0} → Device → Device → Parts B D → Parts B D → List (Happening B) → Type 0
   Leads d e old new events = (bodies : List (List (Record (Entry B) (Page B)))) (i : index.State B) → Holds d old bodies i → Led d e new i events
 
-  -- the same, where it depends on that index which events these were
+  -- the same, of events of a kind that depends on that index
   abbrev pub LeadsSo : {D : Type 0} → Device → Device → Parts B D → Parts B D → (List (Happening B) → Type 0) → Type 0
   LeadsSo d e old new AreSo = (bodies : List (List (Record (Entry B) (Page B)))) (i : index.State B) → Holds d old bodies i
       → (events : List (Happening B)) × AreSo events × Led d e new i events

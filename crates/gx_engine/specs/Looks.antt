@@ -128,7 +128,7 @@ abbrev pub leaf_found : {B : Type 0} → List (Found B) → Option ℕ
 leaf_found [] = None
 leaf_found (one ∷ found) = Some one.leaf
 
--- a write's look has read a page: its call is at what follows, and the look has ended only where it has found nothing
+-- a write's look has read a page: its call is at what follows, and the look has ended only if it has found nothing
 pub record Turns {B D : Type 0} (s : ℕ) (call : Call B) (look : Look B) (done : Bool) (old new : Parts B D) (result : Result (Unit {0}) (Outcome B)) : Type 0 where
   pub there : new ≡ calling s call (turned_by look.found.items look) old
   pub ends : OnOk result ((look.found.items ≡ []) × (done ≡ true))

@@ -41,7 +41,7 @@ module _ {B : Type 0} (c : Class B) (r : Reading (Entry B) (Page B)) (f : Format
   Lowers s More old new i j = left s new j < left s old i
   Lowers s other old new i j = Unit {0}
 
-  -- A session's move led to these events, and lowers what its call has left where it goes on.
+  -- A session's move led to these events, and lowers what its call has left if it goes on.
   pub record Moved {D : Type 0} (d e : Device) (s : ℕ) (old new : Parts B D) (outcome : Outcome B) (i : index.State B) (events : List (Happening B)) : Type 0 where
     pub led : Led c r f passes d e new i events
     pub lowers : Lowers s outcome old new i led.index
@@ -51,7 +51,7 @@ module _ {B : Type 0} (c : Class B) (r : Reading (Entry B) (Page B)) (f : Format
   Moves d e s old new outcome events = (bodies : List (List (Record (Entry B) (Page B)))) (i : index.State B) → Holds c r f passes d old bodies i
       → Moved d e s old new outcome i events
 
-  -- the same, where it depends on that index which events these were
+  -- the same, of events of a kind that depends on that index
   abbrev pub MovesSo : {D : Type 0} → Device → Device → ℕ → Parts B D → Parts B D → Outcome B → (List (Happening B) → Type 0) → Type 0
   MovesSo d e s old new outcome AreSo = (bodies : List (List (Record (Entry B) (Page B)))) (i : index.State B) → Holds c r f passes d old bodies i
       → (events : List (Happening B)) × AreSo events × Moved d e s old new outcome i events

@@ -59,7 +59,8 @@ abbrev pub standing_refusal : Bool → Refusal
 standing_refusal true = Absent
 standing_refusal false = Present
 
--- where the mark was set: the write is noted, with the mark that was found, and answered; or the pair is sought further to the right
+-- a mark was to be set: the write is noted, with the mark that was found, and answered; or the pair is sought further
+-- to the right
 abbrev pub set_outcome : {B : Type 0} → Bool → Sought → Outcome B
 set_outcome marked (Here slot before) = Replied (written_reply marked)
 set_outcome marked (Right next) = More

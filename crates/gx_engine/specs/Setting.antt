@@ -1,5 +1,5 @@
 -- What clauses say of a class of keys and of a device, from what their traits say of them. A relation takes the
--- states of the device from the engines or volumes that it relates. Where it names no limits, it holds within
+-- states of the device from the engines or volumes that it relates. If it names no limits, it holds within
 -- whatever limits an index has.
 use Rattle.std.specs.Prelude.{ℕ, ◌-◌, Bool, List, Option, Result}
 use Rattle.gx_machine.specs.declared.call.Call.{Call}

@@ -29,7 +29,8 @@ is_held k e entry = claimed_in k entry e.sessions.table
 abbrev pub AreTaken : {B D : Type 0} → (Entry B → Bool) → Format B → Device → Volume D → ℕ → List ℕ → Type 0
 AreTaken claimed f d v page slots = IsSteady d v.shelf.frames → slots ≡ swept_slots claimed ((tree_of (store_of f d.seen v.shelf)).node page)
 
--- The record of a sweep of these slots, and its room: small where the log's extent has an image of the leaf, else with its image.
+-- The record of a sweep of these slots, and its room: small if the log's extent has an image of the leaf, else with its
+-- image.
 abbrev pub slots_said : {D : Type 0} → Volume D → ℕ → List ℕ → Device → Volume D → Rec
 slots_said v page slots e w = sweep_said (is_imaged v.imaged page) page slots e.seen w.shelf
 

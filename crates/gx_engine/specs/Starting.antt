@@ -38,7 +38,7 @@ pub record AreFresh (frames batch : ℕ) (s : Frames) : Type 0 where
   pub held : s.held ≡ []
   pub gated : s.gated ≡ batch
 
--- the log with nothing logged, behind the bodies that were found
+-- the log with nothing logged, after the bodies that were found
 abbrev pub rested : {B : Type 0} → Start B → Log
 rested start = starting start.extent start.bodies
 

@@ -46,7 +46,7 @@ use Rattle.gx_engine.specs.declared.work.Work.TheVariants.{Descends, Looks, Rest
 use Rattle.gx_engine.specs.Refusals.{IsHelp}
 use Rattle.gx_engine.specs.States.{Parts, is_due, runs}
 
--- the leaf that an undo seeks in: its work's, or its next note's where it hasn't begun with that
+-- the leaf that an undo seeks in: its work's, or its next note's if it hasn't begun with that
 abbrev pub leaf_of : {B : Type 0} → Note B → Work B → ℕ
 leaf_of n Rests = n.leaf
 leaf_of n (Looks look) = n.leaf
@@ -87,15 +87,16 @@ EndComes s old new (Replied Aborted) = HasEnded s old new
 EndComes s old new (Help need.Log) = HasNoRoom (end_of s old) old.volume.log × (new ≡ old)
 EndComes s old new other = ⊥
 
--- where the next note's pair was sought: it is restored, by a write in this leaf; or it is sought further to the right
+-- the next note's pair was sought: it is restored, by a write in this leaf; or it is sought further to the right
 abbrev pub sought_state : {B : Type 0} → ℕ → ℕ → Note B → ℕ → Sought → State B (Work B) → State B (Work B)
 sought_state s restored n leaf (Here slot before) sessions = restored_state s restored n leaf Rests sessions
 sought_state s restored n leaf (Right next) sessions = with_phase_of s (phase.Undoing restored (Seeks next)) sessions
 
 module _ {B : Type 0} (known : Limits → Known (Entry B) (Page B)) (r : Reading (Entry B) (Page B)) (f : Format B) (passes : ℕ → Contents → Bool) (IsKey : B → Type 0) (k : Keys B)
     (spelling : B → List ℕ) (key : ℕ) where
-  -- The pair of a note's entry was sought in a leaf: it has the note's mark, and that is logged as this transaction's, with the mark that
-  -- was found, small where the log's extent has an image of the leaf; or it isn't in the leaf, and nothing is logged.
+  -- The pair of a note's entry was sought in a leaf: it has the note's mark, and that is logged as this transaction's,
+  -- with the mark that was found, small if the log's extent has an image of the leaf; or it isn't in the leaf, and
+  -- nothing is logged.
   pub record PairIsSought {D : Type 0} (d e : Device) (v w : Volume D) (transaction : ℕ) (n : Note B) (leaf : ℕ) (sought : Sought) : Type 0 where
     pub wants : Pair B → Bool
     pub wanted : (x : Pair B) → IsKey x.key → wants x ≡ ((x.row == n.entry.row) && is_eq (k.cmp x.key n.entry.key))
@@ -136,8 +137,8 @@ module _ {B : Type 0} (known : Limits → Known (Entry B) (Page B)) (r : Reading
       × (new ≡ record old { volume = new.volume; sessions = failed_state old.sessions })
   RestoreComes d e s restored n leaf old new other = ⊥
 
-  -- A checkpoint has to come first, and nothing changes; or no note is left, and the undo ends; or the next note is restored. By whether
-  -- one is due, and by how many are restored where a note is left.
+  -- A checkpoint has to come first, and nothing changes; or no note is left, and the undo ends; or the next note is
+  -- restored. By whether one is due, and by how many are restored if a note is left.
   abbrev pub UndoBy : {D : Type 0} → Bool → Option ℕ → Device → Device → ℕ → Parts B D → Parts B D → Outcome B → Type 0
   UndoBy true next d e s old new outcome = (outcome ≡ Help need.Checkpoint) × (new ≡ old)
   UndoBy false None d e s old new outcome = EndComes s old new outcome

@@ -20,7 +20,7 @@ pub const EVENTS: u64 = 1 << 56;
 /// Makes a session's first event, an ask or a move, and then the events that its driver names, to the end of its
 /// call: its moves, and the steps of the log and of a checkpoint and the writes of pages that help them.
 ///
-/// Returns the reply with which the call ended, also if an event was refused. Returns `None` if the call hasn't ended
+/// Returns the reply with which the call ended, even if an event was refused. Returns `None` if the call hasn't ended
 /// within `EVENTS` events: it stays open then. That never happens over an honest device. It takes no memory but what
 /// the events take.
 pub fn drive<D: SectorDisk, K: ReadKeys + Probing>(

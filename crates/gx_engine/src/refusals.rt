@@ -22,7 +22,7 @@ pub(crate) fn log_need(running: bool) -> Need
     if running { Need::Checkpoint } else { Need::Log }
 }
 
-/// The event that helps, by whether a checkpoint runs; the log's next call where storage names none.
+/// The event that helps, by whether a checkpoint runs; the log's next call if storage names none.
 fn need_of(running: bool, help: Option<Need>) -> Need
     ensures { result ≡ need_of running help }
 {

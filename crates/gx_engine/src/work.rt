@@ -9,7 +9,7 @@ pub enum Work<B: Shape> {
     Rests,
     /// A look, which reads the page of its next item.
     Looks(Look<B>),
-    /// A descent for an insert's pair, at an item to which it came from this page; 0 where it begins at the root.
+    /// A descent for an insert's pair, at an item to which it came from this page; 0 if it begins at the root.
     Descends(u32, TraversalItem),
     /// A seek for a pair that is in this leaf or to the right of it.
     Seeks(u32),

@@ -62,7 +62,7 @@ use Rattle.gx_engine_events.proofs.Stepping.{sees_within}
 use Rattle.gx_engine_events.specs.New.{IsNew, new_parts}
 use Rattle.gx_engine_events.proofs.Pages.{areas_agree, both_fit, both_readable, laid_page}
 
--- each place of a list of one item has it, and so has each place behind it
+-- each place of a list of one item has it, and so has each place after it
 all_one : {X : Type 0} (x : X) (n i : ℕ) → slice_index_or (replicate n x) i x ≡ x
 all_one x zero i = refl
 all_one x (suc n) zero = refl

@@ -14,8 +14,9 @@ use Rattle.gx_engine.specs.declared.checkpoint.Checkpoint.TheVariants.{Off}
 use Rattle.gx_engine.specs.declared.work.Work.{Work}
 use Rattle.gx_engine.specs.States.{Parts}
 
--- An engine over a device with a new index: its log goes on behind the first batch, which is gated and has no image; pages 1 and 2 are
--- taken, and none is in a frame; no session has a transaction, nothing is committed, and no checkpoint runs.
+-- An engine over a device with a new index: its log goes on after the first batch, which is gated and has no image;
+-- pages 1 and 2 are taken, and none is in a frame; no session has a transaction, nothing is committed, and no
+-- checkpoint runs.
 abbrev pub new_parts : {B D : Type 0} → (pages most : ℕ) → State → D → Parts B D
 new_parts {B} pages most frames disk = record {
   volume = record {

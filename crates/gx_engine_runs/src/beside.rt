@@ -26,7 +26,7 @@ pub(crate) enum At<B> {
     Waiting(u64),
 }
 
-/// How a run goes on behind an event.
+/// How a run goes on after an event.
 #[derive(Clone, Copy)]
 pub(crate) enum Went {
     /// It did its work, or was answered.
@@ -128,7 +128,7 @@ impl<K: Drawn> Beside<K> {
         }
     }
 
-    // A call that was answered as it was asked.
+    // A call that was answered at once.
     fn answered_at_once(
         &mut self,
         session: u8,

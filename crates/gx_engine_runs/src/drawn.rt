@@ -55,7 +55,7 @@ fn draw_session(draw: &mut Pcg32) -> u8 {
     session_of(below(draw, SESSIONS))
 }
 
-/// A session's event: its call goes on, or it asks one; now and then it asks where one is open.
+/// A session's event: its call goes on, or it asks one; now and then it asks one although a call is open.
 fn session_event<K: Drawn>(beside: &Beside<K>, draw: &mut Pcg32) -> Event<K::Key> {
     let session = draw_session(draw);
     let at = beside.at(session);
@@ -86,7 +86,7 @@ fn helping<B>(need: Need) -> Event<B> {
     }
 }
 
-/// Any event, where the last one waits perhaps the one that helps it.
+/// Any event. If the last one waits, it is perhaps the one that helps it.
 fn draw_event<K: Drawn>(beside: &Beside<K>, last: Went, draw: &mut Pcg32) -> Event<K::Key> {
     if let Went::Waits(need) = last
         && below(draw, 3) > 0

@@ -135,8 +135,8 @@ fn is_refused<K: Drawn>(beside: &mut Beside<K>, event: Event<K::Key>) -> bool {
     matches!(beside.engine.step(event), Outcome::Refused(Refusal::Failed))
 }
 
-/// Whether a session's ask is answered with `Failed`, and so is its move where a call is open, which is else refused
-/// with `NoCall`.
+/// Whether a session's ask is answered with `Failed`, and so is its move if a call is open, which is else refused with
+/// `NoCall`.
 fn is_refused_to<K: Drawn>(beside: &mut Beside<K>, session: u8) -> bool {
     let is_asked_in_vain = matches!(
         beside.engine.step(Event::Ask(session, Call::Begin)),
@@ -151,7 +151,7 @@ fn is_refused_to<K: Drawn>(beside: &mut Beside<K>, session: u8) -> bool {
         }
 }
 
-/// Behind a failed call each event is refused.
+/// After a failed call each event is refused.
 fn refuses_all<K: Drawn>(beside: &mut Beside<K>) -> Result<(), RunFault> {
     let refuses_flusher = is_refused(beside, Event::LogStep)
         && is_refused(beside, Event::WritePage(1))

@@ -29,13 +29,13 @@ pub(crate) enum Kind {
     Sweep,
     Page,
     Rest,
-    /// A script's line behind `call`.
+    /// A script's line after `call`.
     Call,
     /// A script's line.
     Ask,
 }
 
-/// A line's first word, what it asks for, and the greatest that each number behind it may be.
+/// A line's first word, what it asks for, and the greatest that each number after it may be.
 type Form = (&'static str, Kind, &'static [u64]);
 
 static FORMS: [Form; 12] = [
@@ -57,9 +57,9 @@ static FORMS: [Form; 12] = [
 #[derive(Clone, Copy)]
 pub(crate) struct Line<'a> {
     pub(crate) kind: Kind,
-    /// The line of a script, where it is one.
+    /// The line of a script, if it is one.
     pub(crate) script: &'a str,
-    /// The numbers behind the first word, and 0 behind the last.
+    /// The numbers after the first word, and 0 after the last.
     pub(crate) numbers: [u64; NUMBERS],
 }
 
@@ -71,7 +71,7 @@ fn number(word: Option<&str>, greatest: u64) -> Option<u64> {
     }
 }
 
-/// The words as numbers, each up to its greatest, where there are as many.
+/// The words as numbers, each up to its greatest, if there are as many.
 fn numbers(words: &mut SplitWhitespace<'_>, greatest: &[u64]) -> Option<[u64; NUMBERS]> {
     let mut numbers = [0; NUMBERS];
     for (place, most) in numbers.iter_mut().zip(greatest) {

@@ -8,7 +8,7 @@ use rand_pcg::Pcg32;
 /// How wide the grid is on which keys begin.
 const GRID: usize = 40;
 
-/// A number below this one; 0 where there is none.
+/// A number below this one; 0 if there is none.
 pub(crate) fn below(draw: &mut Pcg32, bound: usize) -> usize {
     let word = draw.next_word() as usize;
     if bound == 0 { 0 } else { word % bound }

@@ -186,7 +186,7 @@ fn print_call<R: Print>(
     )
 }
 
-/// Makes what a line says: an event; behind `call`, a call from its ask to its reply, and behind `rest`, the rest of an
+/// Makes what a line says: an event; after `call`, a call from its ask to its reply, and after `rest`, the rest of an
 /// open one, both with the number of events; or a page is printed.
 pub(crate) fn take<R: Print>(rt: &R, engine: &mut Listed, line: &Line<'_>) -> Result<(), RunFault> {
     let [number, ..] = line.numbers;

@@ -1,7 +1,7 @@
 //! Lists of an engine's events.
 //!
-//! `index PAGES MOST FRAMES` begins an index of boxes, and each line behind it is one event, of which it is printed
-//! what came: a script's line asks its call, `move SESSION`, `log`, `write PAGE`, `checkpoint` and `sweep PAGE` are the
+//! `index PAGES MOST FRAMES` begins an index of boxes, and each line after it is one event, of which it is printed what
+//! came: a script's line asks its call, `move SESSION`, `log`, `write PAGE`, `checkpoint` and `sweep PAGE` are the
 //! others. `call` before a script's line makes the events of that call up to its reply, and `rest SESSION` those that
 //! an open call has left. `page PAGE` prints what a page has.
 //!
@@ -11,8 +11,8 @@
 //! tree with the last set. With three numbers more, `fails` makes such a run of boxes for each of so many calls of the
 //! device, from a first one on by a stride, of which each fails once, made and not: from then on each event is refused.
 //! `stops` does so with a machine that stops at the call, and a crash by which what wasn't synced is old, is new, old
-//! and new in turn, or torn. What stands then is the set of a commit, from the last that was acknowledged to the last
-//! that was sealed.
+//! and new in turn, or torn. What the plain reader then finds is the set of a commit, from the last that was
+//! acknowledged to the last that was sealed.
 //!
 //! An empty line, and one that begins with `#`, is printed unchanged. The program ends at the first difference, with
 //! status 1.
@@ -191,7 +191,7 @@ fn make_line<R: Print>(
     }
 }
 
-/// Prints a line, and behind it what it comes to.
+/// Prints a line, and after it what it comes to.
 fn take_line(rt: &HostRuntime, listed: &mut Option<Listed>, line: &str) -> Result<(), RunFault> {
     print_parts(rt, &[Part::Text(line)])?;
     if !matches!(line.as_bytes(), [] | [b'#', ..]) {

@@ -12,7 +12,7 @@ pub(crate) enum Part<'a> {
     Coordinate(i32),
 }
 
-/// Prints parts, one behind the other.
+/// Prints parts, one after the other.
 pub(crate) fn print_parts<R: Print>(rt: &R, parts: &[Part<'_>]) -> Result<(), RunFault> {
     for part in parts {
         match part {

@@ -140,7 +140,7 @@ module _ {B : Type 0} (k : Keys B) where
   ask_few call least spent (Undoing locks notes) = inl (omega arith)
   ask_few call least spent (Waiting number) = inl (omega arith)
 
-  -- Where a call is refused because claims are full, they are.
+  -- If a call is refused because claims are full, they are.
 
   claim_full : (e : Entry B) (spent : ℕ) (locks : Locks B) (held room : Bool) → nat_lt spent MAX_CLAIMS ≡ room → claiming e locks held room ≡ Err refusal.ClaimsFull
       → MAX_CLAIMS ≤ spent

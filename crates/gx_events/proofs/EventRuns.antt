@@ -26,7 +26,7 @@ module _ {B : Type 0} (k : Keys B) (l : IsLawful k) where
   as_many : (engine : Engine B) (m : Machine B) → SeenAs k engine m → length m.sessions ≡ length engine.slots
   as_many engine m seen = ap length seen.sessions ∙ length-map engine.slots (session_of k engine.live)
 
-  -- the machine's locks keep apart where the engine's do
+  -- the machine's locks keep apart if the engine's do
   pub machine_apart : (engine : Engine B) (m : Machine B) → IsSound k engine → SeenAs k engine m → LocksApart k m.sessions
   machine_apart engine m i seen = record {
     eight = as_many engine m seen ∙ i.eight;

@@ -149,7 +149,7 @@ number_of (reply.Refused why) = 0
 -- What depends on sessions alone.
 
 module _ {B : Type 0} (k : Keys B) where
-  -- the machine after an ask differs in its sessions, and the ask goes the same where the sessions are the same
+  -- the machine after an ask differs in its sessions, and the ask goes the same if the sessions are the same
   asked_alike : (s : ℕ) (call : Call B) (m r n : Machine B) (g : Given B) (there : Bool) → m.sessions ≡ r.sessions
       → asked_there k s call m there ≡ (g, n)
       → (n ≡ record m { sessions = n.sessions }) × (asked_there k s call r there ≡ (g, record r { sessions = n.sessions }))

@@ -76,7 +76,7 @@ module _ {B : Type 0} (k : Keys B) where
       subst (λ (b : Bool). FitsEither k s call r s (reply.Refused why) b (At end))
       (sym (ap (λ (b : Bool). b && refuses_ask (reply.Refused why) call) (same_number s) ∙ refuses)) (end, step, refl)
 
-  -- where an engine had ended, a call is refused for it; the replay makes one of this and of an ask just before it
+  -- if an engine had ended, a call is refused for it; the replay makes one of this and of an ask just before it
   fits_failed : (q : Point B) (r m : Machine B) (s : ℕ) → EndsAt k q r → StandsFor r m → m.failed ≡ true
       → ((r.failed ≡ true) ⊎ (is_unanswered (session_at s r.sessions) ≡ true))
       → (end : Machine B) × Fits k q (Replied s (reply.Refused refusal.Failed)) (At end) × StandsFor end m

@@ -60,7 +60,7 @@ module _ {B : Type 0} (k : Keys B) (l : IsLawful k) where
     not_noted_elsewhere a b ne e barred = none_noted k e (notes_kept (slot_at b engine.slots)) (unnoted_elsewhere a b ne e barred)
 
     module _ (s : ℕ) (is : is_session s ≡ true) where
-      -- where another slot has none of it, the others have none
+      -- if another slot has none of it, the others have none
       pub none_of_others : (e : Entry B) → ((a : ℕ) → a ≢ s → noted k e (notes_kept (slot_at a engine.slots)) ≡ None) → of_others k engine s e ≡ None
       none_of_others e none =
           elim (some_or_none (of_others k engine s e)) [
@@ -113,7 +113,7 @@ module _ {B : Type 0} (k : Keys B) (l : IsLawful k) where
       pub stood_own : (e : Entry B) → of_others k engine s e ≡ None → stood k engine e ≡ unwrap_or (of_own k engine s e) (engine.live e)
       stood_own e none = ap (λ o. unwrap_or o (engine.live e)) (noted_now e ∙ ap (λ o. option_or o (of_own k engine s e)) none)
 
-      -- others are seen as before where a claimed entry changes
+      -- others are seen as before if a claimed entry changes
       pub others_seen : (e : Entry B) (now : Bool) → claims s e ≡ true → (a : ℕ) → a ≢ s
           → session_of k (marked k e now engine.live) (slot_at a engine.slots) ≡ session_of k engine.live (slot_at a engine.slots)
       others_seen e now claimed a ne =

@@ -14,7 +14,7 @@ noted_if true was rest among h = refl
 noted_if false was rest among h = h
 
 module _ {B : Type 0} (k : Keys B) where
-  -- an entry is noted where it is one of those that are
+  -- an entry is noted if it is one of those that are
   pub noted_has : (e : Entry B) (notes : List (Note B)) → is_some (noted k e notes) ≡ has k e (entries_of notes)
   noted_has e [] = refl
   noted_has e (n ∷ notes) = noted_if (same_entry k e n.entry) n.was_live (noted k e notes) (has k e (entries_of notes)) (noted_has e notes)

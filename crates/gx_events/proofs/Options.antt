@@ -118,7 +118,7 @@ deleted_taken false true noted = refl
 deleted_taken false false true = refl
 deleted_taken false false false = refl
 
--- tests that agree where another one passes
+-- tests that agree if another one passes
 pub and_agree : (p a b : Bool) → (p ≡ true → a ≡ b) → (p && a) ≡ (p && b)
 and_agree true a b h = h refl
 and_agree false a b h = refl

@@ -21,7 +21,7 @@ is_numbered j low =
     λ i. first i && second i
 
 module _ {B : Type 0} where
-  -- a place read where the number is a session's
+  -- a place read if the number is a session's
   abbrev place : Bool → ℕ → List (Slot B) → Slot B
   place there s slots = if there then slice_index_or slots (s - 1) Free else Free
 
@@ -73,7 +73,7 @@ module _ {B : Type 0} where
   free_by a true is = let bounds : (0 < a) × (a < 9) = session_bounds a is in get_or-replicate SESSIONS (a - 1) Free Free (omega arith)
   free_by a false is = refl
 
-  -- where all are free, each is
+  -- if all are free, each is
   pub slot_free : (a : ℕ) → ◌≡◌ {A = Slot B} (slot_at a (replicate SESSIONS Free)) Free
   slot_free a = free_by a (is_session a) refl
 
@@ -119,7 +119,7 @@ module _ {B : Type 0} where
         → session_at s (sessions_of k live slots) ≡ session_of k live (slot_at s slots)
     session_of_slot live s slots = image_by live s slots (is_session s)
 
-    -- the sessions once one slot is changed, where the others are seen as before
+    -- the sessions once one slot is changed, if the others are seen as before
     pub sessions_with : (old new : Entry B → Bool) (s : ℕ) (slots : List (Slot B)) (x : Slot B) (y : Session B) → length slots ≡ 8 → is_session s ≡ true
         → session_of k new x ≡ y
         → ((a : ℕ) → a ≢ s → session_of k new (slot_at a slots) ≡ session_of k old (slot_at a slots))
@@ -131,7 +131,7 @@ module _ {B : Type 0} where
         let below : j < 8 = omega arith in
         ap (session_of k new) (sym (by_place j slots below)) ∙ others (suc j) (omega arith) ∙ ap (session_of k old) (by_place j slots below))
 
-    -- the same where no slot is
+    -- the same if no slot is
     pub sessions_alike : (old new : Entry B → Bool) (slots : List (Slot B)) → length slots ≡ 8
         → ((a : ℕ) → session_of k new (slot_at a slots) ≡ session_of k old (slot_at a slots)) → sessions_of k new slots ≡ sessions_of k old slots
     sessions_alike old new slots eight same =

@@ -50,7 +50,7 @@ module _ {B : Type 0} (k : Keys B) (l : IsLawful k) where
       ap (gathered k) (filters_agree (λ e. not (new e)) (λ e. not (old e)) (entries_of notes) (λ e h. ap not (agree e h))) in
       λ i. record { added = added i; taken = taken i }
 
-  -- a slot is seen as before where what it noted is as live as before
+  -- a slot is seen as before if what it noted is as live as before
   pub seen_alike : (old new : Entry B → Bool) (x : Slot B) → ((e : Entry B) → has k e (entries_of (notes_kept x)) ≡ true → new e ≡ old e)
       → session_of k new x ≡ session_of k old x
   seen_alike old new Free agree = refl

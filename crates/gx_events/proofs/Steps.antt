@@ -41,7 +41,7 @@ module _ {B : Type 0} (k : Keys B) where
   unanswered_alike live (slots.Undoing locks notes) = refl
   unanswered_alike live (slots.Waiting number) = refl
 
-  -- a call is open in the machine where it is in the engine
+  -- a call is open in the machine if it is in the engine
   pub open_alike : (engine : Engine B) (m : Machine B) → SeenAs k engine m → (s : ℕ)
       → sessions.is_unanswered (session_at s m.sessions) ≡ slots.is_unanswered (slot_at s engine.slots)
   open_alike engine m seen s =

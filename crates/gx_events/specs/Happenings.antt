@@ -43,7 +43,7 @@ pub data Happening (B : Type 0) : Type 0 where
   Opens : (number : ℕ) → Happening B
   Works : Happening B
 
--- with this entry live or not, and every other one as it was
+-- with this entry live or not, and every other one unchanged
 abbrev pub marked : {B : Type 0} → Keys B → Entry B → Bool → (Entry B → Bool) → Entry B → Bool
 marked k e now live x = if same_entry k x e then now else live x
 

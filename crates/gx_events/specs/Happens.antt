@@ -38,7 +38,7 @@ AskRefused k s call (reply.Refused refusal.Failed) old new = (old.failed ≡ tru
 AskRefused k s call (reply.Refused refusal.HistoryFull) old new = (is_begin call ≡ true) × IsStep k old (RefusesAsk s call refusal.HistoryFull) new
 AskRefused k s call other old new = ⊥
 
--- a call may be closed for this: an insert, where no page is left, and a write or a search, where memory is refused
+-- a call may be closed for this: an insert, if no page is left, and a write or a search, if memory is refused
 abbrev pub may_lack : {B : Type 0} → Refusal → Call B → Bool
 may_lack refusal.PagesFull (Insert entry) = true
 may_lack refusal.Memory (Insert entry) = true
@@ -74,7 +74,7 @@ AskHappens k s call old (Replied r) new = IsStep k old (Asks s call (asked.Now r
 AskHappens k s call old More new = IsStep k old (Asks s call asked.Open) new
 AskHappens k s call old other new = ⊥
 
--- a move; where it did work and ended no call, it has sealed the commit, or changed nothing that the machine shows
+-- a move; if it did work and ended no call, it has sealed the commit, or changed nothing that the machine shows
 abbrev pub MoveHappens : {B : Type 0} → Keys B → ℕ → Machine B → Outcome B → Machine B → Type 0
 MoveHappens k s old (Replied r) new = Ends k s r old new
 MoveHappens k s old More new = Stays old new ⊎ IsStep k old (Seals s (newest new)) new

@@ -12,7 +12,7 @@ abbrev pub items_replied : {B : Type 0} → ℕ → Outcome B → List (Item B)
 items_replied s (Replied r) = item.Replied s r ∷ []
 items_replied s other = []
 
--- a commit that was sealed, where the number of the last commit rose
+-- a commit that was sealed, if the number of the last commit rose
 abbrev pub items_sealed : {B : Type 0} → ℕ → ℕ → ℕ → List (Item B)
 items_sealed s before after = if nat_lt before after then item.Sealed s after ∷ [] else []
 

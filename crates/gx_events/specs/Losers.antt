@@ -14,7 +14,7 @@ use Rattle.gx_events.specs.Happenings.{Happening, Asks, RefusesAsk, Inserts, Del
 abbrev pub loser_locks : {B : Type 0} → List (Note B) → Locks B
 loser_locks notes = record { claims = entries_of notes; predicates = [] }
 
--- the slot of a session with these notes to undo: it is free where there are none
+-- the slot of a session with these notes to undo: it is free if there are none
 abbrev pub loser_slot : {B : Type 0} → List (Note B) → Slot B
 loser_slot [] = Free
 loser_slot (n ∷ notes) = Undoing (loser_locks (n ∷ notes)) (n ∷ notes)
@@ -27,7 +27,7 @@ loser_session (n ∷ notes) = Aborting (loser_locks (n ∷ notes))
 abbrev pub loser_at : {B : Type 0} → ℕ → List (List (Note B)) → List (Note B)
 loser_at s losers = if is_session s then slice_index_or losers (s - 1) [] else []
 
--- notes for each of the eight sessions, where no two of them noted one entry
+-- notes for each of the eight sessions, if no two of them noted one entry
 pub record AreLosers {B : Type 0} (k : Keys B) (losers : List (List (Note B))) : Type 0 where
   pub eight : length losers ≡ 8
   pub apart : (a b : ℕ) → a ≢ b → (e : Entry B) → has k e (entries_of (loser_at a losers)) ≡ true → has k e (entries_of (loser_at b losers)) ≡ false

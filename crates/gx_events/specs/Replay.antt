@@ -24,7 +24,7 @@ pub data Point (B : Type 0) : Type 0 where
 abbrev pub settled : {B : Type 0} → ℕ → Machine B → Machine B
 settled number m = if nat_le number m.oldest then m else durable number m
 
--- A reply to an open call: an answer, where a commit that is acknowledged is durable; or the call was closed; or it met a
+-- A reply to an open call: an answer, if a commit that is acknowledged is durable; or the call was closed; or it met a
 -- fault. Once a fault was met, each further call is refused so.
 abbrev pub FitsReply : {B : Type 0} → Keys B → ℕ → Reply B → Machine B → Machine B → Type 0
 FitsReply k s (reply.Committed number) m n =
@@ -36,7 +36,7 @@ FitsReply k s (reply.Refused refusal.Failed) m n =
     ((m.failed ≡ true) ⊎ (is_unanswered (session_at s m.sessions) ≡ true)) × (n ≡ failed_machine m)
 FitsReply k s r m n = IsStep k m (Answers s r) n
 
--- an item where no ask waits for what comes next
+-- an item if no ask waits for what comes next
 abbrev pub FitsAt : {B : Type 0} → Keys B → Machine B → Item B → Point B → Type 0
 FitsAt k m (Asked s call) p = p ≡ Asking s call m
 FitsAt {B} k m (Sealed s number) p = (n : Machine B) × IsStep k m (Seals s number) n × (p ≡ At n)

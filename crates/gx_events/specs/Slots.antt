@@ -35,7 +35,7 @@ notes_kept (Working locks notes call) = notes
 notes_kept (Undoing locks notes) = notes
 notes_kept (Waiting number) = []
 
--- a slot by its session's number; there is nothing to say of one that isn't there
+-- a slot by its session's number; `Free` for a number that no session has
 abbrev pub slot_at : {B : Type 0} → ℕ → List (Slot B) → Slot B
 slot_at s slots = if is_session s then slice_index_or slots (s - 1) Free else Free
 
@@ -47,7 +47,7 @@ with_slot s slot slots = slice_set slots (s - 1) slot
 abbrev pub entries_of : {B : Type 0} → List (Note B) → List (Entry B)
 entries_of notes = map (λ n. n.entry) notes
 
--- whether an entry was live before, where it is noted: the first note of it says
+-- whether an entry was live before, if it is noted: the first note of it says
 abbrev pub noted : {B : Type 0} → Keys B → Entry B → List (Note B) → Option Bool
 noted k e [] = None
 noted k e (n ∷ notes) = if same_entry k e n.entry then Some n.was_live else noted k e notes

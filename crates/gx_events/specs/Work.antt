@@ -14,7 +14,7 @@ is_work (WritePage page) = true
 is_work CheckpointStep = true
 is_work (Sweep page) = true
 
--- one where an outcome ends a call with a reply
+-- one if an outcome ends a call with a reply
 abbrev pub replied : {B : Type 0} → Outcome B → ℕ
 replied (Replied r) = 1
 replied other = 0

@@ -25,7 +25,7 @@ HasFailed state [] old new = ⊥
 HasFailed {D} state (call ∷ calls) old new =
     Makes call (state old) (state new) (Err refusal.Device) ⊎ ((between : D) × (Makes call (state old) (state between) (Ok tt) × HasFailed state calls between new))
 
--- a run of these calls, and what it answers
+-- a run of these calls, and what it returns
 abbrev pub Runs : {D : Type 0} → (D → Device) → List Call → D → D → Result (Unit {0}) Refusal → Type 0
 Runs state calls old new (Ok x) = HasRun state calls old new
 Runs state calls old new (Err why) = (why ≡ refusal.Device) × HasFailed state calls old new

@@ -28,7 +28,7 @@ NamingLeavesFresh D state = (parameters : Parameters) (root : Contents) (old new
     → 1 ≤ (state old).sectors → IsLaidDown parameters root (state old) → Runs state naming old new result
     → Leaves (IsUnnamedOrFresh parameters root) (state old) (state new) × (result ≡ Ok tt → IsFresh parameters root (state new).seen × IsSettled (state new))
 
--- so at each moment of a format, and where a call of it fails, each image is one of before except for sector 0, no
+-- so at each moment of a format, and if a call of it fails, each image is one of before except for sector 0, no
 -- index, or the fresh one
 abbrev pub FormattingLeavesOldOrFresh : (D : Type 0) → (D → disk.Device) → Type 0
 FormattingLeavesOldOrFresh D state = (parameters : Parameters) (root : Contents) (old new : D) (result : Result (Unit {0}) Refusal) → (state old).honest ≡ true

@@ -169,7 +169,7 @@ fn make<D: SectorDisk>(
 /// node. What the device held before is lost.
 ///
 /// It makes fourteen calls of the device, in the order of `formatting`. On an honest device, at each moment of them,
-/// also if one fails, each image is one from before except for its first sector, or has no magic, or is the fresh one;
+/// even if one fails, each image is one from before except for its first sector, or has no magic, or is the fresh one;
 /// at `Ok` the device reads as the fresh one, and all of it is durable.
 ///
 /// Refused, in this order: with `BadParameter` if a number is out of range; with `TooSmall` if the device has fewer

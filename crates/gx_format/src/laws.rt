@@ -12,7 +12,7 @@ ghost use Rattle.gx_format.specs.Laws.{NamingLeavesFresh, FormattingLeavesOldOrF
 
 use gx_disk::SectorDisk;
 
-/// Of a format on an honest device, at each moment, also if a call fails: in the first write and its sync each image is
+/// Of a format on an honest device, at each moment, even if a call fails: in the first write and its sync each image is
 /// one from before except for sector 0; from then on none is an index; and from the last write on each is none, or the
 /// fresh one.
 pub fn phases<D: SectorDisk>()

@@ -12,7 +12,7 @@ use crate::{Part, Readable};
 use gx_record::Record;
 use gx_recovery::{Analysis, LogRule};
 
-/// Tells the counters that a log starts with.
+/// Passes the counters that a log starts with to the analysis.
 pub(crate) fn on_counters<M: Readable>(
     analysis: &mut Analysis<M::Entry>,
     logged: &Record<'_>,
@@ -44,7 +44,7 @@ where
     }
 }
 
-/// Tells a note of a log's head.
+/// Passes a note of a log's head to the analysis.
 pub(crate) fn on_note<M: Readable>(
     analysis: &mut Analysis<M::Entry>,
     logged: &Record<'_>,

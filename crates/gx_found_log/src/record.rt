@@ -14,7 +14,7 @@ use crate::{Part, Readable};
 use gx_record::{Mark, PageImages, Record};
 use gx_recovery::{Analysis, LogRule, Touch};
 
-/// Tells the pages of a record.
+/// Passes the pages of a record to the analysis.
 fn on_pages<E: Copy + Ord>(
     analysis: &mut Analysis<E>,
     counter: u64,
@@ -66,7 +66,7 @@ where
     Some(Touch::new(tx, entry, is_marked(before), leaf))
 }
 
-/// Tells what a transaction wrote. Refused if the bytes are no key's of the class (`NoKey`), and as
+/// Passes what a transaction wrote to the analysis. Refused if the bytes are no key's of the class (`NoKey`), and as
 /// [`Analysis::on_write`] is.
 fn on_written<M: Readable>(
     analysis: &mut Analysis<M::Entry>,
@@ -94,7 +94,7 @@ where
     }
 }
 
-/// Tells a record of a log's later bodies.
+/// Passes a record of a log's later bodies to the analysis.
 fn on_later<M: Readable>(
     analysis: &mut Analysis<M::Entry>,
     logged: &Record<'_>,

@@ -9,7 +9,7 @@ use gx_glog::BODY_SIZE;
 use std::alloc::{AllocError, Global};
 use std::marker::Model;
 
-/// All memory that reading a log takes, 1.9 MB: for what the log says, for the pages that it gives, and for a body.
+/// All memory that reading a log takes, 7.9 MB: for what the log says, for the pages that it gives, and for a body.
 #[derive(Drop)]
 pub struct LogRoom<E> {
     gathered: Gathered<E>,

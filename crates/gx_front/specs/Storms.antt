@@ -27,7 +27,7 @@ sound_line calls = codes "storm ok calls " ++ (decimal calls ++ (10 ∷ []))
 abbrev pub differs_line : ℕ → List ℕ
 differs_line place = codes "storm mismatch at " ++ (decimal place ++ (10 ∷ []))
 
--- A sound storm's line was written; or a beginning of it, where the writer takes no more, and then the user gets a
+-- A sound storm's line was written; or a beginning of it, if the writer takes no more, and then the user gets a
 -- sentence.
 abbrev pub TellsSound : ℕ → Outputs → Outputs → ℕ → Type 0
 TellsSound calls old new status =

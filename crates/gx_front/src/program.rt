@@ -197,7 +197,7 @@ fn format_boxes<'w, F: Files<File = File>, W: Write, E: Write>(
     }
 }
 
-// Tells the user what is wrong with the arguments, or the help that they ask for, and returns the status.
+// Reports to the user what is wrong with the arguments, or the help that they ask for, and returns the status.
 fn refuse_words<E: Write, D: Display>(alloc: Global, faults: &mut Noted<E>, why: &D) -> u8
     ensures status { result ≡ 2 }
     ensures told { (text : List ℕ) × ((text ≢ []) × Prints text (stream_of E.contents faults.old)
@@ -222,7 +222,7 @@ fn unread_line(place: usize) -> ArrayString<LONGEST>
     line
 }
 
-// Tells the user that the argument at this place isn't text, and returns the status.
+// Reports to the user that the argument at this place isn't text, and returns the status.
 fn refuse_unread<E: Write>(faults: &mut Noted<E>, place: usize) -> u8
     ensures status { result ≡ 2 }
     ensures told { Prints (unread_text place) (stream_of E.contents faults.old) (stream_of E.contents faults.new) }

@@ -16,8 +16,8 @@ pub(crate) fn at_most(low: i32, high: i32) -> bool
     low <= high
 }
 
-/// Both, with no branch between them: where many boxes are tested one after another, a branch on the first test is
-/// foreseen in half of them at best.
+/// Whether both hold, with no branch between them: over many boxes a branch on the first test is predicted in half of
+/// them at best.
 pub(crate) fn both(first: bool, second: bool) -> bool
     ensures { result ≡ (first && second) }
 {

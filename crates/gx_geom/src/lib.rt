@@ -1,4 +1,4 @@
-//! Boxes and intervals, the relations between them, and the refusals that calls answer.
+//! Boxes and intervals, the relations between them, and the refusals that calls return.
 #![tactic(auto)]
 
 mod axis;

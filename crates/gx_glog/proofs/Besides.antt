@@ -6,7 +6,7 @@ use Rattle.gx_disk.specs.declared.layout.TheConstants.{PAGES_AT}
 use Rattle.gx_disk.specs.Sectors.{IsOutside}
 use Rattle.gx_glog.specs.Standing.{IsOfLog}
 
--- a page lies behind the log's sectors
+-- a page comes after the log's sectors
 pub page_is_apart : (first n s : ℕ) → PAGES_AT ≤ first → IsOfLog s → IsOutside first n s
 page_is_apart first n s from (inl selector) = inl (omega arith)
 page_is_apart first n s from (inr log) = inl (omega (arith, log.1))

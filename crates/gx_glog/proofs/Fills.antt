@@ -14,11 +14,11 @@ use Rattle.gx_glog.specs.Layout.{size_in, records_in}
 use Rattle.gx_glog.specs.Turning.{selector_of, IsSelector}
 use Rattle.gx_glog.specs.Bodies.{IsZero, IsFilled, IsBody, IsOpenGate}
 
--- nothing lies behind a tail
+-- nothing comes after bytes that are put at a list's end
 pub put_tail : (end n : ℕ) (xs new : List ℕ) → length xs ≤ end + n → (take end xs ++ (new ++ drop n (drop end xs))) ≡ take end xs ++ new
 put_tail end n xs new le = ap (λ rest. take end xs ++ (new ++ rest)) (drop_all n (drop end xs) (omega (arith, length-drop end xs))) ∙ ap (λ ys. take end xs ++ ys) (append-nil new)
 
--- the bytes between the first four and the end, with a record's behind them
+-- the bytes between the first four and the end, with a record's after them
 pub put_fills : (end : ℕ) (new xs : List ℕ) → 4 ≤ end → end + length new ≤ length xs
     → (take (end + length new - 4) (drop 4 (put end new xs)) ≡ take (end - 4) (drop 4 xs) ++ new) × (length (put end new xs) ≡ length xs)
 unfolding put
@@ -32,7 +32,7 @@ put_fills end new xs four fits =
     let long : length (drop 4 front ++ new) ≡ end + length new - 4 = length-append (drop 4 front) new ∙ omega (arith, length-drop 4 front, size) in
     (ap (take (end + length new - 4)) there ∙ take_at (drop 4 front ++ new) rest (end + length new - 4) long ∙ ap (λ ys. ys ++ new) head, length-put end new xs fits)
 
--- what the size's four bytes say; nothing behind them changes
+-- what the size's four bytes say; nothing after them changes
 pub sized : (at n : ℕ) (xs : List ℕ) → at ≡ 0 → n < 2 ^ 32 → 4 ≤ length xs
     → (length (put at (u32_bytes n) xs) ≡ length xs) × (size_in (put at (u32_bytes n) xs) ≡ n) × ((k : ℕ) → 4 ≤ k → drop k (put at (u32_bytes n) xs) ≡ drop k xs)
 unfolding size_in u32_of
@@ -44,12 +44,12 @@ sized at n xs front small room =
     ap (take 4) here ∙ ap (λ k. take k (drop at (put at (u32_bytes n) xs))) (sym four) ∙ put_back at (u32_bytes n) xs fits in
     (length-put at (u32_bytes n) xs fits, rw first (u32_again n small), λ k from. put_behind at (u32_bytes n) xs k (omega arith) (omega arith))
 
--- where no byte from a place on is other than 0, none from a later one on is
+-- if no byte from a place on is other than 0, none from a later one on is
 pub later_zero : (end n : ℕ) (xs : List ℕ) → IsZero (drop end xs) → IsZero (drop (end + n) xs)
 later_zero end n xs zeros k =
     ap (λ ys. get_or ys k 0) (sym (drop-drop n end xs)) ∙ get_or-drop n (drop end xs) k 0 ∙ zeros (n + k)
 
--- a buffer with a record and the new size is filled as far as the record goes, and has it behind those that were there
+-- a buffer with a record and the new size is filled as far as the record goes, and has it after those that were there
 pub pushed : (end size : ℕ) (new bytes put_there after : List ℕ) → IsFilled end bytes → size ≡ length new → end + length new ≤ length bytes
     → put_there ≡ put end new bytes → after ≡ put 0 (u32_bytes (end + size - 4)) put_there
     → IsFilled (end + size) after × (take (end + size - 4) (drop 4 after) ≡ take (end - 4) (drop 4 bytes) ++ new)

@@ -10,7 +10,7 @@ use Rattle.gx_glog.specs.declared.extent.Extent.TheVariants.{A, B}
 use Rattle.gx_glog.specs.Layout.{gates_of, bodies_of, other_of, selected_of, is_open, body_of, records_in, open_run}
 use Rattle.gx_glog.specs.Cuts.{bodies_in, open_bodies}
 
--- an extent's gates lie before its bodies, behind the selector and before the pages
+-- an extent's gates lie before its bodies, after the selector and before the pages
 pub record IsPlaced (extent : Extent) : Type 0 where
   pub bodies : bodies_of extent ≡ gates_of extent + PLACES
   pub from : 8 ≤ gates_of extent
@@ -44,7 +44,7 @@ pub body_same : (extent : Extent) (k : ℕ) (xs ys : List ℕ) → ((s : ℕ) �
 unfolding body_of
 body_same extent k xs ys same = spans_same BODY_SECTORS (bodies_of extent + BODY_SECTORS * k) xs ys same
 
--- bodies are the same where their sectors are
+-- bodies are the same if their sectors are
 pub bodies_same : (extent : Extent) (n : ℕ) (xs ys : List ℕ) → ((k : ℕ) → k < n → body_of xs extent k ≡ body_of ys extent k) → bodies_in xs extent n ≡ bodies_in ys extent n
 unfolding bodies_in
 bodies_same extent zero xs ys same = refl
@@ -53,7 +53,7 @@ bodies_same extent (suc n) xs ys same =
     let last : body_of xs extent n ≡ body_of ys extent n = same n (omega arith) in
     rw (before, last) refl
 
--- one body more comes behind
+-- one body more follows
 pub bodies_more : (extent : Extent) (n : ℕ) (xs : List ℕ) → bodies_in xs extent (n + 1) ≡ bodies_in xs extent n ++ (records_in (body_of xs extent n) ∷ [])
 unfolding bodies_in
 bodies_more extent n xs = let more : n + 1 ≡ suc n = omega arith in rw more refl

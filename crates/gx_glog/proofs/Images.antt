@@ -26,7 +26,7 @@ pub image_bodies : (seen : List ℕ) (pending : ℕ → Bool) (extent : Extent) 
     → bodies_in image extent n ≡ bodies_in seen extent n
 image_bodies seen pending extent n image settled may = bodies_same extent n image seen (λ k less. image_body seen pending extent k image (settled k less) may)
 
--- the bodies of an image where so many gates in a row are open
+-- the bodies of an image if so many gates in a row are open
 pub run_log : (extent : Extent) (run : ℕ) (seen : List ℕ) (pending : ℕ → Bool) (image : List ℕ) → run ≤ PLACES → HasRun extent run seen pending → IsImage seen pending image → selected_of image ≡ extent
     → open_bodies image ≡ bodies_in seen extent run
 run_log extent run seen pending image few has may selects =
@@ -38,11 +38,11 @@ module _ (seen : List ℕ) (pending : ℕ → Bool) (extent : Extent) (gated use
   image_opened : (k : ℕ) → k < gated → is_open image extent k ≡ true
   image_opened k less = image_gate true seen pending extent k image (has.opened k less) may
 
-  -- the bodies of an image whose gate behind the gated ones is closed
+  -- the bodies of an image whose gate after the gated ones is closed
   pub closed_log : gated ≤ PLACES → (gated < PLACES → is_open image extent gated ≡ false) → open_bodies image ≡ bodies_in seen extent gated
   closed_log few closed = bodies_are extent gated image selects few image_opened closed ∙ image_bodies seen pending extent gated image has.bodies may
 
-  -- the bodies of an image whose gate behind the gated ones is open, over a body that has these records
+  -- the bodies of an image whose gate after the gated ones is open, over a body that has these records
   open_log : (flight : List ℕ) → gated < PLACES → used ≡ gated + 1 → HasRecords flight (body_of seen extent gated) → IsBodySettled pending extent gated → is_open image extent gated ≡ true
       → open_bodies image ≡ bodies_in seen extent gated ++ (flight ∷ [])
   open_log flight few places body settled is_opened =
@@ -58,7 +58,7 @@ module _ (seen : List ℕ) (pending : ℕ → Bool) (extent : Extent) (gated use
   by_gate flight false gate few places body settled = inl (closed_log (omega arith) (λ less. gate))
   by_gate flight true gate few places body settled = inr (open_log flight few places body settled gate)
 
-  -- the bodies of an image where the one behind the gated ones is settled: its gate decides
+  -- the bodies of an image if the one after the gated ones is settled: its gate decides
   pub either_log : (flight : List ℕ) → gated < PLACES → used ≡ gated + 1 → HasRecords flight (body_of seen extent gated) → IsBodySettled pending extent gated
       → AreBodiesOf (bodies_in seen extent gated) flight image
   either_log flight few places body settled = by_gate flight (is_open image extent gated) refl few places body settled
@@ -95,7 +95,7 @@ head_shows_bodies extent head seen pending image has may selects =
     closed_log seen pending extent 1 1 image has.batches may selects (omega arith) (λ less. image_gate false seen pending extent 1 image (has.batches.closed 1 (omega arith) less) may)
     ∙ head_bodies extent head seen pending has
 
--- where the selector is settled, each image selects the extent
+-- if the selector is settled, each image selects the extent
 pub image_selects : (extent : Extent) (seen : List ℕ) (pending : ℕ → Bool) (image : List ℕ) → IsSelected extent seen pending → IsImage seen pending image → selected_of image ≡ extent
 image_selects extent seen pending image selected may = selector_same image seen (may.settled 2 selected.settled) ∙ selected.reads
 

@@ -1,4 +1,4 @@
--- What is known of a log's sectors stays where they are kept.
+-- What is known of a log's sectors stays if they are kept.
 use Rattle.std.proofs.Common.{◌≡◌, ◌∙◌, sym, ap, refl, ◌⊎◌, inl, inr, ℕ, ◌+◌, ◌*◌, ◌<◌, ◌≤◌, List, ◌++◌, length, true, false, Bool, subst, length-append, arith}
 use Rattle.gx_disk.specs.declared.layout.TheConstants.{LOG_AT, LOG_SECTORS, PAGES_AT}
 use Rattle.gx_disk.specs.Sectors.{IsWithin, IsOutside}
@@ -68,12 +68,12 @@ module _ (seen seen' : List ℕ) (pending pending' : ℕ → Bool) where
     closed = λ k from below. gate_kept false extent k (gates k (inr from) below) (has.closed k from below);
   }
 
-  -- the gated bodies read as before where they are kept
+  -- the gated bodies read as before if they are kept
   pub gated_kept : (extent : Extent) (n : ℕ) → ((k : ℕ) → k < n → (s : ℕ) → IsWithin (bodies_of extent + BODY_SECTORS * k) BODY_SECTORS s → IsKept seen seen' pending pending' s)
       → bodies_in seen' extent n ≡ bodies_in seen extent n
   gated_kept extent n kept = bodies_same extent n seen' seen (λ k less. body_kept extent k (kept k less))
 
-  -- an extent stays selected where the selector is kept
+  -- an extent stays selected if the selector is kept
   pub selected_kept : (extent : Extent) → IsKept seen seen' pending pending' 2 → IsSelected extent seen pending → IsSelected extent seen' pending'
   selected_kept extent kept selected = record { reads = selector_same seen' seen kept.bytes ∙ selected.reads; settled = kept.settled selected.settled }
 
@@ -257,7 +257,7 @@ start_on extent used seen pending few selected has = record {
   tails = unknown_have seen pending;
 }
 
--- where later gates may be open
+-- if later gates may be open
 pub start_may_turn : (extent : Extent) (used : ℕ) (seen : List ℕ) (pending : ℕ → Bool) → used ≤ PLACES → IsSelected extent seen pending → HasRun extent used seen pending
     → MayTurn (starting extent used) seen pending
 start_may_turn extent used seen pending few selected has = record {
@@ -324,7 +324,7 @@ append_may_turn log bytes seen pending still place fits may = record {
   tails = may.tails;
 }
 
--- what an append keeps, whatever it answers
+-- what an append keeps, whatever it returns
 pub append_keeps_on : (bytes : List ℕ) (old new : Log) (answer : Appended) (seen : List ℕ) (pending : ℕ → Bool) → old.used < PLACES → Appends bytes old new answer → On old seen pending → On new seen pending
 append_keeps_on bytes old new (At place) seen pending room appends on =
     let P : Log → Type 0 = λ l. On l seen pending in

@@ -332,11 +332,11 @@ failed_keeps BodySync extent used gated flight filling tails before now refusal 
 failed_keeps Gate extent used gated flight filling tails before now refusal flies on calls = gate_failed extent used gated flight filling tails before now refusal on calls
 failed_keeps GateSync extent used gated flight filling tails before now refusal flies on calls = sync_failed (log_with extent used gated GateSync flight filling tails) before now refusal on on.turn calls
 
--- where a record waits for a batch, there is a place for it
+-- if a record waits for a batch, there is a place for it
 pub room_left : (used : ℕ) (filling : List ℕ) → 1 ≤ length filling → (PLACES ≤ used → filling ≡ []) → used < PLACES
 room_left used filling some room = ⊎_elim (λ less. less) (λ full. absurd (let none : length filling ≡ 0 = ap length (room full) in omega arith)) (cases_lt used PLACES)
 
--- a batch begins where there is a place for it
+-- a batch begins if there is a place for it
 pub begun_on : (extent : Extent) (used gated : ℕ) (flight filling tails seen : List ℕ) (pending : ℕ → Bool) → 1 ≤ length filling → On (log_with extent used gated Idle flight filling tails) seen pending
     → On (begun (log_with extent used gated Idle flight filling tails)) seen pending
 begun_on extent used gated flight filling tails seen pending some on =
@@ -380,7 +380,7 @@ begun_keeps extent used gated flight filling tails new before now (Ok GateSync) 
 begun_keeps extent used gated flight filling tails new before now (Ok Idle) made keeps = record { on = keeps.on; gated = keeps.gated; moments = keeps.moments; touches = keeps.touches; time = keeps.time }
 begun_keeps extent used gated flight filling tails new before now (Err refusal) made keeps = record { on = keeps.on; gated = keeps.gated; moments = keeps.moments; touches = keeps.touches; time = keeps.time }
 
--- where nothing is logged and nothing is in flight, nothing changes
+-- if nothing is logged and nothing is in flight, nothing changes
 pub idle_keeps : (t : Turn) (extent : Extent) (used gated : ℕ) (flight filling tails : List ℕ) (d : Device) → On (log_at t extent used gated Idle flight filling tails) d.seen d.pending
     → Moves (log_at t extent used gated Idle flight filling tails) (log_at t extent used gated Idle flight filling tails) d d (Ok Idle)
 idle_keeps t extent used gated flight filling tails d on = record {
@@ -391,7 +391,7 @@ idle_keeps t extent used gated flight filling tails d on = record {
   time = record { later = omega arith; only = λ from image le left. inl left; keeps = λ from image le left. left };
 }
 
--- no turn is under way where a batch is in flight
+-- no turn is under way if a batch is in flight
 pub none_turns : (t : Turn) → turning t ≡ 0 → t ≡ turn.Closed
 none_turns turn.Closed none = refl
 none_turns turn.Body none = absurd (omega arith)
@@ -422,7 +422,7 @@ call_stays log new refusal before now flies goes calls on =
     let still : log.turn ≡ turn.Closed = none_turns log.turn (omega (arith, on.sound.one)) in
     subst Q (sym goes) (subst R (sym still) (λ on'. failed_keeps log.stage log.extent log.used log.gated log.flight log.filling log.tails before now refusal flies on' calls) on)
 
--- nor where a record waits for a batch
+-- nor if a record waits for a batch
 waiting_still : (t : Turn) (filling : List ℕ) → 1 ≤ length filling → (1 ≤ turning t → filling ≡ []) → t ≡ turn.Closed
 waiting_still t filling some quiet =
     none_turns t (⊎_elim (λ (none : turning t < 1). omega arith) (λ (turns : 1 ≤ turning t). absurd (let none : length filling ≡ 0 = ap length (quiet turns) in omega arith)) (cases_lt (turning t) 1))

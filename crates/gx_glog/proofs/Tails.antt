@@ -143,7 +143,7 @@ by_order first k j n tail s few same from to =
     (λ (here : j ≤ k). inr (let is : k ≡ j = omega arith in omega (arith, from, same is, is))) (cases_lt k j))
     (cases_lt j k)
 
--- a sector behind a place's tail isn't one of those that are written up to a place's tail
+-- a sector after a place's tail isn't one of those that are written up to a place's tail
 behind_tail : (extent other : Extent) (k j n tail s : ℕ) → k < PLACES → j < PLACES → n ≤ BODY_SECTORS → (place_of extent k ≡ place_of other j → n ≡ tail) → bodies_of other + BODY_SECTORS * j + tail ≤ s → s < bodies_of other + BODY_SECTORS * (j + 1)
     → IsOutside (bodies_of extent + BODY_SECTORS * k) n s
 behind_tail A A k j n tail s below less few same from to = by_order BODIES_A k j n tail s few same from to
@@ -244,7 +244,7 @@ body_whole tails extent k flight bytes before now are below covers is size have 
     let P : List ℕ → Type 0 = λ body. IsBody flight body in
     subst P (sym (ap (λ seen. span_of seen first BODY_SIZE) written.seen ∙ reads)) is
 
--- a settled body's place reads zero behind its records
+-- a settled body's place reads zero after its records
 pub body_tail : (extent : Extent) (k : ℕ) (flight seen : List ℕ) (pending : ℕ → Bool) → length flight ≤ BODY_ROOM → IsBody flight (body_of seen extent k) → ((s : ℕ) → pending s ≡ false)
     → HasTail (sectors_of flight) extent k seen pending
 unfolding body_of span_of sector_of

@@ -72,7 +72,8 @@ selector_read extent bytes before now selector size written =
     let here : take 512 (drop (512 * 2) now.seen) ≡ bytes = ap (λ n. take n (drop (512 * 2) now.seen)) (sym selector.whole) ∙ reads in
     selects_by extent (take 512 (drop (512 * 2) now.seen)) (ap (λ (sector : List ℕ). get_or sector 0 0) here ∙ selector.selects)
 
--- What a call of a turn leaves as it was, also where it fails: the extent that it leads from, and what is known of the other.
+-- What a call of a turn leaves unchanged, even if it fails: the extent that it leads from, and what is known of the
+-- other.
 record Stays (t : Turn) (extent : Extent) (head : List ℕ) (before now : Device) : Type 0 where
   pub size : length now.seen ≡ length before.seen
   pub kept : KeptExtent before.seen now.seen before.pending now.pending extent
@@ -200,7 +201,7 @@ LeadsNext turn.GateSync extent head now = Leads turn.Selector extent (other_of e
 LeadsNext turn.Selector extent head now = Leads turn.Done extent (other_of extent) head now.seen now.pending
 LeadsNext turn.Done extent head now = HasHead (other_of extent) head now.seen now.pending × IsSelected (other_of extent) now.seen now.pending
 
--- the place of the head that a turn is to write has its tail behind the head, as all places have theirs
+-- the place of the head that a turn is to write has its tail after the head, as all places have theirs
 record HaveHead (t : Turn) (extent : Extent) (head tails seen : List ℕ) (pending : ℕ → Bool) : Type 0 where
   pub are : AreTails tails
   pub covers : 1 ≤ turning t → sectors_of head ≤ tail_of tails (other_of extent) 0
@@ -262,7 +263,7 @@ tails_after turn.GateSync extent head tails = tails
 tails_after turn.Selector extent head tails = tails
 tails_after turn.Done extent head tails = tails
 
--- they begin behind the head, and each place reads zero from its own on
+-- they begin after the head, and each place reads zero from its own on
 record TailsNext (t : Turn) (extent : Extent) (head tails seen : List ℕ) (pending : ℕ → Bool) : Type 0 where
   pub are : AreTails (tails_after t extent head tails)
   pub covers : sectors_of head ≤ tail_of (tails_after t extent head tails) (other_of extent) 0
@@ -368,7 +369,7 @@ module _ (extent : Extent) (used gated : ℕ) (head filling : List ℕ) (before 
   abbrev at : List ℕ → Turn → Log
   at tails t = log_at t extent used gated Idle head filling tails
 
-  -- where the log may turn, it still may, whichever call is due
+  -- if the log may turn, it still may, whichever call is due
   stays_turning : (t next : Turn) (tails after : List ℕ) → IsSound (at after next) → (1 ≤ turning next → filling ≡ []) → MayTurn (at tails t) before.seen before.pending → Stays t extent head before now
       → HaveTails after now.seen now.pending → Leads next extent (other_of extent) head now.seen now.pending → MayTurn (at after next) now.seen now.pending
   stays_turning t next tails after sound quiet may stay have leads = record {
@@ -380,7 +381,7 @@ module _ (extent : Extent) (used gated : ℕ) (head filling : List ℕ) (before 
     tails = have;
   }
 
-  -- where the log is on the device, it still is
+  -- if the log is on the device, it still is
   stays_on : (t next : Turn) (tails after : List ℕ) → IsSound (at after next) → (1 ≤ turning next → filling ≡ []) → On (at tails t) before.seen before.pending → Stays t extent head before now
       → HaveTails after now.seen now.pending → Leads next extent (other_of extent) head now.seen now.pending → On (at after next) now.seen now.pending
   stays_on t next tails after sound quiet on stay have leads = record {

@@ -17,7 +17,7 @@ unfoldable pub bodies_in : List ℕ → Extent → ℕ → List (List ℕ)
 bodies_in bytes extent zero = []
 bodies_in bytes extent (suc n) = bodies_in bytes extent n ++ (records_in (body_of bytes extent n) ∷ [])
 
--- the bytes of the records in each body of an image's log: those behind the leading open gates of the selected extent
+-- the bytes of the records in each body of an image's log: those after the leading open gates of the selected extent
 unfoldable pub open_bodies : List ℕ → List (List ℕ)
 open_bodies image = bodies_in image (selected_of image) (open_run image (selected_of image) 0 PLACES)
 
@@ -72,13 +72,13 @@ SelectsBodies gated head new (Ok turn.GateSync) = new ≡ gated
 SelectsBodies gated head new (Ok turn.Selector) = new ≡ gated
 SelectsBodies gated head new (Err refusal) = new ≡ gated
 
--- The bodies that a step of a log keeps, also where it fails. At each moment within it each image has those that were gated before, or these
--- and the one that was in flight.
+-- The bodies that a step of a log keeps, even if it fails. At each moment within it each image has those that were
+-- gated before, or these and the one that was in flight.
 pub record KeepsBodies (old new : Log) (before now : disk.Device) (result : Result Stage Refusal) : Type 0 where
   pub gated : GatesBodies (gated_bodies old before.seen) old.flight (gated_bodies new now.seen) result
   pub moments : Leaves (ShowsBodies old.stage (gated_bodies old before.seen) old.flight) before now
 
--- the same of a step of a turn, where an image may have the head's body alone from the selector's write on
+-- the same of a step of a turn: there an image may have the head's body alone from the selector's write on
 pub record KeepsBodiesTurning (old new : Log) (before now : disk.Device) (result : Result Turn Refusal) : Type 0 where
   pub gated : SelectsBodies (gated_bodies old before.seen) old.flight (gated_bodies new now.seen) result
   pub moments : Leaves (ShowsBodiesIn old.turn old.stage (gated_bodies old before.seen) old.flight) before now

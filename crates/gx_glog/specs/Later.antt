@@ -1,4 +1,4 @@
--- What closing the gates behind a log's run leaves.
+-- What closing the gates after a log's run leaves.
 use Rattle.std.specs.Prelude.{◌≡◌, ◌⊎◌, ℕ, ◌+◌, ◌-◌, ◌*◌, ◌<◌, ◌≤◌, List, length, replicate, Bool, true, false, Result, OnOk}
 use Rattle.gx_disk.specs.Device.{Device, IsSettled, Touches, Writes}
 use Rattle.gx_disk.specs.Looks.{Looks}
@@ -30,12 +30,12 @@ TellsOpenFrom from extent seen false = ReadsClosedFrom from extent seen
 abbrev pub ClosesGatesFrom : {T E : Type 0} → ℕ → Extent → Device → Device → Result T E → Type 0
 ClosesGatesFrom from extent old new result = Writes (gates_of extent + from) (PLACES - from) (replicate (512 * (PLACES - from)) 0) old new result
 
--- the sector is none of an extent's gates behind place n
+-- the sector is none of an extent's gates after place n
 abbrev pub IsBesideLater : Extent → ℕ → ℕ → Type 0
 IsBesideLater extent n s = (s ≤ gates_of extent + n) ⊎ (gates_of extent + PLACES ≤ s)
 
 -- An image has the log that is seen: the same extent is selected, as many gates in a row are open, over the same
--- bodies. Only gates behind place n of an extent may differ; so the selector, all bodies and all pages are those that
+-- bodies. Only gates after place n of an extent may differ; so the selector, all bodies and all pages are those that
 -- are seen.
 pub record KeepsRun (extent : Extent) (n : ℕ) (seen image : List ℕ) : Type 0 where
   pub size : length image ≡ length seen
@@ -44,14 +44,14 @@ pub record KeepsRun (extent : Extent) (n : ℕ) (seen image : List ℕ) : Type 0
   pub run : open_run image (selected_of image) 0 PLACES ≡ open_run seen (selected_of seen) 0 PLACES
   pub bodies : open_bodies image ≡ open_bodies seen
 
--- The first n batches of an extent that is selected are gated and each later gate is closed, all of it settled: a log that starts behind
--- them is on the device.
+-- The first n batches of an extent that is selected are gated and each later gate is closed, all of it settled: a log
+-- that starts after them is on the device.
 pub record IsClosedBehind (extent : Extent) (n : ℕ) (d : Device) : Type 0 where
   pub settled : IsSettled d
   pub selected : IsSelected extent d.seen d.pending
   pub batches : HasBatches extent n n d.seen d.pending
 
--- What closing the gates behind place n leaves of a synced device with n batches, also where a call fails: at each
+-- What closing the gates after place n leaves of a synced device with n batches, even if a call fails: at each
 -- moment each image has the log that was found, and only the later gates differ. At Ok all of these are closed and
 -- settled.
 pub record ClosesLater {T E : Type 0} (extent : Extent) (n : ℕ) (old new : Device) (result : Result T E) : Type 0 where
@@ -65,8 +65,8 @@ abbrev pub ClosesLaterOfRun : {T E : Type 0} → Extent → ℕ → Device → D
 ClosesLaterOfRun extent n old new result = old.honest ≡ true → IsSettled old → HasRun extent n old.seen old.pending → IsSelected extent old.seen old.pending
     → ClosesLater extent n old new result
 
--- The device calls that it takes, and the sectors that they may touch: none where each later gate reads closed, and then the device was only
--- read; else a write and a sync.
+-- The device calls that it takes, and the sectors that they may touch: none if each later gate reads closed, and then
+-- the device was only read; else a write and a sync.
 pub record CallsForLater {T E : Type 0} (extent : Extent) (n : ℕ) (old new : Device) (result : Result T E) : Type 0 where
   pub none : ReadsClosedFrom (n + 1) extent old.seen → (new.calls ≡ old.calls) × Looks old new
   pub two : ReadsOpenFrom (n + 1) extent old.seen → OnOk result (new.calls ≡ old.calls + 2)

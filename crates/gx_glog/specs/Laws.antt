@@ -51,7 +51,7 @@ FirstLogIsOn = (seen : List ℕ) (pending : ℕ → Bool) → HasFirstLog seen �
 abbrev pub ImagesHaveTheFirstLog : Type 0
 ImagesHaveTheFirstLog = (seen : List ℕ) (pending : ℕ → Bool) (image : List ℕ) → HasFirstLog seen → IsFirstSettled pending → IsImage seen pending image → HasFirstLog image
 
--- a record more that fills changes nothing of it, where no turn is under way
+-- a record more that fills changes nothing of it, if no turn is under way
 abbrev pub AppendStaysOn : Type 0
 AppendStaysOn = (log : Log) (bytes seen : List ℕ) (pending : ℕ → Bool) → log.turn ≡ Closed → log.used < PLACES → length log.filling + length bytes ≤ BODY_ROOM → On log seen pending
     → On (record log { filling = log.filling ++ bytes }) seen pending

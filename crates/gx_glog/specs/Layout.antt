@@ -52,7 +52,7 @@ unfoldable pub batches_of : List ℕ → Extent → ℕ → List ℕ
 batches_of bytes extent zero = []
 batches_of bytes extent (suc n) = batches_of bytes extent n ++ records_in (body_of bytes extent n)
 
--- The log of an image: the bytes of the records behind the leading open gates of the selected extent. Each list of records has
--- its own bytes, so these say which records they are.
+-- The log of an image: the bytes of the records after the leading open gates of the selected extent. Each list of
+-- records has its own bytes, so these say which records they are.
 unfoldable pub log_of : List ℕ → List ℕ
 log_of bytes = batches_of bytes (selected_of bytes) (open_run bytes (selected_of bytes) 0 PLACES)

@@ -37,7 +37,7 @@ pub record HasBatches (extent : Extent) (gated used : ℕ) (seen : List ℕ) (pe
   pub closed : (k : ℕ) → used ≤ k → k < PLACES → IsGate false seen pending extent k
 
 -- What is known of the place in flight while a call is due. Until its gate is written it is closed; once the body is
--- written, the place reads as that body to its end, with zeros behind the records; from the gate's write on, which may
+-- written, the place reads as that body to its end, with zeros after the records; from the gate's write on, which may
 -- fail and leave it in any state, the body is settled.
 abbrev pub Flies : Stage → Extent → ℕ → List ℕ → List ℕ → (ℕ → Bool) → Type 0
 Flies Idle extent k flight seen pending = Unit {0}
@@ -126,7 +126,7 @@ ShowsIn turn.GateSync stage gated flight image = Shows stage gated flight image
 ShowsIn turn.Selector stage gated flight image = (log_of image ≡ gated) ⊎ (log_of image ≡ flight)
 ShowsIn turn.Done stage gated flight image = (log_of image ≡ gated) ⊎ (log_of image ≡ flight)
 
--- a sector reads as before, and is settled where it was
+-- a sector reads as before, and is settled if it was
 pub record IsKept (seen seen' : List ℕ) (pending pending' : ℕ → Bool) (s : ℕ) : Type 0 where
   pub bytes : sector_of seen' s ≡ sector_of seen s
   pub settled : pending s ≡ false → pending' s ≡ false
@@ -135,7 +135,7 @@ pub record IsKept (seen seen' : List ℕ) (pending pending' : ℕ → Bool) (s :
 abbrev pub IsOfLog : ℕ → Type 0
 IsOfLog s = (s ≡ 2) ⊎ ((LOG_AT ≤ s) × (s < PAGES_AT))
 
--- no sector of the log reads otherwise, or is pending where it was settled
+-- no sector of the log reads otherwise, or is pending if it was settled
 pub record LeavesLog (seen seen' : List ℕ) (pending pending' : ℕ → Bool) : Type 0 where
   pub size : length seen' ≡ length seen
   pub kept : (s : ℕ) → IsOfLog s → IsKept seen seen' pending pending' s

@@ -19,9 +19,9 @@ pub record Log : Type 0 where
   pub used : ℕ
   -- how many of its batches are gated
   pub gated : ℕ
-  -- the device call that the batch in flight waits for, Idle where there is none
+  -- the device call that the batch in flight waits for, Idle if there is none
   pub stage : Stage
-  -- the device call that a turn to the other extent waits for, Closed where none of it was made
+  -- the device call that a turn to the other extent waits for, Closed if none of it was made
   pub turn : Turn
   -- the records of the batch in flight, or while there is none the head: those that a turn puts first into the other extent
   pub flight : List ℕ
@@ -30,7 +30,7 @@ pub record Log : Type 0 where
   -- for each place of both extents, the sector of it from which on it reads zero
   pub tails : List ℕ
 
--- a log that starts behind so many batches of an extent: the bytes behind their records aren't known, nor those of the
+-- a log that starts after so many batches of an extent: the bytes after their records aren't known, nor those of the
 -- other places
 abbrev pub starting : Extent → ℕ → Log
 starting extent n =
@@ -63,8 +63,8 @@ turning turn.GateSync = 1
 turning turn.Selector = 1
 turning turn.Done = 1
 
--- Places are taken by gated batches and the one in flight; a batch or a head on its way has records and fits its body; a
--- turn and a batch aren't on their way together; where each place is taken, nothing waits for one. No tail begins within
+-- Places are taken by gated batches and the one in flight; a batch or a head on its way has records and fits its body;
+-- a turn and a batch aren't on their way together; if each place is taken, nothing waits for one. No tail begins within
 -- the records of a batch or a head on its way.
 pub record IsSound (log : Log) : Type 0 where
   pub places : log.used ≡ log.gated + in_flight log.stage
@@ -78,7 +78,7 @@ pub record IsSound (log : Log) : Type 0 where
   pub batch : 1 ≤ in_flight log.stage → sectors_of log.flight ≤ tail_of log.tails log.extent log.gated
   pub head : 1 ≤ turning log.turn → sectors_of log.flight ≤ tail_of log.tails (other_of log.extent) 0
 
--- What fills is in flight, at the next place, whose tail begins behind it. A head that was there is dropped, and a turn
+-- What fills is in flight, at the next place, whose tail begins after it. A head that was there is dropped, and a turn
 -- given up.
 abbrev pub begun : Log → Log
 begun log =
@@ -91,7 +91,7 @@ begun log =
       tails = widened log.extent log.gated (sectors_of log.filling) log.tails;
     }
 
--- once the body is synced, its place's tail begins right behind its records
+-- once the body is synced, its place's tail begins right after its records
 abbrev pub after : Stage → Log → Log
 after Body log = record log { stage = BodySync }
 after BodySync log =
@@ -116,7 +116,8 @@ GoesFrom BodySync old new result = Made old new result
 GoesFrom Gate old new result = Made old new result
 GoesFrom GateSync old new result = Made old new result
 
--- The batch in flight goes on by the call that is due. Where there is none, what fills begins a batch, or nothing is logged and nothing happens.
+-- The batch in flight goes on by the call that is due. If there is none, what fills begins a batch, or nothing is
+-- logged and nothing happens.
 abbrev pub Goes : Log → Log → Result Stage Refusal → Type 0
 Goes old new result = GoesFrom old.stage old new result
 
@@ -141,7 +142,7 @@ after_turn turn.GateSync log = record log { turn = turn.Selector }
 after_turn turn.Selector log = record log { turn = turn.Done }
 after_turn turn.Done log = record log { extent = other_of log.extent; used = 1; gated = 1; turn = turn.Closed; flight = [] }
 
--- the turn's call that was due is made; after the last one the log goes on in the other extent, behind the head
+-- the turn's call that was due is made; after the last one the log goes on in the other extent, after the head
 abbrev pub turned : Log → Log
 turned log = after_turn log.turn log
 

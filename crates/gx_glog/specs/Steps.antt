@@ -49,8 +49,9 @@ Gates gated flight new (Ok Gate) = new ≡ gated
 Gates gated flight new (Ok Idle) = new ≡ gated
 Gates gated flight new (Err refusal) = new ≡ gated
 
--- What a step of a log keeps, also where it fails. At each moment within it the log of every image is what was gated before, or that
--- and what was in flight, cut into the same bodies. Only sectors of the log are touched, and time goes on as in one call of the device.
+-- What a step of a log keeps, even if it fails. At each moment within it the log of every image is what was gated
+-- before, or that and what was in flight, cut into the same bodies. Only sectors of the log are touched, and time goes
+-- on as in one call of the device.
 pub record Keeps (old new : Log) (before now : disk.Device) (result : Result Stage Refusal) : Type 0 where
   pub on : On new now.seen now.pending
   pub gated : Gates (gated_of old before.seen) old.flight (gated_of new now.seen) result

@@ -15,7 +15,7 @@ abbrev pub place_of : Extent → ℕ → ℕ
 place_of A k = k
 place_of B k = PLACES + k
 
--- the sector of an extent's place k at which that place's tail begins, all of them where it has none
+-- the sector of an extent's place k at which that place's tail begins, all of them if it has none
 abbrev pub tail_of : List ℕ → Extent → ℕ → ℕ
 tail_of tails extent k = slice_index tails (place_of extent k)
 

@@ -22,7 +22,7 @@ use Rattle.gx_glog.specs.Standing.{On, MayTurn, gated_of, ShowsIn}
 use Rattle.gx_glog.specs.Steps.{Calls}
 use Rattle.gx_glog.specs.Tails.{tail_of}
 
--- The record's bytes come behind those of the head, whose place is 0. There is no room for it where they don't fit, nor
+-- The record's bytes come after those of the head, whose place is 0. There is no room for it if they don't fit, nor
 -- while a turn is under way, whose head is complete, and nothing then changes.
 abbrev pub PutsFirst : List ℕ → Log → Log → Appended → Type 0
 PutsFirst bytes old new (At place) = (length old.flight + length bytes ≤ BODY_ROOM) × (place ≡ 0) × (new ≡ record old { flight = old.flight ++ bytes }) × (old.turn ≡ turn.Closed)
@@ -83,8 +83,9 @@ TouchesIn turn.Gate before now = Touches LOG_AT LOG_SECTORS before now
 TouchesIn turn.GateSync before now = Touches LOG_AT LOG_SECTORS before now
 TouchesIn turn.Done before now = Touches LOG_AT LOG_SECTORS before now
 
--- What a step of a turn keeps, also where it fails. At each moment within it the log of every image is what was gated, or from the
--- selector's write on that or the head. Only sectors of the log are touched, and time goes on as in one call of the device.
+-- What a step of a turn keeps, even if it fails. At each moment within it the log of every image is what was gated, or
+-- from the selector's write on that or the head. Only sectors of the log are touched, and time goes on as in one call
+-- of the device.
 pub record KeepsTurning (old new : Log) (before now : disk.Device) (result : Result Turn Refusal) : Type 0 where
   pub on : On new now.seen now.pending
   pub gated : Selects (gated_of old before.seen) old.flight (gated_of new now.seen) result

@@ -86,8 +86,7 @@ pub(crate) fn settle<D: SectorDisk, S: Copy>(disk: &mut D, stage: S) -> Result<S
 }
 
 impl Glog {
-    // Puts the filling batch in flight, at the next place, whose tail begins behind it. Drops a head that was put
-    // there.
+    // Puts the filling batch in flight, at the next place, whose tail begins after it. Drops a head that was put there.
     fn begin_batch(&mut self)
         requires idle { self.old.stage ≡ Stage.Idle }
         requires some { 1 ≤ length self.old.filling }
@@ -102,7 +101,7 @@ impl Glog {
         self.turn = Turn::Closed;
     }
 
-    // Notes that the due call was made. Once the body is synced, its place's tail begins behind its records.
+    // Notes that the due call was made. Once the body is synced, its place's tail begins after its records.
     fn advance(&mut self)
         ensures { self.new ≡ done self.old }
     {
@@ -165,7 +164,7 @@ impl Glog {
 
     /// Makes the next device call of the batch in flight, or of a new one with all that fills: body, sync, gate, sync.
     /// Of the body it writes as many sectors as its records take, or as may be other than zero there, if these are
-    /// more; so the place reads as the whole body. Returns which call it was, and Idle where nothing is logged and none
+    /// more; so the place reads as the whole body. Returns which call it was, and Idle if nothing is logged and none
     /// was made. Refused if the device call fails (`Device`); it is then still due.
     pub fn log_step<D: SectorDisk>(&mut self, disk: &mut D) -> Result<Stage, Refusal>
         requires { PAGES_AT ≤ (D.state disk.old).sectors }

@@ -23,7 +23,7 @@ pub const BODY_SIZE: usize = 32768;
 /// How many bytes of a body's records there are at most. The body's first four bytes say how many there are.
 pub const BODY_ROOM: usize = BODY_SIZE - 4;
 
-/// How many sectors an extent has: the gates, and behind them the bodies.
+/// How many sectors an extent has: the gates, and after them the bodies.
 pub const EXTENT_SECTORS: u64 = PLACES as u64 * (1 + BODY_SECTORS);
 
 /// The sector at which the gates of extent A begin.

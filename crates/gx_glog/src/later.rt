@@ -1,4 +1,4 @@
-//! Gates behind a log that was found, which are closed before it goes on.
+//! Gates after a log that was found, which are closed before it goes on.
 ghost use Rattle.std.specs.Prelude.{◌≡◌, ◌+◌, ◌≤◌, ◌<◌, true, IfErr, IfOk};
 ghost use Rattle.gx_disk.specs.declared.layout.TheConstants.{PAGES_AT};
 ghost use Rattle.gx_disk.specs.Device.{Counts, SameDevice, CountsFault};
@@ -47,14 +47,14 @@ fn close_from<D: SectorDisk>(disk: &mut D, extent: Extent, from: u8) -> Result<(
     Ok(())
 }
 
-/// Closes the gates of an extent behind the first one that is closed, which is that of place `bodies`: if one of the
+/// Closes the gates of an extent after the first one that is closed, which is that of place `bodies`: if one of the
 /// places from `bodies` + 1 on has an open gate, it writes all of these gates closed, in one write, and syncs; if none
-/// has, it writes nothing. It is called before a log goes on behind `bodies` batches that were found on a device, 0 to
-/// 128 of them: an image that no run of a log left may have such a gate, and one more batch would make the body behind
+/// has, it writes nothing. It is called before a log goes on after `bodies` batches that were found on a device, 0 to
+/// 128 of them: an image that no run of a log left may have such a gate, and one more batch would make the body after
 /// it count. Refused with `Device` if a call fails, and only then.
 ///
 /// On an honest device, with everything durable and this extent selected, each image at each moment has the same log
-/// and the same pages, also if a call fails. At Ok a log that starts there is on the device.
+/// and the same pages, even if a call fails. At Ok a log that starts there is on the device.
 pub fn close_later<D: SectorDisk>(disk: &mut D, extent: Extent, bodies: u8) -> Result<(), Refusal>
     requires bodies { bodies ≤ PLACES }
     requires device { PAGES_AT ≤ (D.state disk.old).sectors }

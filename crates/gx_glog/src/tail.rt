@@ -57,7 +57,7 @@ impl Tails {
         self.first[place(extent, k)]
     }
 
-    /// Notes that so many sectors of a place will be written: its tail begins behind them, or where it did, if that is
+    /// Notes that so many sectors of a place will be written: its tail begins after them, or where it did, if that is
     /// farther on.
     pub(crate) fn widen(&mut self, extent: Extent, k: u8, sectors: u8)
         requires place { k < PLACES }
@@ -68,7 +68,7 @@ impl Tails {
         self.first[i] = self.first[i].max(sectors);
     }
 
-    /// Notes that a place's body is synced: its tail begins behind the so many sectors that the body's records take.
+    /// Notes that a place's body is synced: its tail begins after the so many sectors that the body's records take.
     pub(crate) fn trim(&mut self, extent: Extent, k: u8, sectors: u8)
         requires place { k < PLACES }
         requires bound { sectors ≤ BODY_SECTORS }

@@ -78,7 +78,7 @@ fn write_selector<D: SectorDisk>(disk: &mut D, extent: Extent) -> Result<Turn, R
 }
 
 impl Glog {
-    /// Puts a record into body 0 of the other extent, behind those that were put there before; the place is 0. A turn
+    /// Puts a record into body 0 of the other extent, after those that were put there before; the place is 0. A turn
     /// makes it the log's first batch there, and a batch that begins before drops it. `NoRoom` if it doesn't fit, and
     /// while a turn is under way. Nothing is written to the device.
     pub fn put_first(&mut self, logged: &Record<'_>) -> Appended
@@ -171,7 +171,7 @@ impl Glog {
         ensures keeps { (D.state disk.old).honest ≡ true
             → On self.old (D.state disk.old).seen (D.state disk.old).pending
             → KeepsTurning self.old self.new (D.state disk.old) (D.state disk.new) result }
-        // The same where later gates of the old extent may be open.
+        // The same if later gates of the old extent may be open.
         ensures may_turn { (D.state disk.old).honest ≡ true
             → MayTurn self.old (D.state disk.old).seen (D.state disk.old).pending
             → KeepsMayTurn self.old self.new (D.state disk.old) (D.state disk.new) result }

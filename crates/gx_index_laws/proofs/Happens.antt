@@ -51,7 +51,7 @@ module _ {B : Type 0} (c : Class B) (l : IsLawful c) (old : State B) (w : IsWhol
         };
       }
 
-  -- where the log's sets stay, and so do those that are older
+  -- if the log's sets stay, and so do those that are older
   pub sets_stay : (event : Happening B) (new : State B) → IsHappening c.keys (engine_of c old) event (engine_of c new) → changes_what_stood event ≡ false
       → AreSame (kept_of (known_of c) old.log) (kept_of (known_of c) new.log) → new.oldest ≡ old.oldest → new.older ≡ old.older → KeepsSets c new
   sets_stay event new is stays same oldest older =
@@ -72,6 +72,6 @@ module _ {B : Type 0} (c : Class B) (l : IsLawful c) (old : State B) (w : IsWhol
             ∙ sym (ap (λ (n : ℕ). kept (known_of c) new.log n e) same.last ∙ same.sets (kept_of (known_of c) old.log).last (let a = w.sets.first in let b = w.sets.last in omega (arith, a, b)) (omega arith) e);
       }
 
-  -- the log's sets, where nothing of the log changes
+  -- the log's sets, if nothing of the log changes
   pub same_sets : AreSame (kept_of (known_of c) old.log) (kept_of (known_of c) old.log)
   same_sets = record { first = refl; last = refl; sets = λ number from to e. refl }

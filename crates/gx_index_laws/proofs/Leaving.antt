@@ -49,7 +49,7 @@ module _ {B : Type 0} (c : Class B) (l : IsLawful c) where
       (none x at, none (record { row = x.row; key = x.key; marked = mark }) at)
   write_spares e test (Sweeps a claimed) is none = absurd is
 
-  -- a page step leaves a test alone whose pairs, where they are marked, are claimed
+  -- a page step leaves a test alone whose pairs, if they are marked, are claimed
   pub page_spares : (slots : List (Slot B)) (test : Pair B → Bool) (step : Step B) → IsPageStep step → SparesClaims c slots step
       → ((x : Pair B) → test x ≡ true → x.marked ≡ true → is_claimed c.keys (entry_of x) slots ≡ true) → LeavesAlone c.rules test step
   page_spares slots test (Splits n p sides left right) is spares claims = tt

@@ -93,12 +93,12 @@ module _ {B : Type 0} (c : Class B) (l : IsLawful c) where
     pub live_by_pair : is_live c t e ≡ not y.marked
     live_by_pair = live_by y.marked refl
 
-  -- where the live pairs of an entry count alike, it is as live
+  -- if the live pairs of an entry count alike, it is as live
   pub live_alike : (old new : Tree B) (e : Entry B) → standing (is_live_of c e) new ≡ standing (is_live_of c e) old → is_live c new e ≡ is_live c old e
   unfolding is_live
   live_alike old new e same = ap (λ n. nat_lt 0 n) same
 
-  -- what has a page record leaves each entry as live as it was
+  -- a step that has a page record: an entry is live exactly if it was
   pub page_step_live : (old new : Tree B) (step : Step B) → Legal c.rules old → IsStep c.rules old step new → IsPageStep step → (e : Entry B)
       → is_live c new e ≡ is_live c old e
   page_step_live old new (Splits n p sides left right) legal step is e =
@@ -114,7 +114,7 @@ module _ {B : Type 0} (c : Class B) (l : IsLawful c) where
   page_step_live old new (Adds a x) legal step is e = absurd is
   page_step_live old new (Marks a row key mark) legal step is e = absurd is
 
-  -- a write of a pair: others are as live as they were
+  -- a write of a pair: any other entry is live exactly if it was
   pub added_others : (old new : Tree B) (a : ℕ) (x : Pair B) → Legal c.rules old → IsAdding c.rules old new a x → (other : Entry B)
       → same_entry c.keys other (entry_of x) ≡ false → is_live c new other ≡ is_live c old other
   added_others old new a x legal step other ne =

@@ -61,7 +61,7 @@ module _ {B : Type 0} (c : Class B) (l : IsLawful c) (old : State B) (w : IsWhol
     restored_on : (a : ℕ) → AreRestored c.keys (is_live c (tree_after c after_it)) (slot_at a old.slots) (old.restored a)
     restored_on a = subst (λ (t : Tree B). AreRestored c.keys (is_live c t) (slot_at a old.slots) (old.restored a)) (sym same_nodes) (w.restored a)
 
-    -- it works on, where the kept sets stay
+    -- it works on, if the kept sets stay
     goes_on : IsHealthy k after_it → IsTied c (record old { log = after_it }) → (analysis k (all_records after_it)).next ≤ old.next → AreSame (kept_of k old.log) (kept_of k after_it)
         → Happens c old events.Works (record old { log = after_it })
     goes_on healthy tied next same =

@@ -159,7 +159,7 @@ module _ {B : Type 0} (c : Class B) (l : IsLawful c) (old : State B) (w : IsWhol
           placed = placed_then whole refl (λ t. refl) refl refl step is_page spares is_step;
         }))
 
-  -- A small change of one page, where the log gives the page.
+  -- A small change of one page, if the log gives the page.
   module _ (page : ℕ) (change : Change (Page B)) (step : Step B) (is_page : IsPageStep step) (spares : SparesClaims c old.slots step)
       (fitting : change_fits (known_of c) change (given page (all_records old.log)) ≡ true)
       (is_step : IsStep c.rules (tree_now c old) step (tree_now c (with_record (Adjust page change) old))) where

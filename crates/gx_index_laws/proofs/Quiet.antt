@@ -28,7 +28,7 @@ pub as_it_is : {B : Type 0} (engine : Engine B) → IsSame engine engine
 as_it_is engine = record { live = λ e. refl; slots = refl; older = refl; oldest = refl; failed = refl }
 
 module _ {B : Type 0} (c : Class B) (l : IsLawful c) (old : State B) (w : IsWhole c old) where
-  -- where the parts that hold of a session by its slot change at one session
+  -- if the parts that hold of a session by its slot change at one session
   pub turned : (s : ℕ) (work : Work B) → DoesWork c (tree_now c old) (slot_at s old.slots) work → Happens c old events.Works (with_work s work old)
   turned s work does = happens c l old w events.Works (with_work s work old) (as_it_is (engine_of c old)) (record {
     healthy = w.healthy;

@@ -25,7 +25,7 @@ or_first : (a b : Bool) → a ≡ true → (a || b) ≡ true
 or_first true b h = refl
 or_first false b h = let no : ⊥ = cc in absurd no
 
--- Where each of a list is paired with one of another, and no two with the same one, the second is no shorter.
+-- If each of a list is paired with one of another, and no two with the same one, the second is no shorter.
 module _ {X Y : Type 0} (pairs : X → Y → Bool) where
   abbrev Apart : List X → Type 0
   Apart [] = Unit {0}

@@ -53,7 +53,7 @@ pub record Writes {B : Type 0} (c : Class B) (old new : Tree B) (e : Entry B) (b
   pub there : Used old leaf
   pub sought : IsSeek c.rules new leaf e.row e.key
 
--- what is restored stays so, where what was noted is as live as it was
+-- what is restored stays so, if each noted entry is live exactly if it was
 pub restored_kept : {B : Type 0} (c : Class B) (slot : Slot B) (old new : Entry B → Bool) (restored : List (Entry B))
     → ((e : Entry B) → has c.keys e (entries_of (notes_kept slot)) ≡ true → new e ≡ old e) → AreRestored c.keys old slot restored → AreRestored c.keys new slot restored
 restored_kept c Free old new restored same are = tt

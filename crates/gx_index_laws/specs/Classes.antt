@@ -51,7 +51,7 @@ is_of c e x = is_entry c.rules e.row e.key x
 abbrev pub is_live_of : {B : Type 0} → Class B → Entry B → Pair B → Bool
 is_live_of c e x = is_of c e x && not x.marked
 
--- an entry is live where a pair of it is unmarked
+-- an entry is live if a pair of it is unmarked
 unfoldable pub is_live : {B : Type 0} → Class B → Tree B → Entry B → Bool
 is_live c t e = nat_lt 0 (standing (is_live_of c e) t)
 

@@ -12,7 +12,7 @@ use Rattle.gx_recovery.specs.Logged.{Logged, all_records}
 use Rattle.gx_index_laws.specs.Classes.{Class, Page, tree_in, is_live, known_of}
 
 -- What a session is at: nothing; a look, with its stack and what it has found; a descent for an entry's pair, at an
--- item, to which it came from this page (0 where it begins); or the way to an entry's pair, which is in this leaf or to
+-- item, to which it came from this page (0 if it begins); or the way to an entry's pair, which is in this leaf or to
 -- the right of it.
 pub data Work (B : Type 0) : Type 0 where
   Rests : Work B

@@ -29,7 +29,7 @@ pub record IsWithin (u : Upkeep) : Type 0 where
   pub flight : u.flight ≤ 3
   pub turn : calls_to_go u.checkpoint ≤ 7
 
--- so many, where it is so
+-- so many if it is so
 abbrev pub where_so : Bool → ℕ → ℕ
 where_so true n = n
 where_so false n = 0
@@ -38,8 +38,9 @@ where_so false n = 0
 abbrev pub used_then : Upkeep → ℕ
 used_then u = u.used + where_so u.filling 1
 
--- The number: a page's write for each dirty frame; what is left of the batch in flight, and the four calls of the next one; and
--- a checkpoint's sync of pages and its turn, where one runs or has to, since as many bodies as that are used or will be.
+-- The number: a page's write for each dirty frame; what is left of the batch in flight, and the four calls of the next
+-- one; and a checkpoint's sync of pages and its turn, if one runs or has to, since as many bodies as that are used or
+-- will be.
 abbrev pub checkpoint_left : Checkpoint → ℕ → ℕ
 checkpoint_left Off used = where_so (nat_le CHECKPOINT_AT used) 8
 checkpoint_left Running used = 8
@@ -65,7 +66,7 @@ pub record WritesPage (old new : Upkeep) : Type 0 where
   pub some : old.dirty ≡ suc others
   pub is : new ≡ record old { dirty = others }
 
--- what was written is synced, where all is written and all is gated: the turn is next
+-- what was written is synced, if all is written and all is gated: the turn is next
 pub record SyncsPages (old new : Upkeep) : Type 0 where
   pub written : old.dirty ≡ 0
   pub idle : old.flight ≡ 0

@@ -96,7 +96,7 @@ note e = record { entry = e; was_live = false }
 abbrev pub nth_note : ℕ → Note ℕ
 nth_note n = note (nth n)
 
--- The first session's n-th entry is asked for, where so many are noted, and inserted.
+-- The first session's n-th entry is asked for, if so many are noted, and inserted.
 abbrev pub asking : (n noted : ℕ) → State ℕ → State ℕ
 asking n noted old = slotted 1 (Working (claiming (up_to nth n)) (up_to nth_note noted) (Some (Insert (nth n)))) (Looks (item 1 0 ∷ []) []) old
 

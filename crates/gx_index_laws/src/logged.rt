@@ -21,7 +21,7 @@ ghost use Rattle.gx_index_laws.specs.Happening.{Happens, Comes, with_record, fai
 
 /// A split, a root split, a widening or a sweep is one record of pages, and no event that any session sees: nothing
 /// that is live changes, and each look, descent and seek that is at work goes on. A sweep spares what any session
-/// claims. Where the log gives the page that a step changes, the record may say the change alone.
+/// claims. If the log gives the page that a step changes, the record may say the change alone.
 pub fn a_page_step_is_no_event<B>()
     ensures whole { (c : Class B) → IsLawful c → (old : State B) → IsWhole c old
         → (images : List (Image (Page B))) (counter used : ℕ) (step : Step B)
@@ -37,7 +37,7 @@ pub fn a_page_step_is_no_event<B>()
         → Comes c old (Adjust page change) Works (with_record (Adjust page change) old) }
 {}
 
-/// The log goes on: the filling batch begins, where none is in flight; pages are written that gated records give whole,
+/// The log goes on: the filling batch begins, if none is in flight; pages are written that gated records give whole,
 /// whole or torn; the gate of the batch in flight is synced, its commits are durable, and older sets are dropped.
 pub fn the_log_goes_on<B>()
     ensures begins { (c : Class B) → IsLawful c → (old : State B) → IsWhole c old → old.log.flight ≡ []
@@ -53,9 +53,9 @@ pub fn the_log_goes_on<B>()
         }) }
 {}
 
-/// A checkpoint's new log, of numbers and notes, takes the old one's place, where all is gated and all pages are
-/// written. It carries a next transaction's number from the old log's to the index's,
-/// which may have begun transactions since the head was made.
+/// A checkpoint's new log, of numbers and notes, takes the old one's place, if all is gated and all pages are written.
+/// It carries a next transaction's number from the old log's to the index's, which may have begun transactions since
+/// the head was made.
 pub fn a_log_is_renewed<B>()
     ensures { (c : Class B) → IsLawful c → (old : State B) → IsWhole c old → old.log.flight ≡ [] → old.log.filling ≡ []
         → AllWritten old.log

@@ -41,10 +41,9 @@ pub fn work_turns<B>()
         → DoesWork c (tree_now c old) (slot_at s old.slots) work → Happens c old Works (with_work s work old) }
 {}
 
-/// What a look turns into, so that `work_turns` may take it. Where an insert's look has ended with nothing found, it is
-/// a descent from the root; no pair of the entry is in the tree then, and none comes while the descent is at work.
-/// Where a leaf has a wanted pair, it is a seek of that pair; and a seek whose pair isn't in its leaf goes to the
-/// right.
+/// What a look turns into, so that `work_turns` may take it. If an insert's look has ended with nothing found, it is a
+/// descent from the root; no pair of the entry is in the tree then, and none comes while the descent is at work. If a
+/// leaf has a wanted pair, it is a seek of that pair; and a seek whose pair isn't in its leaf goes to the right.
 pub fn a_look_turns_into_a_descent_or_a_seek<B>()
     ensures descends { (c : Class B) → IsLawful c → (old : State B) → IsWhole c old → (s : ℕ) (e : Entry B)
         → old.work s ≡ Looks [] [] → open_call (slot_at s old.slots) ≡ Some (Insert e)
@@ -135,7 +134,7 @@ pub fn nothing_live_is_absent<B>()
         → Happens c old (FindsAbsent s e) (slotted s (Working locks notes None) Rests old) }
 {}
 
-/// An open call may be closed unanswered where no page or no memory is left, whatever its session is at.
+/// An open call may be closed unanswered if no page or no memory is left, whatever its session is at.
 pub fn calls_are_closed<B>()
     ensures { (c : Class B) → IsLawful c → (old : State B) → IsWhole c old → old.failed ≡ false
         → (s : ℕ) (locks : Locks B) (notes : List (Note B))

@@ -33,7 +33,7 @@ pub fn what_a_call_has_left_is_bounded<B>()
         → (s : ℕ) → work_left c old s < 2 ^ 39 }
 {}
 
-/// A look has less left with each page that it reads, and where it turns into a descent or a seek.
+/// A look has less left with each page that it reads, and when it turns into a descent or a seek.
 pub fn a_look_comes_to_an_end<B>()
     ensures reads { (c : Class B) (old : State B) (s : ℕ) (item : TraversalItem) (stack : List TraversalItem)
         (found then_found : List (Pair B)) (leads : B → Bool) → IsAtWork c old s (Looks (item ∷ stack) found)
@@ -46,9 +46,9 @@ pub fn a_look_comes_to_an_end<B>()
         → LeavesLess c s old (with_work s (Seeks e leaf) old) }
 {}
 
-/// A descent has less left where it begins again because it must, where it goes down from a page that isn't full, and
-/// with each of its records: a widening as it goes down, a sweep of its page that takes something,
-/// a split after which it begins again.
+/// A descent has less left when it begins again because it must, when it goes down from a page that isn't full, and
+/// with each of its records: a widening as it goes down, a sweep of its page that takes something, a split after which
+/// it begins again.
 pub fn a_descent_comes_to_an_end<B>()
     ensures restarts { (c : Class B) (old : State B) (s : ℕ) (e : Entry B) (parent : ℕ) (item : TraversalItem)
         → IsAtWork c old s (Descends e parent item) → must_restart c.rules (tree_now c old) parent item ≡ true
@@ -77,14 +77,14 @@ pub fn a_descent_comes_to_an_end<B>()
         → (tree_now c (with_record r old)).used ≤ c.pages → LeavesLess c s old (begins_anew c s e (with_record r old)) }
 {}
 
-/// A seek of an open call has less left where its pair isn't in its leaf, and it goes to the right.
+/// A seek of an open call has less left when its pair isn't in its leaf, and it goes to the right.
 pub fn a_seek_comes_to_an_end<B>()
     ensures { (c : Class B) (old : State B) (s : ℕ) (e : Entry B) (leaf : ℕ) → IsAtWork c old s (Seeks e leaf)
         → how_many (is_of c e) ((tree_now c old).node leaf).pairs ≡ 0
         → LeavesLess c s old (with_work s (Seeks e ((tree_now c old).node leaf).right) old) }
 {}
 
-/// An abort has less left where a seek begins, where it goes to the right, and with each entry that is restored for the
+/// An abort has less left when a seek begins, when it goes to the right, and with each entry that is restored for the
 /// first time. A commit has something left until it is sealed, and nothing then.
 pub fn transactions_come_to_an_end<B>()
     ensures begins { (c : Class B) (old : State B) (s : ℕ) (notes : List (Note B)) (e : Entry B) (leaf : ℕ)

@@ -99,7 +99,7 @@ pub fn an_opening_keeps_its_set<B>()
         { failed = list_any is_fault one.events }) }
 {}
 
-/// An index that is lost is opened, perhaps more than once, where crashes cut openings off: at each moment it is whole,
+/// An index that is lost is opened, perhaps more than once, if crashes cut openings off: at each moment it is whole,
 /// and whatever a crash leaves stands for the set that the first one left. Once all that was cut off is undone, the
 /// whole of it is one opening: the engine's event, and the machine's crash to that set.
 pub fn openings_are_one_opening<B>()

@@ -1,5 +1,5 @@
-//! What a store's pages show is the log's tree. The tree of a log is a function of all numbers, a store shows the pages
-//! in use: over trees that agree on those, entries are as live and sessions' work is as right.
+//! What a store's pages show is the log's tree. That tree has a node for every number, and a store shows the pages in
+//! use: over trees that agree on those, the same entries are live, and a session's work is right of both or of neither.
 ghost use Rattle.std.specs.Prelude.{◌≡◌};
 ghost use Rattle.gx_machine.specs.declared.entry.Entry.{Entry};
 ghost use Rattle.gx_node.specs.Trees.{Tree};
@@ -10,8 +10,8 @@ ghost use Rattle.gx_index_laws.specs.Classes.{Class, is_live};
 ghost use Rattle.gx_index_laws.specs.States.{Work};
 ghost use Rattle.gx_index_laws.specs.Working.{DoesWork};
 
-/// Over trees that agree on pages in use each entry is as live,
-/// and a session's work that is right of the one is right of the other.
+/// Over trees that agree on pages in use the same entries are live, and a session's work that is right of the one is
+/// right of the other.
 pub fn an_index_is_alike_over_trees_that_agree<B>()
     ensures live { (c : Class B) (one other : Tree B) → AgreeOnUsed one other → Legal c.rules one → (e : Entry B)
         → is_live c other e ≡ is_live c one e }

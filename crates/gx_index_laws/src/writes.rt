@@ -12,7 +12,7 @@ ghost use Rattle.gx_index_laws.specs.States.{State, tree_now};
 ghost use Rattle.gx_index_laws.specs.Happening.{Comes, with_record, with_restored, write_of};
 ghost use Rattle.gx_index_laws.specs.Writes.{MayRestore, MayWrite, written};
 
-/// An insert adds its pair to a leaf, where the tree had none: a write that finds its entry absent and leaves it live,
+/// An insert adds its pair to a leaf, if the tree had none: a write that finds its entry absent and leaves it live,
 /// with the note that it wasn't, unless the transaction has noted it before.
 pub fn an_insert_adds_its_pair<B>()
     ensures { (c : Class B) (old : State B) (s : ℕ) (e : Entry B) (leaf : ℕ) (said : Said (Page B))

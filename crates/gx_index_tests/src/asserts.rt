@@ -6,7 +6,7 @@ pub(crate) fn holds(rt: &impl Abort, fact: bool) {
     assert!(rt; fact);
 }
 
-/// What there is; fails where there is nothing.
+/// What there is; fails if there is nothing.
 pub(crate) fn got<T>(rt: &impl Abort, found: Option<T>) -> T {
     match found {
         Some(value) => value,

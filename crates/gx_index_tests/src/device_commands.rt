@@ -220,7 +220,7 @@ static BEHIND_DUMPS: [Case; 1] = [(
 )];
 
 // The tree has what a transaction that was left open inserted, marked by the opening that undid it; and dumps change
-// nothing for the script behind them.
+// nothing for the script after them.
 #[test]
 fn trees_are_told(rt: HostRuntime) {
     let disk = got(&rt, fresh(rt.alloc()));
@@ -258,7 +258,7 @@ fn dumps_that_end_early(rt: HostRuntime) {
 }
 
 // How a script over a device that fails may end, by where it first fails: in the opening, the insert, the commit, and
-// the settling behind it.
+// the settling after it.
 const ENDS: [&[u8]; 4] = [
     b"refused 11 device\n",
     b"1 ok\n1 refused 11 device\n1 refused 12 failed\n1 refused 12 failed\n1 refused 12 failed\n",

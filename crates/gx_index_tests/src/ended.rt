@@ -27,8 +27,7 @@ impl Ended {
         }
     }
 
-    /// Whether it is this status, and this text was written and no more. The user gets a message where the status isn't
-    /// 0.
+    /// Whether it is this status, and this text was written and no more. The user gets a message if the status isn't 0.
     pub(crate) fn is(&self, status: u8, text: &[u8]) -> bool {
         self.status == status
             && self.has_message == (status != 0)

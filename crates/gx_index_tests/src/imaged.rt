@@ -10,7 +10,7 @@ use gx_restart::Index;
 use std::alloc::{AllocError, Global};
 use std::process::Abort;
 
-// The gate and the first sector of the body behind the first of extent A.
+// The gate and the first sector of the body after the first of extent A.
 const GATE: u64 = 9;
 
 const BODY: u64 = 200;
@@ -31,7 +31,7 @@ const SEVEN: Part = Bytes(&[0, 0, 0, 0, 0, 0, 0, 7]);
 
 const EIGHT: Part = Bytes(&[0, 0, 0, 0, 0, 0, 0, 8]);
 
-// What pages 1 and 2 have behind their level, count and heap: no sequence number, no rightlink, and their own number.
+// What pages 1 and 2 have after their level, count and heap: no sequence number, no rightlink, and their own number.
 const ROOT: Part = Bytes(&[
     0, 0, 0, 0, 0, 0, 0, 0, 0, 0, 0, 0, 0, 0, 0, 1, 0, 0, 0, 0, 0, 0, 0, 0,
 ]);
@@ -50,7 +50,7 @@ const INSERTED: Part = Bytes(&[1, 0, 0, 0, 0, 2]);
 
 const DELETED: Part = Bytes(&[0, 1, 0, 0, 0, 2]);
 
-// The image of page 2 with both rows, but for the mark of row 7 behind it.
+// The image of page 2 with both rows, but for the mark of row 7 after it.
 const BOTH: &[Part] = &[
     Bytes(&[0, 0, 0, 2, 0x0f, 0xce, 0, 0]),
     LEAF,

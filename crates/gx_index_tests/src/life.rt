@@ -25,7 +25,7 @@ const MOST: u16 = 4;
 
 const FRAMES: usize = 16;
 
-// A device of which the call behind so many fails, and each later one. A write that fails is made all the same.
+// A device of which the call after so many fails, and each later one. A write that fails is made all the same.
 fn failing(disk: MemDisk, calls: u64) -> Device {
     FuseDisk::new(disk, calls, Fuse::ForEver, true)
 }
@@ -234,7 +234,7 @@ fn goes_on(engine: &mut Working, plain: &mut Plain, number: u64) -> Option<bool>
     Some(stood)
 }
 
-// What a crash leaves behind an opening and a further commit.
+// What a crash leaves after an opening and a further commit.
 fn opened(alloc: Global, plain: &mut Plain, disk: MemDisk, number: u64) -> Option<MemDisk> {
     let disk = failing(disk, u64::MAX);
     let mut engine = open::<Device, Box2Class>(alloc, disk, FRAMES).ok()?;

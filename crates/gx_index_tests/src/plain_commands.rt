@@ -7,7 +7,7 @@ use std::alloc::Global;
 use std::io::{self, ErrorKind, Read, Write};
 use std::process::Abort;
 
-// The status, the replies with zeros behind them, and whether there was a message.
+// The status, the replies with zeros after them, and whether there was a message.
 fn run(alloc: Global, script: &[u8]) -> (u8, [u8; 64], bool) {
     let mut replies = [0u8; 64];
     let mut told = [0u8; 1];
@@ -28,7 +28,7 @@ fn a_script(rt: HostRuntime) {
     holds(&rt, status == 0 && replies.starts_with(text) && !is_told);
 }
 
-// With ample memory a script is run; where memory is refused once, it is that or the refusal, and nothing else.
+// With ample memory a script is run; if memory is refused once, it is that or the refusal, and nothing else.
 #[test]
 fn refused_memory(rt: HostRuntime) {
     let (status, replies, is_told) = run(rt.alloc(), b"1 COMMIT\n");
@@ -75,8 +75,8 @@ fn stops<T: Abort + AllocGlobal, R: Read + Drop, W: Write + Drop>(
     holds(rt, status == 1 && told.starts_with(line));
 }
 
-// What stopped a script is reported in one line, except where the reader of its replies has left. Where the replies'
-// first bytes have no room, the line says no more than that.
+// What stopped a script is reported in one line, unless the reader of its replies has left. If the replies' first bytes
+// have no room, the line says no more than that.
 #[test]
 fn faults_are_told(rt: HostRuntime) {
     let script = b"1 BEGIN\n".as_slice();

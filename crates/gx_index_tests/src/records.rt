@@ -8,7 +8,7 @@ use gx_machine::{Call, Entry, Reply};
 use gx_restart::Index;
 use std::process::Abort;
 
-// The first sectors of the two bodies behind the first of extent B, which an opening's checkpoint selects.
+// The first sectors of the two bodies after the first of extent B, which an opening's checkpoint selects.
 const BODIES: [u64; 2] = [8520, 8584];
 
 // A new root's bound is wider and its leaf has its first pair: two images, and the commit. Then the second pair alone.

@@ -123,7 +123,7 @@ fn verify(alloc: Global, disk: &mut MemDisk) -> Ended {
 // A command's status, and what it writes.
 type Wanted = (u8, &'static [u8]);
 
-// A device, a script, and what running it ends with; and a dump and a check of the device behind it.
+// A device, a script, and what running it ends with; and a dump and a check of the device after it.
 type Case = (Made, &'static [u8], Wanted, Wanted, Wanted);
 
 const OF_SPACE: &[u8] = b"1 BEGIN\n1 INSERT 7 0 0 0 2 2 2\n1 OVERLAP 2 2 2 9 9 9\n1 COMMIT\n";

@@ -31,7 +31,7 @@ fn start<D: SectorDisk + Drop, K: KeyClass>(
     Ok(PageStore::new(disk, pool, used, 0, pages))
 }
 
-/// How many pairs a look for a key finds, in at most eight steps; none where it is refused or hasn't ended.
+/// How many pairs a look for a key finds, in at most eight steps; none if it is refused or hasn't ended.
 fn found<D: SectorDisk, K: Probing>(
     alloc: Global,
     store: &mut PageStore<D, K>,

@@ -36,10 +36,10 @@ fn make(alloc: Global, made: Made) -> Option<MemDisk> {
     }
 }
 
-// A device, how many frames there are, and what verifying it answers.
+// A device, how many frames there are, and what verifying it returns.
 type Case = (Made, usize, Result<Report, Refusal>);
 
-// Fails unless verifying each device answers so.
+// Fails unless verifying each device returns this.
 fn all_answer<T: Abort + AllocGlobal>(rt: &T, cases: &[Case]) {
     for (made, frames, wanted) in cases {
         let mut disk = got(rt, make(rt.alloc(), *made));

@@ -60,7 +60,7 @@ module _ {P F : Type 0} where
   why_later why a b c (Broken page rule) later is = tt
   why_later why a b c Unsteady later is = tt
 
-  -- behind the memory that is taken
+  -- once memory was allocated
   pub why_behind : (old new : P) (why : F → Type 0) (e : LegalityFault F) → IsWhy why e → IsWhyBehind old new why e
   why_behind old new why Memory is = absurd is
   why_behind old new why (Pages fault) is = is

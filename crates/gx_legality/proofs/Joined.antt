@@ -43,7 +43,7 @@ module _ {B : Type 0} where
     counter = legal.counter;
   }
 
-  -- what is found of the store after a call that leaves it as it was
+  -- what is found of the store after a call that leaves it unchanged
   pub fits_before : (r : Rules B) (old new : Store B) → new ≡ old → ((p : ℕ) → Used (tree_of new) p → NodeFits r (tree_of new) (node_at new.nodes p))
       → (p : ℕ) → Used (tree_of old) p → NodeFits r (tree_of old) (node_at old.nodes p)
   fits_before r old new same fits = subst (λ (s : Store B). (p : ℕ) → Used (tree_of s) p → NodeFits r (tree_of s) (node_at s.nodes p)) same fits

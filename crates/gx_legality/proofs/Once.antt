@@ -199,7 +199,7 @@ module _ {B : Type 0} (order : B → B → Ordering) (overlap inside : B → B �
       omega (arith, same, one)
 
 module _ {B : Type 0} where
-  -- where a node has room for so many, the leaves have no more than that each
+  -- if a node has room for so many, the leaves have no more than that each
   long_entries : (t : Tree B) (most p : ℕ) (qs : List ℕ) → Linked t p qs → ((q : ℕ) → Used t q → size (t.node q) ≤ most)
       → length (entries_on t qs) ≤ length qs * most
   long_entries t most p [] linked room = omega arith

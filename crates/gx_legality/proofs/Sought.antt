@@ -145,7 +145,7 @@ module _ {K : Type 0} (t : Tree K) where
         subst (λ ys. Linked t a ys × (length ys ≤ length (q ∷ qs))) (sym (from_there a q qs ne)) (rest.0, (let le = rest.1 in omega (arith, le)))
   ]
 
-  -- where there are none, it isn't on the chain
+  -- if there are none, it isn't on the chain
   from_some : {X : Type 0} (a : ℕ) (qs : List ℕ) → (from a qs ≡ [] → X) → (0 < times a qs → X) → X
   from_some a [] none some = none refl
   from_some a (q ∷ qs) none some = elim (cases_eq q a) [
@@ -200,7 +200,7 @@ module _ {B : Type 0} (order : B → B → Ordering) (overlap inside : B → B �
       let stands = subst (λ ys. 0 < passing (is_entry rules_here n.entry.row n.entry.key) t ys) walk.1 seek.stands in
       omega (arith, same, stands)
 
-  -- where the pass has come to a note's pair it is placed, and where it hasn't it isn't
+  -- if the pass has come to a note's pair it is placed, and if it hasn't it isn't
   pub found_placed : (n : NotedPair (Entry B)) → Legal rules_here t → passed t (is_noted order_here n) n.leaf (leaves t) Ahead ≡ Found → IsPlaced rules_here t n
   found_placed n legal found = elim (passed_ahead t (is_noted order_here n) n.leaf (leaves t)) [
     | inl none ↦ absurd (none.1 found)

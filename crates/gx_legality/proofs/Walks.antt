@@ -22,7 +22,7 @@ marked_most passed q = by_bool (get_or passed q false)
     by_bool true = omega arith
     by_bool false = omega arith
 
--- where each page counts once at most, and one doesn't, they are fewer than the pages
+-- if each page counts once at most, and one doesn't, they are fewer than the pages
 total_most : (f : ℕ → ℕ) (n : ℕ) → ((q : ℕ) → f q ≤ 1) → total f n ≤ n
 total_most f zero most = omega arith
 total_most f (suc n) most = let here = most (suc n) in let rest = total_most f n most in omega (arith, here, rest)
@@ -134,7 +134,7 @@ module _ {K : Type 0} where
   link_at node right true is e = (eqb-true node.level 0 is, cc)
   link_at node right false is e = absurd (cc)
 
-  -- where a rightlink is kept there is a leaf
+  -- if a rightlink is kept there is a leaf
   pub linked_leaf : (t : Tree K) (links : List (Option ℕ)) (p right : ℕ) → AreLinks t links → get_or links p None ≡ Some right
       → Used t p × ((t.node p).level ≡ 0) × (right ≡ (t.node p).right)
   linked_leaf t links zero right are e = absurd (let none = are.none in cc)
@@ -148,7 +148,7 @@ module _ {K : Type 0} where
   leaf_link : (node : Node K) → node.level ≡ 0 → link_of node ≡ Some node.right
   leaf_link node leaf = ap (λ b. if b then Some node.right else None) (eq-eqb node.level 0 leaf)
 
-  -- where there is a leaf its rightlink is kept
+  -- if there is a leaf its rightlink is kept
   pub leaf_linked : (t : Tree K) (links : List (Option ℕ)) (p : ℕ) → AreLinks t links → Used t p → (t.node p).level ≡ 0
       → get_or links p None ≡ Some (t.node p).right
   leaf_linked t links p are used leaf = are.each p used ∙ leaf_link (t.node p) leaf

@@ -37,7 +37,7 @@ pub record Gathered (E : Type 0) : Type 0 where
   pub top : Option E
   pub half : ℕ
 
--- of what has come of all, where the rest is still to come, each that is between the bounds is kept as often as it came,
+-- of what has come of all, if the rest is still to come, each that is between the bounds is kept as often as it came,
 -- and nothing else; and the second bound came, and is after the first
 pub record Gathers {E : Type 0} (cmp : E → E → Ordering) (g : Gathered E) (all rest : List E) : Type 0 where
   pub counts : (e : E) → IsAfter cmp g.above e → IsUpTo cmp g.top e → count cmp e g.kept + count cmp e rest ≡ count cmp e all

@@ -6,7 +6,7 @@ use Rattle.gx_node.specs.Legal.{Linked, NodeFits}
 use Rattle.gx_legality.specs.declared.fault.Rule.{Rule}
 use Rattle.gx_legality.specs.declared.fault.Rule.TheVariants.{NamedTwice}
 
--- one where the page is marked, and nothing where it isn't
+-- one if the page is marked, and nothing if it isn't
 abbrev pub marked : List Bool → ℕ → ℕ
 marked marks q = one_if (slice_index_or marks q false)
 

@@ -20,7 +20,7 @@ pub record WasHeld {P B : Type 0} (steady : P → Type 0) (store : P → Store B
   pub reads : OnlyReads steady store since old moment
   pub is : held moment page
 
--- a test that takes no memory says why it was refused, where pages were
+-- a test that takes no memory says why it was refused, if pages were
 abbrev pub IsWhy : {F : Type 0} → (F → Type 0) → LegalityFault F → Type 0
 IsWhy why (Pages fault) = why fault
 IsWhy why Memory = ⊥
@@ -34,7 +34,7 @@ IsWhyBehind old new why Memory = new ≡ old
 IsWhyBehind old new why (Broken page rule) = Unit {0}
 IsWhyBehind old new why Unsteady = Unit {0}
 
--- how many calls failed where a test is refused: as many as its pages' fault says, and else none
+-- how many calls failed if a test is refused: as many as its pages' fault says, and else none
 abbrev pub test_fails : {F : Type 0} → (F → ℕ) → LegalityFault F → ℕ
 test_fails fails (Pages fault) = fails fault
 test_fails fails Memory = 0

@@ -31,7 +31,7 @@ pub(crate) fn test_alone<K: KeyClass>(page: &Page, counter: u64, most: u16) -> R
     Ok(())
 }
 
-/// A slot's bound and page. `None` for a slot behind the last, and on a leaf.
+/// A slot's bound and page. `None` for a slot after the last, and on a leaf.
 pub(crate) fn child_at<K: KeyClass>(page: &Page, room: u32, slot: usize) -> Option<(K::Key, u32)>
     requires { is_node (format_of K.KeyClass) room page.now ≡ true }
     ensures { MatchOption result (slice_get (node_of (format_of K.KeyClass) page.now).children slot ≡ None)

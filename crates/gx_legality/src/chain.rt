@@ -28,7 +28,7 @@ fn pass(links: &[Option<u32>], passed: &mut [bool], page: u32) -> Option<u32>
 
 /// Follows the rightlinks from page 2 to their end, and marks each page.
 ///
-/// Refused, with the page, where they lead to a page that isn't a leaf or was marked before.
+/// Refused, with the page, if they lead to a page that isn't a leaf or was marked before.
 fn walk_chain<K: KeyClass>(links: &[Option<u32>], passed: &mut [bool]) -> Result<(), u32>
     requires as_many { length passed.old ≡ length links.now }
     requires none { (q : ℕ) → marked passed.old q ≡ 0 }
@@ -51,7 +51,7 @@ fn walk_chain<K: KeyClass>(links: &[Option<u32>], passed: &mut [bool]) -> Result
     if page == 0 { Ok(()) } else { Err(page) }
 }
 
-/// Tests that each leaf is marked. Refused, with the page, where one isn't.
+/// Tests that each leaf is marked. Refused, with the page, if one isn't.
 fn test_passed(links: &[Option<u32>], passed: &[bool]) -> Result<(), u32>
     requires few { length links.now ≤ 2 ^ 32 }
     requires as_many { length passed.now ≡ length links.now }

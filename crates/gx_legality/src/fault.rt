@@ -39,7 +39,7 @@ pub enum Rule {
 
 impl Rule {
     /// The text that says how it is broken; if a slot is named, in three parts: before the slot's number, the number,
-    /// and behind it.
+    /// and after it.
     pub fn words(self) -> (&'static str, Option<(usize, &'static str)>)
         ensures words { MatchOption result.1 (text_of self ≡ result.0.now)
             (λ rest. text_of self ≡ result.0.now ++ (decimal rest.0 ++ rest.1.now)) }

@@ -23,7 +23,7 @@ use gx_machine::Entry;
 use gx_node::{Leaf, Pages};
 use gx_page::Page;
 
-/// A slot's row and key. `None` for a slot behind the last, and on a page that isn't a leaf.
+/// A slot's row and key. `None` for a slot after the last, and on a page that isn't a leaf.
 fn entry_at<K: KeyClass>(page: &Page, room: u32, slot: usize) -> Option<Entry<K::Key>>
     requires { is_node (format_of K.KeyClass) room page.now ≡ true }
     ensures { MatchOption result (slice_get (node_of (format_of K.KeyClass) page.now).pairs slot ≡ None)

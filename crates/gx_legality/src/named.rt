@@ -12,7 +12,7 @@ use gx_page::Page;
 
 /// Marks each child of a node, by page.
 ///
-/// Refused, with the page, where one is named that is marked already, or twice, or has no mark.
+/// Refused, with the page, if one is named that is marked already, or twice, or has no mark.
 pub fn mark_children<K: KeyClass>(page: &Page, room: u32, marks: &mut [bool]) -> Result<(), u32>
     requires { is_node (format_of K.KeyClass) room page.now ≡ true }
     ensures marked { OnOk result ((q : ℕ) → q < length marks.old
@@ -30,7 +30,7 @@ pub fn mark_children<K: KeyClass>(page: &Page, room: u32, marks: &mut [bool]) ->
     Ok(())
 }
 
-/// Marks a page. Refused, with the page, where it is marked already or has no mark.
+/// Marks a page. Refused, with the page, if it is marked already or has no mark.
 fn mark(marks: &mut [bool], page: u32) -> Result<(), u32>
     ensures marked { OnOk result (page < length marks.old
         × ((q : ℕ) → marked marks.new q ≡ marked marks.old q + one_if (page == q))) }
@@ -44,7 +44,7 @@ fn mark(marks: &mut [bool], page: u32) -> Result<(), u32>
     Ok(())
 }
 
-/// Tests that each page from 2 on is marked. Refused, with the page, where one isn't.
+/// Tests that each page from 2 on is marked. Refused, with the page, if one isn't.
 pub fn test_named(marks: &[bool]) -> Result<(), usize>
     ensures marked { OnOk result ((q : ℕ) → 2 ≤ q → q < length marks.now → marked marks.now q ≡ 1) }
     ensures refused { IfErr result (λ q. (2 ≤ q) × (q < length marks.now) × (marked marks.now q ≡ 0)) }

@@ -34,7 +34,7 @@ pub(crate) fn bring_pages<K: KeyClass, P: Pages<K>>(
     }
 }
 
-/// Tests a slot's child below a page that is held. A slot behind the last passes.
+/// Tests a slot's child below a page that is held. A slot after the last passes.
 fn test_child<K: KeyClass, P: Pages<K>>(
     pages: &mut P,
     page: u32,

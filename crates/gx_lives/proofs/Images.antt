@@ -201,7 +201,7 @@ module _ {C B D : Type 0} (shape : Members B) (proper : B → Bool) (said : List
       tried_leaves e tried =
           leaves_weaker _ (Has m) d e (λ image. ⊎_elim (sets.sets image) (found_has image)) (tried.keeps p magic says pages_good)
 
-  -- behind a crash
+  -- after a crash
   pub come_up : (m : Machine B) (IsLeft : List ℕ → Type 0) (d : Device) → length d.seen ≡ 512 * d.sectors → ((image : List ℕ) → IsLeft image → Has m image) → (sectors : ℕ) → sectors_of p.pages ≤ sectors
       → ComesUp sectors IsLeft d → Sets m d
   come_up m IsLeft d long each sectors large up = record {

@@ -75,7 +75,7 @@ IsSettling {B} (Err why) steps =
     ⊎ ((first : List (Event B × Outcome B)) × (next : List (Event B × Outcome B)) × IsExhausting CheckpointStep (Ok tt) first × IsExhausting LogStep (Err why) next
     × (steps ≡ first ++ next))
 
--- by whether the index gave up before, where there is no event
+-- by whether the index gave up before, if there is no event
 abbrev pub IsSettled : {B : Type 0} → Bool → Result (Unit {0}) Refusal → List (Event B × Outcome B) → Type 0
 IsSettled true result steps = (steps ≡ []) × (result ≡ Err Failed)
 IsSettled false result steps = IsSettling result steps

@@ -64,7 +64,7 @@ pub record RunsSome {B : Type 0} (grammar : Grammar B) (had left : Stream) (from
   pub did : DidSome grammar had.bytes left.bytes from.replies.bytes to.replies.bytes lines text
   pub runs : RunsLines grammar lines text (IsCutOff status) turns
 
--- a run of a script; nothing of it was read where the opening was refused
+-- a run of a script; nothing of it was read if the opening was refused
 abbrev pub AreOfRun : {B : Type 0} → Grammar B → ℕ → Stream → Stream → Outputs → Outputs → ℕ → List (Turn B) → Type 0
 AreOfRun grammar frames had left from to status turns =
     ((left ≡ had) × IsTurnedAway frames turns status) ⊎ (RunsAll grammar had left from to status turns ⊎ RunsSome grammar had left from to status turns)

@@ -1,4 +1,4 @@
--- What a search finds after an opening, where nothing was inserted or deleted since.
+-- What a search finds after an opening, if nothing was inserted or deleted since.
 use Rattle.std.specs.Prelude.{ℕ, ◌≡◌, ◌≤◌, ◌==◌, ◌&&◌, Bool, true, false, List, ◌∷◌, ◌++◌}
 use Rattle.std.specs.List.{list_any}
 use Rattle.gx_class.specs.Traits.{Traits}

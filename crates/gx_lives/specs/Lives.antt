@@ -44,7 +44,8 @@ pub record IsRead (d e : Device) : Type 0 where
   pub same : IsSameDevice d e
   pub only : OnlyRests d e
 
--- A device of so many sectors comes up again behind a crash: it reads as an image that could be left, and nothing of it is pending.
+-- A device of so many sectors comes up again after a crash: it reads as an image that could be left, and nothing of it
+-- is pending.
 pub record ComesUp (many : ℕ) (IsLeft : List ℕ → Type 0) (d : Device) : Type 0 where
   pub honest : d.honest ≡ true
   pub sectors : d.sectors ≡ many

@@ -27,9 +27,10 @@ module _ {B : Type 0} (k : Keys B) (start : Machine B) (steps : List (Step B)) w
     pub after : List (Step B)
     pub parts : steps ≡ committed.before ++ Asks s Begin (Now Ok) ∷ (made ++ Seals s committed.number ∷ after)
 
-  -- These steps are a serial run from start. Where a session's commit is sealed, each call that its transaction was answered is answered alike
-  -- on the last committed set of that moment; and the transaction as a whole gets its replies on that set, and makes of it the set of its commit.
-  -- A commit has the number behind that of the last committed set, so the transactions run in the order of their commits' numbers.
+  -- These steps are a serial run from start. When a session's commit is sealed, each call that its transaction was
+  -- answered is answered alike on the last committed set of that moment; and the transaction as a whole gets its
+  -- replies on that set, and makes of it the set of its commit. A commit has the number after that of the last
+  -- committed set, so the transactions run in the order of their commits' numbers.
   pub record AreSerial : Type 0 where
     pub alike : (s : ℕ) (call : Call B) (changes : Changes B) (reply : Reply B) (then_changes : Changes B) (sealing : Machine B)
         → AnswersThenSeals s call changes reply then_changes sealing → answer_call k call sealing.latest changes ≡ Some (reply, then_changes)

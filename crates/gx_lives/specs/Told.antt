@@ -17,7 +17,7 @@ abbrev pub TellsReply : {B : Type 0} → ℕ → Reply B → List (Step B) → T
 TellsReply s r steps =
     (steps ≡ Answers s r ∷ []) ⊎ ((why : Refusal) × (r ≡ reply.Refused why) × ((steps ≡ Closes s why ∷ []) ⊎ (steps ≡ RefusesCall s why ∷ [])))
 
--- the steps of an event of no session: one where commits get durable, one for a fault; else none
+-- the steps of an event of no session: one if commits get durable, one for a fault; else none
 abbrev pub TellsWork : {B : Type 0} → Outcome B → List (Step B) → Type 0
 TellsWork More steps = (steps ≡ []) ⊎ ((number : ℕ) × (steps ≡ Durable number ∷ []))
 TellsWork (Refused why) steps = (steps ≡ []) ⊎ (steps ≡ Fails ∷ [])

@@ -71,7 +71,7 @@ pub fn scripts_are_turns<D: SectorDisk, B: Corners, K: ReadKeys + KeyClass<Key =
 {}
 
 /// A dump (`gx_restart::Index::dump`) is readings, none of which changes the machine: a page that is brought
-/// (`Engine::bring_page`), or an event that frees a frame for one. This holds also if it is stopped.
+/// (`Engine::bring_page`), or an event that frees a frame for one. This holds even if it is stopped.
 pub fn dumps_are_turns<D: SectorDisk, K: ReadKeys>()
     ensures page { (page : ℕ) (old new : Parts K.Key D) (result : Result (Unit {0}) (outcome.Outcome K.Key))
         → Brings K.Key.Shape K.ReadKeys D.state page old result new

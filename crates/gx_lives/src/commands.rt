@@ -42,7 +42,7 @@ pub fn a_format_begins_a_life<D: SectorDisk, K: ReadKeys>()
 {}
 
 /// Commands over a device that was formatted, one after another, each over what the one before it left, are one life,
-/// and so one run of the set machine, whatever each of them returned, also if it was refused or cut off.
+/// and so one run of the set machine, whatever each of them returned, even if it was refused or cut off.
 pub fn commands_are_one_life<D: SectorDisk, B: Corners, K: ReadKeys + KeyClass<Key = B>>()
     ensures { (p : Parameters) → p.class ≡ K.CLASS → (disk after : D) (commands : List Command)
         → IsNew K.KeyClass K.start_key D.state p disk

@@ -45,7 +45,7 @@ idle_clear k Commit = refl
 idle_clear k Abort = refl
 
 module _ {B : Type 0} where
-  -- a place read where the number is a session's
+  -- a place read if the number is a session's
   abbrev place : Bool → ℕ → List (Session B) → Session B
   place there s sessions = if there then slice_index_or sessions (s - 1) Idle else Idle
 
@@ -86,7 +86,7 @@ module _ {B : Type 0} where
   idle_place a true is = let bounds : (0 < a) × (a < 9) = session_bounds a is in get_or-replicate SESSIONS (a - 1) Idle Idle (omega arith)
   idle_place a false is = refl
 
-  -- where all are idle, each is
+  -- if all are idle, each is
   pub at_idle : (a : ℕ) → ◌≡◌ {A = Session B} (session_at a (replicate SESSIONS Idle)) Idle
   at_idle a = idle_place a (is_session a) refl
 
@@ -110,7 +110,7 @@ module _ {B : Type 0} where
         none_at 1 sessions (a - 1) none other
     place_clear a sessions false is none ne = idle_clear k call
 
-    -- where no session is found that conflicts, no other one does
+    -- if no session is found that conflicts, no other one does
     pub others_clear : (sessions : List (Session B)) → least_conflicting k call s 1 sessions ≡ None → (a : ℕ) → a ≢ s
         → session_conflicts k call (session_at a sessions) ≡ false
     others_clear sessions none a ne = place_clear a sessions (is_session a) refl none ne

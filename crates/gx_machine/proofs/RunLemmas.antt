@@ -36,7 +36,7 @@ module _ {B : Type 0} (k : Keys B) where
   ask_passes s call refusal.Failed m next h = (refl, h)
   ask_passes s call other m next h = absurd h
 
-  -- what a machine that has failed may do, it may do where it hadn't
+  -- what a machine that has failed may do, it may do if it hadn't
   passes_failed : (step : Step B) (m next : Machine B) → is_unseen_fault step ≡ false → IsStep k (failed_machine m) step next → Passes step m next
   passes_failed (Asks s call given) m next seen h = absurd (no_fault m h.0)
   passes_failed (Answers s r) m next seen h = absurd (no_fault m h.0)

@@ -24,7 +24,7 @@ use Rattle.gx_machine.specs.Sessions.{Session, Idle, Open, Aborting, Committing,
 use Rattle.gx_machine.proofs.SetLaws.{has-including, has-filter, same_is, entry_itself, in_order_including, in_order_filter}
 
 -- The moves of one session, a sealed commit apart: free says that no other session conflicts with a call, and begun
--- is known where a transaction begins.
+-- is known when a transaction begins.
 pub data Move {B : Type 0} (k : Keys B) (free : Call B → Type 0) (begun : Type 0) : Session B → Session B → Type 0 where
   stays : {x : Session B} → Move k free begun x x
   begins : begun → Move k free begun Idle (Open no_locks no_changes None)
@@ -160,7 +160,7 @@ module _ {B : Type 0} (k : Keys B) (l : IsLawful k) where
   not_both true b h c = let no : ⊥ = (let both : true ≡ false = sym c ∙ h refl in cc) in absurd no
   not_both false b h c = refl
 
-  -- what is added where an entry goes from one to the other shares nothing with what is taken away
+  -- what is added if an entry goes from one to the other shares nothing with what is taken away
   pub apart_including : (e : Entry B) (xs ys : List (Entry B)) → ((x : Entry B) → has k x xs ≡ true → has k x ys ≡ false)
       → (x : Entry B) → has k x (including k e xs) ≡ true → has k x (excluding k e ys) ≡ false
   apart_including e xs ys apart x h =

@@ -7,7 +7,7 @@ use Rattle.gx_machine.specs.declared.entry.Entry.{Entry}
 use Rattle.gx_machine.specs.Keys.{Keys, entry_cmp}
 use Rattle.gx_machine.specs.Sets.{including}
 
--- the first element stays where it is less
+-- the first element stays if it is less
 pub including_greater : {B : Type 0} (k : Keys B) (e x : Entry B) (xs : List (Entry B)) → entry_cmp k e x ≡ Greater → including k e (x ∷ xs) ≡ x ∷ including k e xs
 including_greater k e x xs h = ap (λ o. match_ordering o (e ∷ x ∷ xs) (x ∷ xs) (x ∷ including k e xs)) h
 

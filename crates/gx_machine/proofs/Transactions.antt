@@ -71,7 +71,7 @@ module _ {B : Type 0} (k : Keys B) where
   closed_keeps (Aborting locks) y is = let no : ⊥ = cc in absurd no
   closed_keeps (Committing number) y is = let no : ⊥ = cc in absurd no
 
-  -- each session, where one of them keeps its transaction and no other changes
+  -- each session, if one of them keeps its transaction and no other changes
   keeps_at : (s : ℕ) (y : Session B) (old new : Machine B) → length old.sessions ≡ 8 → is_session s ≡ true
       → KeepsTransaction (session_at s old.sessions) y → with_session s y old ≡ new
       → (a : ℕ) → KeepsTransaction (session_at a old.sessions) (session_at a new.sessions)

@@ -38,7 +38,7 @@ key_matches k (Within q) key = k.within key q
 key_matches k (Equal q) key = is_eq (k.cmp key q)
 key_matches k (Covers q) key = k.within q key
 
--- an entry matches where its key does
+-- an entry matches if its key does
 abbrev pub matches : {B : Type 0} → Keys B → Query B → Entry B → Bool
 matches k q e = key_matches k q e.key
 

@@ -41,7 +41,7 @@ set_of number m = slice_index_or (kept_sets m) (number - m.oldest) []
 abbrev pub is_session : ℕ → Bool
 is_session s = nat_lt 0 s && nat_le s SESSIONS
 
--- a session by its number; there is nothing to say of one that isn't there
+-- a session by its number; `Idle` for a number that no session has
 abbrev pub session_at : {B : Type 0} → ℕ → List (Session B) → Session B
 session_at s sessions = if is_session s then slice_index_or sessions (s - 1) Idle else Idle
 

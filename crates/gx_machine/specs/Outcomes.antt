@@ -35,7 +35,7 @@ KeepsTransaction {B} old new =
     (new ≡ old)
     ⊎ ((locks : Locks B) × (changes : Changes B) × (call : Call B) × (old ≡ Open locks changes (Some call)) × (new ≡ Open locks changes None))
 
--- The session's commit was open, its view is the last committed set, behind those that were kept, and the session waits
+-- The session's commit was open, its view is the last committed set, after those that were kept, and the session waits
 -- for that set's number; no other session changes.
 pub record IsSealed {B : Type 0} (k : Keys B) (s number : ℕ) (old new : Machine B) : Type 0 where
   pub locks : Locks B

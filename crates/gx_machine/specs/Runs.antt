@@ -12,7 +12,7 @@ use Rattle.gx_machine.specs.Sessions.{is_unanswered}
 use Rattle.gx_machine.specs.Machine.{Machine, newest, session_at, ask, answer, seal, durable, close, crash, failed_machine}
 
 -- The steps: a session asks, and gets a reply at once or has its call open; a session is answered; a commit is sealed
--- under a number; commits up to a number are durable; an open call is closed unanswered; a call is refused as it is
+-- under a number; commits up to a number are durable; an open call is closed unanswered; a call is refused when it is
 -- asked, or an unanswered call is, for a cause outside of the machine; a fault comes that no session sees; a crash
 -- leaves the set of a number; nothing is done.
 pub data Step (B : Type 0) : Type 0 where
@@ -39,7 +39,7 @@ MeetsFault refusal.Device old new = (old.failed ≡ false) × (new ≡ failed_ma
 MeetsFault refusal.Failed old new = new ≡ failed_machine old
 MeetsFault other old new = ⊥
 
--- why a call may be refused as it is asked: a Begin that would be answered Ok finds its numbers used up, or a fault
+-- why a call may be refused when it is asked: a Begin that would be answered Ok finds its numbers used up, or a fault
 abbrev pub AskRefused : {B : Type 0} → Keys B → ℕ → Call B → Refusal → Machine B → Machine B → Type 0
 AskRefused k s call refusal.HistoryFull old new = (old.failed ≡ false) × ((ask k s call old).0 ≡ Now Ok) × (new ≡ old)
 AskRefused k s call refusal.Device old new = MeetsFault refusal.Device old new

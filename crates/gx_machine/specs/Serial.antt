@@ -40,7 +40,7 @@ pub record AnsweredThenSealed {B : Type 0} (k : Keys B) (start : Machine B) (s :
   pub sealed : Machine B
   pub is_sealed : IsStep k sealing (Seals s number) sealed
 
--- Every run from start is serial: where a session's commit is sealed, each call that its transaction was answered is
+-- Every run from start is serial: when a session's commit is sealed, each call that its transaction was answered is
 -- answered alike on the last committed set of that moment, with the changes that it had made as the answer was given.
 -- So committed transactions are answered as if they had run one after another, in the order of their numbers.
 abbrev pub IsSerial : {B : Type 0} → Keys B → Machine B → Type 0

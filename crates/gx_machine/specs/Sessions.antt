@@ -105,7 +105,7 @@ with_lock k Begin spent locks = Ok locks
 with_lock k Commit spent locks = Ok locks
 with_lock k Abort spent locks = Ok locks
 
--- what is given where no other session conflicts; where one does, this is the least
+-- what is given if no other session conflicts; if one does, this is the least
 abbrev pub unless_busy : {B : Type 0} → Option ℕ → Result (Locks B) Refusal → Result (Locks B) Refusal
 unless_busy None given = given
 unless_busy (Some other) given = Err (Busy other)
@@ -153,13 +153,13 @@ ask_session k call least spent (Committing number) = refused CallOpen (Committin
 
 -- Answering, where latest is the last committed set: an answer knows a transaction's changes, and none of its locks.
 
--- an insert adds its entry where the view doesn't have it
+-- an insert adds its entry if the view doesn't have it
 abbrev pub answer_insert : {B : Type 0} → Keys B → Entry B → List (Entry B) → Changes B → Reply B × Changes B
 answer_insert k e latest changes =
     if has k e (view k latest changes) then (reply.Refused Present, changes)
     else (reply.Inserted, record { added = including k e changes.added; taken = excluding k e changes.taken })
 
--- a delete takes its entry away where the view has it
+-- a delete takes its entry away if the view has it
 abbrev pub answer_delete : {B : Type 0} → Keys B → Entry B → List (Entry B) → Changes B → Reply B × Changes B
 answer_delete k e latest changes =
     if has k e (view k latest changes) then
@@ -185,7 +185,7 @@ answer_session k latest oldest (Open locks changes (Some call)) =
 answer_session k latest oldest (Aborting locks) = Some (reply.Aborted, Idle)
 answer_session k latest oldest (Committing number) = if nat_le number oldest then Some (reply.Committed number, Idle) else None
 
--- the set that a session's commit adds, where it has asked for one
+-- the set that a session's commit adds, if it has asked for one
 abbrev pub sealed_set : {B : Type 0} → Keys B → List (Entry B) → Session B → Option (List (Entry B))
 sealed_set k latest Idle = None
 sealed_set k latest (Open locks changes None) = None

@@ -13,7 +13,7 @@ use Rattle.gx_machine.specs.Sessions.{Changes, Idle}
 use Rattle.gx_machine.specs.Machine.{Machine}
 use Rattle.gx_machine.specs.Runs.{Step, Asks, Answers, Seals, Durable, Crashes}
 
--- numbers as keys, which overlap and lie in one another where they are the same
+-- numbers as keys, which overlap and lie in one another if they are the same
 abbrev pub number_keys : Keys ℕ
 number_keys = record { cmp = nat_cmp; overlaps = λ a b. a == b; within = λ a b. a == b }
 

@@ -80,8 +80,8 @@ pub fn busy_names_the_least_conflict<B>()
         → (ask k s call m).0 ≡ asked.Open → NoneConflicts k s call m.sessions }
 {}
 
-/// Where the keys have an order, each kept set is in order after any run that begins so. A machine with nothing
-/// committed begins so.
+/// If the keys have an order, each kept set is in order after any run that begins so. A machine with nothing committed
+/// begins so.
 pub fn kept_sets_stay_in_order<B>()
     ensures run { (k : Keys B) → IsLawful k → (old new : Machine B) (steps : List (Step B))
         → KeptInOrder k old → IsRun k old steps new → KeptInOrder k new }
@@ -120,8 +120,8 @@ pub fn sessions_never_conflict<B>()
         → AllIdle start → IsRun k start steps new → SessionsHold k new.sessions }
 {}
 
-/// The same of locks alone, step by step: where no session claims what another claims or watches, none does after
-/// any step.
+/// The same of locks alone, step by step: if no session claims what another claims or watches, none does after any
+/// step.
 pub fn each_step_keeps_locks_apart<B>()
     ensures { (k : Keys B) → IsLawful k → (old new : Machine B) (step : Step B)
         → IsStep k old step new → LocksApart k old.sessions → LocksApart k new.sessions }
@@ -140,8 +140,8 @@ pub fn durable_keeps_the_last_set<B>()
         × (new.sessions ≡ old.sessions) }
 {}
 
-/// A set that is kept before a step and after it has the same number: sealing adds one behind, becoming durable drops
-/// some in front, and a crash leaves one. The last committed set is that of the newest number.
+/// A set that is kept before a step and after it has the same number: sealing adds one at the end, becoming durable
+/// drops some in front, and a crash leaves one. The last committed set is that of the newest number.
 pub fn sets_keep_their_numbers<B>()
     ensures step { (k : Keys B) (old new : Machine B) (step : Step B) (number : ℕ) → IsStep k old step new
         → new.oldest ≤ number → number ≤ newest old → number ≤ newest new → set_of number new ≡ set_of number old }

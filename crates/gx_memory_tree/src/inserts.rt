@@ -20,7 +20,7 @@ use gx_tree::{
     split_root_step, split_step, sweep_step,
 };
 
-/// Where an insert is: an item of its descent, and the page from which it came to it, 0 where it begins.
+/// Where an insert is: an item of its descent, and the page from which it came to it, 0 if it begins.
 #[derive(Clone, Copy, Debug)]
 pub struct DescentPlace {
     /// The item.
@@ -112,7 +112,7 @@ fn make_room<K: KeyClass, P: PagesMut<K>>(
 }
 
 /// Makes a step of an insert of a live pair that the tree doesn't have: goes down by the child of least penalty, whose
-/// bound it widens first where that is needed; makes room where a node is full; adds the pair at a leaf that has room.
+/// bound it widens first if that is needed; makes room if a node is full; adds the pair at a leaf that has room.
 /// Returns the place where the insert goes on, or `None` once the pair was added.
 ///
 /// Refused with `Pages` if a page could not be brought or prepared, with `PagesFull` only if fewer than two pages are

@@ -71,7 +71,7 @@ fn are_pages<K: KeyClass>(pages: &[Page], room: u32) -> bool
     are_nodes::<K>(pages, room) && are_numbered(pages)
 }
 
-/// Puts a page behind the last, where there is room for one.
+/// Puts a page after the last, if there is room for one.
 fn append(pages: &mut Vec<Page>, page: Page)
     requires { vec_len pages.old < vec_capacity pages.old }
     ensures items { pages.new.items ≡ pages.old.items ++ page ∷ [] }

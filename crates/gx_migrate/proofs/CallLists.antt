@@ -25,7 +25,7 @@ pub page_slice : (bytes : List ℕ) (n at first page : ℕ) → n ≡ PAGE_SIZE 
 unfolding span_of
 page_slice bytes n at first page size place is = rw (size, place, is) refl
 
--- each call of two lists passes a test where each of both does
+-- each call of two lists passes a test if each of both does
 pub all_joined : (test : Call → Bool) (xs ys : List Call) → all_are test xs ≡ true → all_are test ys ≡ true → all_are test (xs ++ ys) ≡ true
 all_joined test [] ys first then = then
 all_joined test (x ∷ xs) ys first then = and_both (test x) (all_are test xs) (all_are test (xs ++ ys)) first (λ rest. all_joined test xs ys rest then)
@@ -70,14 +70,14 @@ later_spares bytes p page low less =
     ap (λ (b : Bool). (b || nat_le (first_of page + PAGE_SECTORS) (first_of p)) && true) (le-leb (first_of p + PAGE_SECTORS) (first_of page) (omega (arith, low, less)))
 
 module _ {D : Type 0} (state : D → Device) where
-  -- a run of a page's write behind those of the pages before
+  -- a run of a page's write after those of the pages before
   pub pages_run : (bytes : List ℕ) (n : ℕ) (a b c : D) → HasRun state (page_writes bytes n) a b → HasRun state (page_write bytes (n + 1) ∷ []) b c → HasRun state (page_writes bytes (n + 1)) a c
   pages_run bytes n a b c before next =
       let more : n + 1 ≡ suc n = omega arith in
       subst (λ m. HasRun state (page_writes bytes m) a c) (sym more)
       (run_joined state (page_writes bytes n) (page_write bytes (suc n) ∷ []) a b c before (subst (λ m. HasRun state (page_write bytes m ∷ []) b c) more next))
 
-  -- a page's write that failed behind them
+  -- a page's write that failed after them
   pub page_failed : (bytes : List ℕ) (n : ℕ) (a b c : D) → HasRun state (page_writes bytes n) a b → HasFailed state (page_write bytes (n + 1) ∷ []) b c → HasFailed state (page_writes bytes (n + 1)) a c
   page_failed bytes n a b c before fails =
       let more : n + 1 ≡ suc n = omega arith in

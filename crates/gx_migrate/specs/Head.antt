@@ -1,4 +1,4 @@
--- Records that are put behind those of a log's first body.
+-- Records that are put after those of a log's first body.
 use Rattle.std.specs.Prelude.{◌≡◌, ℕ, ◌+◌, ◌<◌, ◌≤◌, List, [], ◌∷◌, ◌++◌, length, Result, Ok, Err}
 use Rattle.gx_class.specs.declared.class.TheConstants.{MAX_KEY}
 use Rattle.gx_durable.specs.Spelled.{Reading, AreRecords, record_read}
@@ -14,14 +14,14 @@ use Rattle.gx_recovery.specs.Records.{Record}
 abbrev pub note_record : ℕ
 note_record = NOTE_BESIDE_KEY + MAX_KEY
 
--- This record came behind those of a body; or there was no room for it, and nothing changed.
+-- This record came after those of a body; or there was no room for it, and nothing changed.
 abbrev pub PutsRecord : {E P : Type 0} → Reading E P → Rec → List ℕ → List ℕ → Result (Unit {0}) Refusal → Type 0
 PutsRecord {E} {P} r x old new (Ok done) =
     (length old + length (spelling x) ≤ BODY_ROOM) × ((length new ≡ length old + length (spelling x))
     × ((xs : List (Record E P)) → HasKey r.key x → AreRecords r old xs → AreRecords r new (xs ++ record_read r x ∷ [])))
 PutsRecord r x old new (Err why) = (why ≡ Damaged) × (BODY_ROOM < length old + length (spelling x))
 
--- These records came behind those of a body, in so many bytes at most.
+-- These records came after those of a body, in so many bytes at most.
 pub record Puts {E P : Type 0} (r : Reading E P) (records : List (Record E P)) (size : ℕ) (old new : List ℕ) : Type 0 where
   pub longer : length old ≤ length new
   pub few : length new ≤ length old + size

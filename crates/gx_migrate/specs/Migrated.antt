@@ -74,8 +74,8 @@ module _ {B : Type 0} (shape : Members B) (is_key : B → Bool) (said : List ℕ
   abbrev pub OlderSays : (class : ℕ) → Device → (Parameters → Type 0) → Type 0
   OlderSays class d holds = (p : Parameters) × (IsOlder class d.sectors d.seen (Ok p) × holds p)
 
-  -- Why it isn't migrated to a device of so many sectors, in the order of the tests: by what it is formatted for; or that is too small; or, where it isn't, by what
-  -- was found; or a call failed, or memory was refused.
+  -- Why it isn't migrated to a device of so many sectors, in the order of the tests: by what it is formatted for; or
+  -- that is too small; or else by what was found; or a call failed, or memory was refused.
   abbrev pub IsUnmigrated : (class : ℕ) → Device → ℕ → Refusal → Type 0
   IsUnmigrated class d sectors why =
       IsOlder class d.sectors d.seen (Err why)

@@ -1,4 +1,4 @@
--- What a crash may leave of a device within a migration to it, phase by phase, and what stands in the end.
+-- What a crash may leave of a device within a migration to it, phase by phase, and what the new device has in the end.
 use Rattle.std.specs.Prelude.{ℕ, ◌+◌, ◌≤◌, Bool, List}
 use Rattle.gx_disk.specs.Device as disk
 use Rattle.gx_disk.specs.Moments.{Leaves}

@@ -18,7 +18,7 @@ abbrev pub MigratesAs : {B D : Type 0} → Traits B → (D → Device) → Stand
 MigratesAs traits state s bytes old new result = Migrates (reading_by traits.said (own traits)) state s.parameters s.log.analysis.told bytes old new result
 
 module _ {B : Type 0} (shape : Members B) (traits : Traits B) where
-  -- an image stands for what was found, and what stands in the end
+  -- an image stands for what was found; and what it has in the end
   abbrev pub StandsForFoundAs : Parameters → List ℕ → List ℕ → Type 0
   StandsForFoundAs p seen image = StandsForFound shape traits.is_proper traits.said (format_of (own traits)) p seen image
 

@@ -71,7 +71,7 @@ fn lay_all<D: SectorDisk>(
 /// Lays an index down that was found on another device, which is in memory and reads as these bytes, with its log laid:
 /// the pages in use, and a log of one batch that says the same. What the device held before is lost.
 ///
-/// It makes the calls of `migrating`, in that order. On an honest device, at each moment of them, also if one fails: in
+/// It makes the calls of `migrating`, in that order. On an honest device, at each moment of them, even if one fails: in
 /// the first two calls each image is one from before except for its first sector; from then on none is an index of any
 /// version; and from the last two calls on each is none of this version, or stands for the set that was found. At `Ok`
 /// the device itself does, and all of it is durable.

@@ -71,7 +71,7 @@ fn find_older<D: SectorDisk, K: ReadKeys>(
 /// `Memory` if there is none for the bytes of the old device, which are all read into memory, and `Device` if a call of
 /// either device fails.
 ///
-/// On honest devices, at each moment, also if a call fails: in the first two calls of the new device each image of it
+/// On honest devices, at each moment, even if a call fails: in the first two calls of the new device each image of it
 /// is one from before except for its first sector; from then on none is an index of any version; and from the last two
 /// calls on each is none of this version, or stands for what the old device stands for. At `Ok` the new device does,
 /// and all of it is durable.

@@ -27,7 +27,7 @@ slot_more xs slots k slot x inside is at =
 
 -- ---- blocks
 
--- what passes up to behind a block
+-- what passes up to a block's end
 pub block_more : {X : Type 0} (p : X → Bool) (xs : List X) (from : ℕ) → from ≤ length xs → filter p (take (from + BLOCK) xs) ≡ filter p (take from xs) ++ passing_of p xs from
 block_more p xs from h =
     let n = min BLOCK (length xs - from) in

@@ -41,7 +41,7 @@ module _ {K : Type 0} (t : Tree K) where
   down_none zero q = refl
   down_none (suc k) q = let rest = none_over (down t (λ x. 0) k) (child_pages (t.node q)) (down_none k) in omega (arith, rest)
 
-  -- pages up to m lie ahead m times at most, where none does twice
+  -- pages up to m lie ahead m times at most, if none does twice
   most_ahead : (stack : List TraversalItem) → ((l : ℕ) → times_ahead t l stack ≤ 1) → (m : ℕ) → ahead t (λ q. total (λ l. one_if (q == l)) m) stack ≤ m
   most_ahead stack once zero =
       let none = none_over (ahead_of t (λ q. 0)) stack (λ item. none_over (under t (λ q. 0)) (run t t.used item.seen item.page) (λ q. down_none (t.node q).level q)) in

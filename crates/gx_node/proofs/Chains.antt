@@ -39,7 +39,7 @@ some_times P q (x ∷ xs) some e = elim (cases_eq x q) [
 ]
 
 module _ {K : Type 0} where
-  -- an entry that names the page, where one does
+  -- an entry that names the page, if one does
   pub some_child : (P : Child K → Type 0) (q : ℕ) (cs : List (Child K)) → 0 < times q (map (λ c. c.page) cs) → Each P cs
       → (c : Child K) × P c × (c.page ≡ q)
   some_child P q [] some e = absurd (omega arith)
@@ -52,7 +52,7 @@ module _ {K : Type 0} where
   page_with_key n key c true = refl
   page_with_key n key c false = refl
 
-  -- the pages named are the same where a key is another
+  -- the pages named are the same if a key is another
   pub pages_with_key : (n : ℕ) (key : K) (cs : List (Child K)) → map (λ (c : Child K). c.page) (with_key n key cs) ≡ map (λ (c : Child K). c.page) cs
   pages_with_key n key [] = refl
   pages_with_key n key (c ∷ cs) =

@@ -1,4 +1,4 @@
--- What keeps a tree legal where one page changes alone: a widening, an adding, a mark that is set, a sweep.
+-- What keeps a tree legal if one page changes alone: a widening, an adding, a mark that is set, a sweep.
 use Rattle.std.proofs.Common.{◌≡◌, ◌≢◌, ℕ, suc, ◌+◌, ◌<◌, ◌≤◌, Bool, inl, inr, List, [], ◌∷◌, map, length, refl, ap, sym, ◌∙◌, subst, arith}
 use Rattle.std.proofs.lemmas.Bool.{cases_eq}
 use Rattle.gx_node.specs.Lists.{sum_over, how_many, Each, total}
@@ -88,7 +88,7 @@ module _ {K : Type 0} (old new : Tree K) (a : ℕ) (pairs : List (Pair K)) (entr
   how_many_other : (test : Pair K → Bool) (q : ℕ) → q ≢ a → how_many test (new.node q).pairs ≡ how_many test (old.node q).pairs
   how_many_other test q ne = ap (λ (z : Node K). how_many test z.pairs) (step.others q ne)
 
-  -- where as many pairs of the page pass a test, as many do on every page
+  -- if as many pairs of the page pass a test, as many do on every page
   pub pairs_kept : (test : Pair K → Bool) → how_many test pairs ≡ how_many test (old.node a).pairs → (q : ℕ)
       → how_many test (new.node q).pairs ≡ how_many test (old.node q).pairs
   pairs_kept test same q = elim (cases_eq q a) [

@@ -43,7 +43,7 @@ module _ {K : Type 0} (r : Rules K) (room : ℕ) (claimed : Pair K → Bool) whe
         by true is = let a = restart_levels parent item is in let h = level_most r t legal item.page u in omega (arith, a, h)
         by false is = let a = page_levels parent item is in omega (arith, a)
 
-    -- a new beginning, where it has to begin again
+    -- a new beginning, if it has to begin again
     pub restart_falls : (parent : ℕ) (item : TraversalItem) → must_restart r t parent item ≡ true
         → descent_left r t room claimed 0 (from_root t) < descent_left r t room claimed parent item
     restart_falls parent item is = let a = restart_levels parent item is in let b = root_levels 0 in omega (arith, a, b)

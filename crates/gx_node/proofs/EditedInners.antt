@@ -16,7 +16,7 @@ use Rattle.gx_node.proofs.Parts.{IsLawful}
 use Rattle.gx_node.proofs.Children.{child_again}
 use Rattle.gx_node.proofs.Edited.{map-staying, staying_pass, append_pass, set_pass, get_pass}
 
--- the new page is an inner node with these children, and all else as it was
+-- the new page is an inner node with these children, and all else is unchanged
 pub record IsEdited {B : Type 0} (f : Format B) (used : ℕ) (page new : Contents) (children : List (Child B)) : Type 0 where
   pub inner : is_inner f used new ≡ true
   pub node : inner_of f new ≡ with_children (inner_of f page) children
@@ -82,7 +82,7 @@ child_long IsKey spelling f laws c is =
     let long = laws.size c.key is in
     omega (arith, length-append (spelling c.key) (spell_32 c.page))
 
--- where more pages are taken, an inner node is one
+-- if more pages are taken, an inner node is one
 more_children : {B : Type 0} (f : Format B) (used more : ℕ) → used ≤ more → (items : List (List ℕ)) → list_all (is_child f used) items ≡ true → list_all (is_child f more) items ≡ true
 more_children f used more h [] e = refl
 more_children f used more h (item ∷ items) e =

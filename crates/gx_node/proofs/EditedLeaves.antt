@@ -17,7 +17,7 @@ use Rattle.gx_node.proofs.Parts.{IsLawful}
 use Rattle.gx_node.proofs.Pairs.{pair_again, mark_small, mark_read, same_pair}
 use Rattle.gx_node.proofs.Edited.{map-staying, staying_pass, append_pass, set_pass, get_pass}
 
--- the new page is a leaf with these pairs, and all else as it was
+-- the new page is a leaf with these pairs, and all else is unchanged
 pub record IsEdited {B : Type 0} (f : Format B) (page new : Contents) (pairs : List (Pair B)) : Type 0 where
   pub leaf : is_leaf f new ≡ true
   pub node : leaf_of f new ≡ with_pairs (leaf_of f page) pairs

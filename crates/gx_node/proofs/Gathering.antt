@@ -72,7 +72,7 @@ offered slots count slot n false before within none was =
     let same : count + n ≡ count = omega arith in
     ap (λ k. take k (set slots count slot)) same ∙ take-set slots count slot ∙ was
 
--- ---- what stands at a block's hits
+-- ---- the slots at a block's hits
 
 within_by : (l : List ℕ) (from n : ℕ) (t : Bool) → All (λ s. s < from + n) l → All (λ s. s < from + (n + 1)) (cond t (l ++ (from + n) ∷ []) l)
 within_by l from n true before =

@@ -43,7 +43,7 @@ cut_item items size slot rest all h is =
       behind = ap (drop (length rest - size)) parts ∙ drop_at front item (length rest - size) seam;
     }
 
--- one item, by its place: what lies behind it is cut off first
+-- one item, by its place: what lies after it is cut off first
 pub cut_at : (items : List (List ℕ)) (size slot : ℕ) (whole rest : List ℕ) → AllOfLength size items → slot < length items → whole ≡ heap items
     → rest ≡ take (length whole - slot * size) whole → (slot * size ≤ length whole) × IsCut rest (heap (drop (slot + 1) items)) (get_or items slot []) size
 cut_at items size slot whole rest all h is front =

@@ -44,7 +44,7 @@ same_store steady old new stays is =
 pub leaf_node : {B : Type 0} (f : Format B) (page : Contents) → page.level ≡ 0 → node_of f page ≡ leaf_of f page
 leaf_node f page e = ap (λ b. if b then leaf_of f page else inner_of f page) (eq-eqb page.level 0 e)
 
--- each passes still where one is replaced by one that does
+-- each passes still if one is replaced by one that does
 pub all_set : {X : Type 0} (test : X → Bool) (xs : List X) (k : ℕ) (y : X) → list_all test xs ≡ true → test y ≡ true → list_all test (set xs k y) ≡ true
 all_set test [] k y e h = refl
 all_set test (x ∷ xs) zero y e h = and_from (test y) (list_all test xs) h (and_parts (test x) (list_all test xs) e).1
@@ -52,7 +52,7 @@ all_set test (x ∷ xs) (suc k) y e h =
     let two = and_parts (test x) (list_all test xs) e in
     and_from (test x) (list_all test (set xs k y)) two.0 (all_set test xs k y two.1 h)
 
--- each passes still with one more behind the last that does
+-- each passes still with one more after the last that does
 pub all_more : {X : Type 0} (test : X → Bool) (xs : List X) (y : X) → list_all test xs ≡ true → test y ≡ true → list_all test (xs ++ y ∷ []) ≡ true
 all_more test [] y e h = and_from (test y) true h refl
 all_more test (x ∷ xs) y e h =
@@ -85,7 +85,7 @@ numbered_set n (x ∷ xs) (suc k) y e h =
     let two = and_parts (x.number == n) (numbered (suc n) xs) e in
     and_from (x.number == n) (numbered (suc n) (set xs k y)) two.0 (numbered_set (suc n) xs k y two.1 (omega (arith, h)))
 
--- a page behind the last, of the next number, keeps all numbered
+-- a page after the last, of the next number, keeps all numbered
 pub numbered_more : (n : ℕ) (xs : List Contents) (y : Contents) → numbered n xs ≡ true → y.number ≡ n + length xs → numbered n (xs ++ y ∷ []) ≡ true
 unfolding numbered
 numbered_more n [] y e h = and_from (y.number == n) true (eq-eqb y.number n (omega (arith, h))) refl
@@ -93,7 +93,7 @@ numbered_more n (x ∷ xs) y e h =
     let two = and_parts (x.number == n) (numbered (suc n) xs) e in
     and_from (x.number == n) (numbered (suc n) (xs ++ y ∷ [])) two.0 (numbered_more (suc n) xs y two.1 (omega (arith, h)))
 
--- where the first numbers are right, the next page's and those behind it decide
+-- if the first numbers are right, the next page's and those after it decide
 pub numbered_next : (n : ℕ) (xs : List Contents) (k : ℕ) (d : Contents) → k < length xs
     → numbered n (drop k xs) ≡ ((get_or xs k d).number == n) && numbered (suc n) (drop (k + 1) xs)
 unfolding numbered

@@ -11,7 +11,7 @@ module _ {X : Type 0} (test : X → Bool) (change : X → X) where
   abbrev where_passing : X → X
   where_passing x = if test x then change x else x
 
-  -- an element does not pass where none does
+  -- an element does not pass if none does
   fails : (x : X) (n : ℕ) → one_if (test x) + n ≤ 0 → test x ≡ false
   fails x n h = low (test x) refl
     where

@@ -14,7 +14,7 @@ use Rattle.gx_node.proofs.PageSteps.{each_filter}
 use Rattle.gx_node.proofs.Runs.{run_is, length_run}
 use Rattle.gx_node.proofs.Whole.{under_is, under_root, standing_under_root}
 
--- the pages near an item: its own, and what is near its rightlink where it was split since
+-- the pages near an item: its own, and what is near its rightlink if it was split since
 data Parts {K : Type 0} (t : Tree K) (seen p : ℕ) (xs : List ℕ) : Type 0 where
   last : (t.node p).nsn ≤ seen → xs ≡ p ∷ [] → Parts t seen p xs
   more : (qs : List ℕ) → seen < (t.node p).nsn → xs ≡ p ∷ qs → Run t seen (t.node p).right qs → Parts t seen p xs

@@ -1,4 +1,4 @@
--- An entry's bytes, cut behind its key.
+-- An entry's bytes, cut after its key.
 use Rattle.std.proofs.Common.{◌≡◌, ℕ, ◌+◌, ◌-◌, ◌^◌, ◌<◌, List, [], ◌∷◌, ◌++◌, length, take, drop, refl, sym, ap, ◌∙◌, subst, inl, inr, arith, Option, Some, None, true}
 use Rattle.std.specs.Prelude.{slice_index, is_some, unwrap_or}
 use Rattle.std.proofs.lemmas.Bool.{cases_lt}
@@ -42,7 +42,7 @@ pub key_read : {B : Type 0} (IsKey : B → Type 0) (spelling : B → List ℕ) (
 key_read IsKey spelling f laws item small e =
     laws.only (take f.key item) (key_of f item) (small-take item f.key small) (some_key (f.reading (take f.key item)) f.start e)
 
--- ---- the numbers behind it
+-- ---- the numbers after it
 
 pub page_behind : (key : List ℕ) (n page : ℕ) → length key ≡ n → page < 2 ^ 32 → number_32_at (key ++ spell_32 page) n ≡ page
 page_behind key n page long fits =
@@ -68,7 +68,7 @@ number_32_small bytes small = omega (arith, small 0, small 1, small 2, small 3)
 number_64_small : (bytes : List ℕ) → AreBytes bytes → number_64 bytes < 2 ^ 64
 number_64_small bytes small = omega (arith, small 0, small 1, small 2, small 3, small 4, small 5, small 6, small 7)
 
--- the page's bytes behind n others
+-- the page's bytes after n others
 pub page_written : (item : List ℕ) (n : ℕ) → AreBytes item → length item ≡ n + 4
     → (drop n item ≡ spell_32 (number_32_at item n)) × (number_32_at item n < 2 ^ 32)
 page_written item n small long =
@@ -80,7 +80,7 @@ page_written item n small long =
       subst (λ m. m < 2 ^ 32) (sym same) (number_32_small (drop n item) (small-drop item n small)),
     )
 
--- the row's bytes behind n others, and the last byte
+-- the row's bytes after n others, and the last byte
 pub row_written : (item : List ℕ) (n : ℕ) → AreBytes item → length item ≡ n + 9
     → (drop n item ≡ spell_64 (number_64_at item n) ++ slice_index item (n + 8) ∷ []) × (number_64_at item n < 2 ^ 64)
 row_written item n small long =

@@ -90,7 +90,7 @@ made_at f [] slot x d e = cc
 made_at f (y ∷ xs) zero x d e = let same : y ≡ x = cc in ap f same
 made_at f (y ∷ xs) (suc slot) x d e = made_at f xs slot x d e
 
--- where the one test fails, so does that and another
+-- if the one test fails, so does that and another
 pub both_fail : {X : Type 0} (p q : X → Bool) (xs : List X) (slot : ℕ) → get_or (map p xs) slot false ≡ false → get_or (map (λ x. q x && p x) xs) slot false ≡ false
 both_fail p q [] slot e = refl
 both_fail p q (x ∷ xs) zero e = and_right (q x) (p x) e

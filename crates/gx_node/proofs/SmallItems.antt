@@ -94,7 +94,7 @@ pub one_is_no_bound : {B : Type 0} (f : Format B) (items : List (List ℕ)) (k :
 unfolding are_bounds
 one_is_no_bound f items k h e = one_fails (is_bound f) items k h e
 
--- ---- the first slot, and those behind it
+-- ---- the first slot, and those after it
 
 abbrev pub behind : List ℕ → List ℕ
 behind bytes = take (length bytes - 2) (drop 2 bytes)

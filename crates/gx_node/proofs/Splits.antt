@@ -382,7 +382,7 @@ module _ {K : Type 0} (r : Rules K) (law : IsLawful r) (old new : Tree K) (n p :
         )
       ]
 
-  -- a walk along the chain goes on over the new page where it comes to the page that is split
+  -- a walk along the chain goes on over the new page when it comes to the page that is split
   pub walk_split : (a : ℕ) → Linked old a (walk old old.used a) → walk new new.used a ≡ after n s (walk old old.used a)
   walk_split a l =
       let long = length_after n s (walk old old.used a) in

@@ -5,7 +5,7 @@ use Rattle.gx_page.specs.Bytes.{spell_32, spell_64}
 use Rattle.gx_page.specs.Contents.{Contents}
 use Rattle.gx_node.specs.Trees.{Pair, Child, Node}
 
--- the byte of a mark: 0 where the pair is live, 1 where it is marked as deleted
+-- the byte of a mark: 0 if the pair is live, 1 if it is marked as deleted
 abbrev pub mark_byte : Bool → ℕ
 mark_byte marked = if marked then 1 else 0
 

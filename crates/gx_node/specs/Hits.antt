@@ -27,7 +27,7 @@ BlocksAreAFilter X = (test : X → Bool) (xs : List X) (from : ℕ) → from ≤
 abbrev pub costs_less : ℕ × ℕ → ℕ × ℕ → Bool
 costs_less a b = nat_lt a.0 b.0 || ((a.0 == b.0) && nat_lt a.1 b.1)
 
--- these slots are found from a slot on, each from behind the one before, and then none
+-- these slots are found from a slot on, each search beginning after the slot before, and then none
 abbrev pub AreHits : List Bool → ℕ → List ℕ → Type 0
 AreHits hits from [] = IsNextHit hits from None
 AreHits hits from (slot ∷ slots) = IsNextHit hits from (Some slot) × AreHits hits (slot + 1) slots
@@ -37,7 +37,7 @@ pub record GathersByHits {X : Type 0} (test : X → Bool) (xs : List X) : Type 0
   -- a hit is the next element that passes
   pub goes_on : (from slot : ℕ) (x : X) → IsNextHit (map test xs) from (Some slot) → slice_get xs slot ≡ Some x
       → filter test (take (slot + 1) xs) ≡ filter test (take from xs) ++ x ∷ []
-  -- where there is none, all that pass were found
+  -- if there is none, all that pass were found
   pub ends : (from : ℕ) → from ≤ length xs → IsNextHit (map test xs) from None → filter test (take from xs) ≡ filter test xs
   -- so the elements at all hits are those that pass
   pub all : (slots : List ℕ) → AreHits (map test xs) 0 slots → filter_map (slice_get xs) slots ≡ filter test xs

@@ -46,7 +46,7 @@ pub record FollowsLinks {B : Type 0} (f : Format B) (page : Contents) (nsn right
 abbrev pub NodesFollowLinks : {B : Type 0} → Format B → Type 0
 NodesFollowLinks f = (page : Contents) (nsn right number used : ℕ) → FollowsLinks f page nsn right number used
 
--- an inner node is one where more pages are taken
+-- an inner node is one if more pages are taken
 abbrev pub MoreAreTaken : {B : Type 0} → Format B → Type 0
 MoreAreTaken f = (page : Contents) (used more : ℕ) → used ≤ more → is_inner f used page ≡ true → is_inner f more page ≡ true
 

@@ -6,7 +6,7 @@ abbrev pub sum_over : {X : Type 0} → (X → ℕ) → List X → ℕ
 sum_over f [] = 0
 sum_over f (x ∷ xs) = f x + sum_over f xs
 
--- one where the test passes, and nothing where it doesn't
+-- one if the test passes, and nothing if it doesn't
 abbrev pub one_if : Bool → ℕ
 one_if b = cond b 1 0
 

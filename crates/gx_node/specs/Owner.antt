@@ -34,7 +34,7 @@ IsWhyOfSplit why split.PagesFull = Unit {0}
 abbrev pub IsWhyLater : {P F : Type 0} → (P → P → F → Type 0) → P → P → Type 0
 IsWhyLater {P} {F} why old new = (later : P) (fault : F) → why new later fault → why old later fault
 
--- how many calls failed where a step is refused, a look, or a split: as many as its pages' fault says, and else none
+-- how many calls failed if a step is refused, a look, or a split: as many as its pages' fault says, and else none
 abbrev pub step_fails : {F : Type 0} → (F → ℕ) → StepFault F → ℕ
 step_fails fails (Pages fault) = fails fault
 step_fails fails Damaged = 0
@@ -47,7 +47,7 @@ abbrev pub split_fails : {F : Type 0} → (F → ℕ) → SplitFault F → ℕ
 split_fails fails (split.Step fault) = step_fails fails fault
 split_fails fails split.PagesFull = 0
 
--- no call has failed where the result is well, and else as many as its fault says
+-- no call has failed if the result is well, and else as many as its fault says
 abbrev pub CountsFaults : {A F : Type 0} → (F → ℕ) → ℕ → ℕ → Result A F → Type 0
 CountsFaults fails before after result = MatchResult result (λ _. after ≡ before) (λ why. after ≡ before + fails why)
 
@@ -64,7 +64,7 @@ Asks {P} asked these old new = (was : P) (before : List Asking) → asked was ol
 abbrev pub AsksAtMost : {P : Type 0} → (P → P → List Asking → Type 0) → List ℕ → P → P → Type 0
 AsksAtMost asked pages old new = Asks asked [] old new ⊎ Asks asked (Brings pages ∷ []) old new
 
--- what a step asks for that reads pages, and makes ready to change them where it writes
+-- what a step asks for that reads pages, and makes ready to change them if it writes
 abbrev pub to_write : Bool → List ℕ → ℕ → List Asking
 to_write true pages taken = Prepares pages taken ∷ Brings pages ∷ []
 to_write false pages taken = Brings pages ∷ []

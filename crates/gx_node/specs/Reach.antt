@@ -3,7 +3,7 @@ use Rattle.std.specs.Prelude.{ℕ, zero, suc, ◌+◌, ◌<◌, ◌≤◌, Bool,
 use Rattle.gx_node.specs.Lists.{sum_over, one_if, how_many}
 use Rattle.gx_node.specs.Trees.{Pair, Tree, Used, child_pages, times}
 
--- an item of a traversal: a page, and the counter as it was when the page's number was read
+-- an item of a traversal: a page, and the counter at the time when the page's number was read
 pub record TraversalItem : Type 0 where
   pub page : ℕ
   pub seen : ℕ

@@ -8,7 +8,7 @@ use Rattle.gx_node.specs.Lists.{staying}
 use Rattle.gx_node.specs.Entries.{mark_byte}
 use Rattle.gx_node.specs.Reading.{Format, inner_size, has_key, is_leaf}
 
--- the item is this pair's: behind its key is the row, and it begins with the key's bytes
+-- the item is this pair's: after its key is the row, and it begins with the key's bytes
 abbrev pub is_item_of : {B : Type 0} → Format B → ℕ → List ℕ → List ℕ → Bool
 is_item_of f row key item = (number_64_at item f.key == row) && bytes_eq (take f.key item) key
 
@@ -44,7 +44,7 @@ pair_fits f most row key page = is_leaf f page && (nat_lt (length page.items) mo
 abbrev pub live_item : ℕ → List ℕ → List ℕ
 live_item row key = key ++ (spell_64 row ++ mark_byte false ∷ [])
 
--- the pair's item is behind the last
+-- the pair's item is after the last
 abbrev pub pair_made : ℕ → List ℕ → List (List ℕ) → List (List ℕ)
 pair_made row key items = items ++ live_item row key ∷ []
 

@@ -58,7 +58,7 @@ pub record MarkMeans {B : Type 0} (f : Format B) (r : Rules B) (row : ℕ) (byte
 abbrev pub MarksMean : {B : Type 0} → Format B → Rules B → Type 0
 MarksMean {B} f r = (row : ℕ) (bytes : List ℕ) (key : B) (page : Contents) → Spells f bytes key → IsWellFormed page → MarkMeans f r row bytes key page
 
--- a pair fits the leaves that have room and don't have the entry, and is put behind the last
+-- a pair fits the leaves that have room and don't have the entry, and is put after the last
 pub record PairMeans {B : Type 0} (f : Format B) (r : Rules B) (most row : ℕ) (bytes : List ℕ) (key : B) (page : Contents) : Type 0 where
   pub fits : pair_fits f most row bytes page
       ≡ (is_leaf f page && (nat_lt (length (leaf_of f page).pairs) most && not (list_any (is_entry r row key) (leaf_of f page).pairs)))
@@ -102,7 +102,7 @@ RemovalsMean f = (slots : List ℕ) (page : Contents) → SlotsMean f slots page
 abbrev pub AreSlotsOf : {X : Type 0} → (X → Bool) → List X → List ℕ → Type 0
 AreSlotsOf test xs slots = (k : ℕ) → k < length xs → list_any (λ slot. slot == k) slots ≡ slice_index_or (map test xs) k false
 
--- where those go that pass a test, what stays is those that don't
+-- if those go that pass a test, what stays is those that don't
 abbrev pub RemovalsAreAFilter : Type 0 → Type 0
 RemovalsAreAFilter X = (test : X → Bool) (xs : List X) (slots : List ℕ) → AreSlotsOf test xs slots
     → staying (sides_of (length xs) slots) xs ≡ filter (λ x. not (test x)) xs

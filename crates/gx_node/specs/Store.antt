@@ -45,7 +45,7 @@ with_page s node = record { nodes = s.nodes ++ node ∷ []; counter = s.counter;
 abbrev pub with_split : {B : Type 0} → Store B → Store B
 with_split s = record { nodes = s.nodes; counter = suc s.counter; room = s.room }
 
--- pages were brought: as many are in use as before, and where pages are steady, no node has changed
+-- pages were brought: as many are in use as before, and if pages are steady, no node has changed
 pub record Stays {B : Type 0} (steady : Type 0) (old new : Store B) : Type 0 where
   pub nodes : steady → new.nodes ≡ old.nodes
   pub used : length new.nodes ≡ length old.nodes

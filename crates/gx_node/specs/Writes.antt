@@ -33,7 +33,7 @@ abbrev pub must_restart : {K : Type 0} → Rules K → Tree K → ℕ → Traver
 must_restart r t parent item =
     nat_lt item.seen (t.node item.page).nsn || (not (item.page == 1) && not (has_place r t parent item.page))
 
--- the levels that a descent has left: one more than the root's where it has to begin again, else its page's
+-- the levels that a descent has left: one more than the root's if it has to begin again, else its page's
 abbrev pub levels_left : {K : Type 0} → Rules K → Tree K → ℕ → TraversalItem → ℕ
 levels_left r t parent item = if must_restart r t parent item then suc (t.node 1).level else (t.node item.page).level
 

@@ -1,5 +1,5 @@
-//! Trees that agree on the pages in use are alike, whatever their other pages are. A tree is a function of all numbers;
-//! who keeps its pages may show those in use alone.
+//! Trees that agree on the pages in use are alike, whatever their other pages are. A tree has a node for every number;
+//! a store may show only the pages in use.
 ghost use Rattle.std.specs.Prelude.{◌≡◌, ℕ, Bool, List};
 ghost use Rattle.gx_node.specs.Trees.{Pair, Tree, Rules, IsLawful, Used, standing};
 ghost use Rattle.gx_node.specs.Legal.{Legal};
@@ -9,7 +9,7 @@ ghost use Rattle.gx_node.specs.Looks.{IsLook, stacked, found_with, LeadsTo};
 ghost use Rattle.gx_node.specs.Writes.{IsDescent, IsSeek};
 ghost use Rattle.gx_node.specs.Alike.{AgreeOnUsed};
 
-/// Trees that agree on their pages in use are alike: where one is legal the other is, as many pairs pass each test, and
+/// Trees that agree on their pages in use are alike: if one is legal the other is, as many pairs pass each test, and
 /// what may be sought in one may be sought in the other. They agree both ways.
 pub fn trees_that_agree_are_alike<K>()
     ensures back { (one other : Tree K) → AgreeOnUsed one other → AgreeOnUsed other one }
@@ -40,7 +40,7 @@ pub fn looks_over_trees_that_agree_are_alike<K>()
         → IsDescent r one item coming → IsDescent r other item coming }
 {}
 
-/// A step of one of two trees is one of the other, where they agree on pages in use before and after it, and the other
+/// A step of one of two trees is one of the other, if they agree on pages in use before and after it, and the other
 /// keeps its pages that aren't in use.
 pub fn steps_of_trees_that_agree_are_alike<K>()
     ensures { (r : Rules K) → IsLawful r → (one one_then other other_then : Tree K) → AgreeOnUsed one other

@@ -12,7 +12,7 @@ use gx_page::Page;
 
 /// A change of a node, made in place on its page.
 pub trait Edit<K: KeyClass> {
-    /// The nodes on which it can be made, where there are so many pages.
+    /// The nodes on which it can be made, if there are so many pages.
     ghost fits: { Self → ℕ → Node K.Key → Type 0 };
 
     /// The nodes that the change may lead to.
@@ -36,10 +36,9 @@ pub trait PagesMut<K: KeyClass>: Pages<K> {
     /// Whether a page may be changed: a step has prepared it.
     ghost changing: { Self → ℕ → Type 0 };
 
-    /// Prepares to change these pages, which are held, and to take so many new ones: from here on nothing of that can
-    /// fail, or the step is refused here, before it has changed anything. A step takes two pages at most. Even on a
-    /// device that isn't honest no node is shown otherwise: a page that is evicted for this has the node that was last
-    /// shown of it.
+    /// Prepares to change these pages, which are held, and to take so many new ones. After `Ok` none of these changes
+    /// can fail; a step that is refused here has changed nothing. A step takes two pages at most. Even on a device that
+    /// isn't honest no node is shown otherwise: a page that is evicted for this has the node that was last shown of it.
     fn prepare(&mut self, changes: &[u32], taken: u32) -> Result<(), Self::Fault>
         requires held { Each (Self.held self.old) changes.now }
         requires few { taken ≤ 2 }

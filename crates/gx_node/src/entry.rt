@@ -8,13 +8,13 @@ ghost use Rattle.gx_node.specs.Seen.{pair_seen, child_seen};
 use gx_class::KeyClass;
 use gx_machine::Entry;
 
-/// How many bytes a leaf's entry has behind its key: eight for the row, and the mark.
+/// How many bytes a leaf's entry has after its key: eight for the row, and the mark.
 pub const PAIR_TAIL: usize = 9;
 
-/// How many bytes an inner node's entry has behind its key, those of the child's page.
+/// How many bytes an inner node's entry has after its key, those of the child's page.
 pub const CHILD_TAIL: usize = 4;
 
-/// The key that bytes spell, or none where they spell no key of the class. Bytes of another length spell none.
+/// The key that bytes spell, or none if they spell no key of the class. Bytes of another length spell none.
 pub fn read_key<K: KeyClass>(bytes: &[u8]) -> Option<K::Key>
     ensures { result ≡ K.reading bytes.now }
 {

@@ -13,7 +13,7 @@ use crate::items::{append_item, keep_staying};
 use gx_class::{KeyClass, MAX_KEY};
 use gx_page::Page;
 
-/// Puts a child behind the last of an inner node that has fewer than 100.
+/// Puts a child after the last of an inner node that has fewer than 100.
 pub fn append<K: KeyClass>(page: &mut Page, bound: K::Key, child: u32, _used: u32)
     requires inner { is_inner (format_of K.KeyClass) _used page.old ≡ true }
     requires room { length (inner_of (format_of K.KeyClass) page.old).children < MAX_ENTRIES }

@@ -9,7 +9,7 @@ use gx_page::{Page, laws};
 /// The most entries that a node has. So many of the longest fit a page with their places.
 pub const MAX_ENTRIES: usize = 100;
 
-/// Puts an item of 1 to 36 bytes behind the last, on a page of fewer than 100 items, of which none is longer.
+/// Puts an item of 1 to 36 bytes after the last, on a page of fewer than 100 items, of which none is longer.
 #[tactic(auto, using(crate::proofs::Edited::put_last))]
 pub(crate) fn append_item(page: &mut Page, item: &[u8])
     requires few { length page.old.items < MAX_ENTRIES }

@@ -56,7 +56,7 @@ pub fn blocks<K: KeyClass>()
     ensures children { BlocksAreAFilter (Child K.Key) }
 {}
 
-/// A small change that fits a page leaves one that can be written, and a node where the page was one.
+/// A small change that fits a page leaves one that can be written, and a node if the page was one.
 pub fn small_changes<K: KeyClass>()
     ensures { ChangesKeepNodes (format_of K.KeyClass) }
 {}

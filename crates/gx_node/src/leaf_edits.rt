@@ -14,7 +14,7 @@ use gx_class::{KeyClass, MAX_KEY};
 use gx_machine::Entry;
 use gx_page::Page;
 
-/// Puts a pair behind the last of a leaf that has fewer than 100.
+/// Puts a pair after the last of a leaf that has fewer than 100.
 pub fn append<K: KeyClass>(page: &mut Page, entry: Entry<K::Key>, marked: bool)
     requires leaf { is_leaf (format_of K.KeyClass) page.old ≡ true }
     requires room { length (leaf_of (format_of K.KeyClass) page.old).pairs < MAX_ENTRIES }

@@ -6,7 +6,8 @@ use std::marker::Model;
 /// How many slots are scanned before their hits are looked at.
 pub const BLOCK: usize = 64;
 
-/// Slots of a block, in order. They are gathered without a jump on what passes: where many do, none can be foretold.
+/// Slots of a block, in order. They are gathered without a branch on what passes: if many pass, no branch is predicted
+/// well.
 #[derive(Drop)]
 pub struct Passing {
     slots: [u16; BLOCK],
@@ -24,8 +25,8 @@ impl Model for Passing {
     ghost invariant = { λ p. p.count ≤ BLOCK };
 }
 
-/// Writes a slot at a place, and returns the next place where it passes, or else this one again. The place is a value
-/// of the caller's, so that it stays in a register.
+/// Writes a slot at a place, and returns the next place if it passes, or else this one again. The place is a value of
+/// the caller's, so that it stays in a register.
 pub(crate) fn offer(slots: &mut [u16; BLOCK], place: usize, slot: u16, passes: bool) -> usize
     requires { place < BLOCK }
     ensures kept { take result slots.new ≡ if passes then take place slots.old ++ slot ∷ [] else take place slots.old }

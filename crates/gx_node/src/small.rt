@@ -68,7 +68,7 @@ pub fn mark_pair<K: KeyClass>(page: &mut Page, row: u64, key: &[u8], marked: boo
     true
 }
 
-/// Puts a live pair behind the last of a leaf that has fewer than `most` and doesn't have this one. Returns false, and
+/// Puts a live pair after the last of a leaf that has fewer than `most` and doesn't have this one. Returns false, and
 /// leaves the page unchanged, if the page is no leaf of the class, has `most` pairs or has the pair, live or marked, or
 /// if the bytes spell no key of the class.
 pub fn add_pair<K: KeyClass>(page: &mut Page, most: usize, row: u64, key: &[u8]) -> bool
@@ -115,7 +115,7 @@ fn are_bounds<K: KeyClass>(page: &Page) -> bool
     true
 }
 
-/// Writes a key's bytes over `out`, and behind them those of an item that follow its own key.
+/// Writes a key's bytes over `out`, and after them those of an item that follow its own key.
 fn write_bound<K: KeyClass>(key: &[u8], item: &[u8], out: &mut [u8])
     requires key { length key.now ≡ K.KEY }
     requires item { length item.now ≡ K.KEY + 4 }

@@ -160,9 +160,9 @@ pub fn steps_of_others_keep_what_is_at_work<K>()
 {}
 
 /// While a search runs, rightlinks go on, those of inner nodes too: a page that was split since it began has a
-/// rightlink to a page in use of its own level, which isn't the root, and the root itself is no such page. That holds
-/// at the beginning, where no number is above the counter, and steps of others, in any order and number, keep it
-/// (Lehman, Yao 1981).
+/// rightlink to a page in use of the same level, which isn't the root, and the root itself is no such page. That holds
+/// at the beginning, if no number is above the counter, and steps of others, in any order and number, keep it (Lehman,
+/// Yao 1981).
 pub fn rightlinks_go_on<K>()
     ensures begins { (r : Rules K) (t : Tree K) → Legal r t → GoesOn t t.counter }
     ensures one { (r : Rules K) → IsLawful r → (floor : ℕ) (old new : Tree K) (step : Step K)

@@ -4,7 +4,7 @@ use Rattle.gx_geom.specs.declared.refusal.Refusal.{Refusal}
 use Rattle.gx_geom.specs.declared.refusal.Refusal.TheVariants as refusal
 use Rattle.gx_disk.specs.Device.{Device}
 
--- how many calls failed where a reading was refused so
+-- how many calls failed if a reading was refused so
 abbrev pub faults_of : Refusal → ℕ
 faults_of refusal.Device = 1
 faults_of why = 0

@@ -25,7 +25,7 @@ WhyNotOlder class sectors p BadParameter = MayBe class p → ⊥
 WhyNotOlder class sectors p TooSmall = MayBe class p × (sectors < older_sectors_of p.pages)
 WhyNotOlder class sectors p refusal = ⊥
 
--- what is read of a device: what it says behind the magic
+-- what is read of a device: what it says after the magic
 abbrev pub AreTold : List ℕ → Result Parameters Refusal → Type 0
 AreTold seen (Ok p) = HasOldMagic seen × Tells seen p
 AreTold seen (Err NotFormatted) = HasOldMagic seen → ⊥

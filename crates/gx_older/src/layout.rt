@@ -11,7 +11,7 @@ pub const OLDER_PLACES: u64 = 32;
 /// How many sectors an extent's bodies had.
 pub const OLDER_BODIES: u64 = BODY_SECTORS * OLDER_PLACES;
 
-/// The sector at which the bodies of extent A began, behind its gates.
+/// The sector at which the bodies of extent A began, after its gates.
 pub const OLDER_BODIES_A: u64 = LOG_AT + OLDER_PLACES;
 
 /// The sector at which the gates of extent B began.

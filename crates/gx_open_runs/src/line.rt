@@ -32,7 +32,7 @@ fn calls_of_lines(
     Ok(ran.calls)
 }
 
-// Stops the device at a call of a line, from 0 on, which is refused and so is each behind it.
+// Stops the device at a call of a line, from 0 on, which is refused and so is each after it.
 fn stop_line(
     alloc: Global,
     setting: Setting<'_>,
@@ -55,7 +55,7 @@ fn stop_line(
     }
 }
 
-// The number that is found behind a stop.
+// The number that is found after a stop.
 fn number_behind(
     alloc: Global,
     setting: Setting<'_>,
@@ -76,7 +76,7 @@ fn number_behind(
     )
 }
 
-// The numbers that are found behind a stop, by what the crash leaves.
+// The numbers that are found after a stop, by what the crash leaves.
 fn numbers_behind(
     alloc: Global,
     setting: Setting<'_>,
@@ -101,7 +101,7 @@ fn print_numbers<R: Print>(rt: &R, numbers: [u64; 4]) -> Result<(), RunFault> {
     Ok(())
 }
 
-// Prints what is found where a call stops, made and not.
+// Prints what is found when the device stops at a call, made and not.
 fn print_call<R: Print>(
     rt: &R,
     alloc: Global,
@@ -136,7 +136,7 @@ fn calls_of_line(
 }
 
 /// Prints, for each call of the device that a line makes, from 1 on, which it is, and the number that an opening finds
-/// where the device stops there, by what the crash leaves.
+/// if the device stops there, by what the crash leaves.
 pub(crate) fn print_line<R: Print>(
     rt: &R,
     alloc: Global,

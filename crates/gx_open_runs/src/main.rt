@@ -8,18 +8,18 @@
 //! - `stops FRAMES FIRST STRIDE`: the device stops for good at each call, from a first one on by a stride up to a run
 //! that meets no stop; each with the call made and not, and with four crashes: all that wasn't synced is old, is new,
 //! old and new in turn, or torn.
-//! - `again FRAMES CALL DONE LEFT FIRST STRIDE`: the script stops at this call, made where DONE is 1, with this crash
-//! (`old`, `new`, `mixed`, `torn`), and then so does the opening behind it, at each call. The number that is found
+//! - `again FRAMES CALL DONE LEFT FIRST STRIDE`: the script stops at this call, made if DONE is 1, with this crash
+//! (`old`, `new`, `mixed`, `torn`), and then so does the opening after it, at each call. The number that is found
 //! stays.
 //! - `fails FRAMES FIRST STRIDE`, `fails_again FRAMES CALL DONE LEFT FIRST STRIDE`: likewise each call fails, once or
 //! for ever, made and not, and no crash comes.
-//! - `twice FRAMES`: the script is run to its end, and the opening behind it stops at each write and sync, and the next
+//! - `twice FRAMES`: the script is run to its end, and the opening after it stops at each write and sync, and the next
 //! one too.
 //! - `line FRAMES LINE`: the device stops at each call that this line of the script makes, from 1 on. The numbers are
 //! printed.
 //! - `replies FRAMES LINE`: it stops at the first of these calls. What the script is answered is printed.
 //!
-//! Runs are counted: all, those of which no call failed, and those behind which the last commit that was acknowledged
+//! Runs are counted: all, those of which no call failed, and those after which the last commit that was acknowledged
 //! was found, and a later one. An empty line, and one that begins with `#`, is printed unchanged. The program ends at
 //! the first difference, with status 1.
 #![tactic(auto)]
@@ -102,7 +102,7 @@ fn of_script<'a>(alloc: Global, setting: Setting<'a>) -> Result<Runs<'a>, RunFau
     Runs::new(alloc, setting, Start::New)
 }
 
-/// The runs of an opening behind the stop that a line names.
+/// The runs of an opening after the stop that a line names.
 fn of_opening<'a>(
     alloc: Global,
     setting: Setting<'a>,

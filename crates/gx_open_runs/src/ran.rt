@@ -34,12 +34,12 @@ pub(crate) enum End {
 pub(crate) struct Ran {
     /// The device as the calls left it.
     pub(crate) disk: MemDisk,
-    /// How many calls of it were made before the one that failed, and, where none did, which.
+    /// How many calls of it were made before the one that failed, and, if none did, which.
     pub(crate) passed: u64,
     pub(crate) calls: Vec<DeviceCall>,
     /// What the script was answered.
     pub(crate) replies: Vec<u8>,
-    /// How many commits were sealed; none where the index wasn't opened.
+    /// How many commits were sealed; none if the index wasn't opened.
     pub(crate) sealed: u64,
     pub(crate) end: End,
 }
@@ -54,7 +54,7 @@ pub(crate) fn new_device(alloc: Global) -> Result<MemDisk, RunFault> {
     }
 }
 
-// What a device is behind a run.
+// What a device is after a run.
 fn ended(device: Device, replies: Vec<u8>, sealed: u64, end: End) -> Ran {
     let passed = device.calls();
     let (disk, calls) = device.into_inner().into_parts();

@@ -11,7 +11,7 @@ use std::alloc::Global;
 pub(crate) enum Answered {
     /// Each line as by the plain index.
     Whole,
-    /// So up to a line, from 0 on, that the device refused; and each line behind it is refused since it had failed.
+    /// So up to a line, from 0 on, that the device refused; and each line after it is refused since it had failed.
     RefusedAt(usize),
     /// Otherwise.
     Otherwise,
@@ -103,7 +103,7 @@ pub(crate) fn how_answered(script: &[u8], replies: &[Vec<u8>], text: &[u8]) -> A
     }
 }
 
-/// Whether a run ended as it may: the failed call is reported once, and all that is asked behind it is refused.
+/// Whether a run ended as it may: the failed call is reported once, and all that is asked after it is refused.
 pub(crate) fn is_told(script: &[u8], replies: &[Vec<u8>], ran: &Ran) -> bool {
     match ran.end {
         End::NotOpened(why) => why == Refusal::Device && ran.replies.is_empty(),

@@ -9,7 +9,7 @@ use std::alloc::Global;
 /// What is expected of a script.
 #[derive(Drop)]
 pub(crate) struct Expected {
-    /// The sets by the number of commits: of nothing, and behind each commit.
+    /// The sets by the number of commits: of nothing, and after each commit.
     pub(crate) sets: Vec<Vec<u8>>,
     /// The replies of each line.
     pub(crate) replies: Vec<Vec<u8>>,
@@ -43,7 +43,7 @@ fn set_after(alloc: Global, front: &[u8]) -> Result<Vec<u8>, RunFault> {
     set_of(alloc, &mut plain)
 }
 
-// The sets by the number of commits: of nothing, and behind each commit of the script.
+// The sets by the number of commits: of nothing, and after each commit of the script.
 fn sets_of(alloc: Global, script: &[u8]) -> Result<Vec<Vec<u8>>, RunFault> {
     let mut sets = Vec::new(alloc);
     sets.push(set_after(alloc, &[])?)?;

@@ -9,7 +9,7 @@ use crate::ways::{Left, Way};
 use gx_disk::MemDisk;
 use std::alloc::Global;
 
-/// How many stops there were of the first opening and of the second, and the number that was found behind each.
+/// How many stops there were of the first opening and of the second, and the number that was found after each.
 #[derive(Clone, Copy)]
 pub(crate) struct Twice {
     pub(crate) first: u64,
@@ -74,8 +74,8 @@ fn stopped(
     Ok(Found { disk, unsynced })
 }
 
-// Stops the second opening, at each of its writes and syncs and with each crash. Where all was synced the crashes are
-// the same.
+// Stops the second opening, at each of its writes and syncs and with each crash. If all was synced the crashes are the
+// same.
 fn stop_second(
     alloc: Global,
     setting: Setting<'_>,

@@ -23,7 +23,7 @@ pub(crate) struct Setting<'a> {
     pub(crate) expected: &'a Expected,
 }
 
-/// Calls of the device: a first one, and those behind it by a stride.
+/// Calls of the device: a first one, and those after it by a stride.
 #[derive(Clone, Copy)]
 pub(crate) struct Calls {
     pub(crate) first: u64,
@@ -63,7 +63,7 @@ impl Start {
         }
     }
 
-    // The numbers that may be found behind a run: a first one and a last one.
+    // The numbers that may be found after a run: a first one and a last one.
     fn allowed(&self, ran: &Ran) -> (u64, u64) {
         match self {
             Start::New => (acknowledged_in(&ran.replies), ran.sealed),
@@ -77,7 +77,7 @@ impl Start {
 pub(crate) struct Runs<'a> {
     setting: Setting<'a>,
     start: Start,
-    // how many calls of the device are made where none fails
+    // how many calls of the device are made if none fails
     calls: u64,
     ends: Endings,
 }

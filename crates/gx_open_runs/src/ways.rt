@@ -25,7 +25,7 @@ impl Left {
     }
 }
 
-/// How a call fails: whether those behind it fail too, whether it is made if it is a write, and the crash that comes
+/// How a call fails: whether those after it fail too, whether it is made if it is a write, and the crash that comes
 /// then, if one does.
 #[derive(Clone, Copy)]
 pub(crate) struct Way {
@@ -53,7 +53,7 @@ impl Way {
         }
     }
 
-    /// Stops with each crash, where the call is made or isn't.
+    /// Stops with each crash, of a call that is made, and of one that isn't.
     pub(crate) fn stops() -> [Way; 8] {
         [
             Way::stop(false, Left::Old),
@@ -67,7 +67,7 @@ impl Way {
         ]
     }
 
-    /// Failures, once or for ever, where the call is made or isn't.
+    /// Failures, once or for ever, of a call that is made, and of one that isn't.
     pub(crate) fn fails() -> [Way; 4] {
         [
             Way::fail(Fuse::Once, false),

@@ -112,7 +112,7 @@ module _ {B D : Type 0} (shape : Members B) (is_key : B → Bool) (l : Limits) (
       (subst (λ n. Tells {T = Unit {0}} (IsSoundStore f passes state (rules_of shape n) a.touched first) result) (sym most_is)
       (subst (λ (x : Shelf D). Tells {T = Unit {0}} (IsSoundStore f passes state (rules_of shape most) a.touched x) result) is told))
 
-  -- where they can be read, and its tree is legal with what was touched in its place, they are sound
+  -- if they can be read, and its tree is legal with what was touched in its place, they are sound
   pub first_sound : (s : Shelf D) → s ≡ first → CanAllBeRead (passes pages) a.used (state disk).seen → IsShownSound (rules_of shape most) a.touched (shown_tree f passes state s) → sound
   first_sound s is can shown =
       sound_there said f passes state (class_of shape is_key l) first a none refl refl (sym pages_are) fits (record {

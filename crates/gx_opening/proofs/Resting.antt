@@ -17,7 +17,7 @@ module _ (a b : Device) where
   pub looks_rest : Looks a b → OnlyRests a b
   looks_rest looks = record { rests = looks.rests; leaves = looks.leaves }
 
-  -- and one behind the other
+  -- and one after the other
   pub rests_joined : (c : Device) → OnlyRests a b → OnlyRests b c → OnlyRests a c
   rests_joined c first next = record {
     rests = record { seen = next.rests.seen ∙ first.rests.seen; settled = λ s was. next.rests.settled s (first.rests.settled s was) };

@@ -72,7 +72,7 @@ can_be_read passes d s all = λ page low taken none. all page low (leb-true page
 -- ---- why a test was refused
 
 module _ {D : Type 0} (breaks : ℕ → Rule → Type 0) (passes : ℕ → Contents → Bool) (d e : Device) (old new : Shelf D) where
-  -- what is damage isn't legal, where pages can be read
+  -- what is damage isn't legal, if pages can be read
   pub damage_told : (P : Type 0) (why : LegalityFault StoreFault) → IsDamage why → IsWhyBehind old new (faults.IsWhy passes d e old new) why → IsFound breaks why
       → ((page : ℕ) (rule : Rule) → breaks page rule → P → ⊥) → IsSteady d old.frames → CanBeRead passes d old → P → ⊥
   damage_told P fault.Memory is told found never steady can so = is
@@ -129,7 +129,7 @@ module _ {B D : Type 0} (f : Format B) (passes : ℕ → Contents → Bool) (sta
   used_same old new reads =
       sym (nodes_long (standing_node f new.frames (state new.disk).seen) new.used) ∙ reads.stays.used ∙ nodes_long (standing_node f old.frames (state old.disk).seen) old.used
 
-  -- where each page in use was held, and read right, all can be read
+  -- if each page in use was held, and read right, all can be read
   pub all_read : (old : Shelf D) → IsSteady (state old.disk) old.frames → AreClean old.frames → ((page : ℕ) → IsSince passes (state old.disk) (state old.disk) old old page)
       → ((page : ℕ) → Used (shown_tree f passes state old) page
       → WasHeld {P = Shelf D} {B = B} (λ s. IsSteady (state s.disk) s.frames) (λ s. store_of f (state s.disk).seen s) (λ was now q. IsSince passes (state was.disk) (state now.disk) was now q)

@@ -7,7 +7,7 @@ use Rattle.gx_disk.proofs.Leaving.{call_leaves, leaves_joined, leaves_weaker, re
 use Rattle.gx_found_log.specs.Laid.{HasAsRead, Spares}
 
 module _ (Spared : ℕ → Type 0) where
-  -- what a device that reads the same may leave where all is settled
+  -- what a device that reads the same may leave if all is settled
   image_spared : (a b : Device) → b.seen ≡ a.seen → IsSettled b → (image : List ℕ) → MayLeave b image → HasAsRead Spared a.seen image
   image_spared a b same settled image may = record {
     size = may.size ∙ ap length same;

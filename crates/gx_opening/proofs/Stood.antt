@@ -53,7 +53,7 @@ module _ {E P : Type 0} (k : Known E P) (r : Reading E P) where
   found_since : (a b : List ℕ) (image : List ℕ) → b ≡ a → HasFoundLog k r b image → HasFoundLog k r a image
   found_since a b image same has = subst (λ (s : List ℕ). HasFoundLog k r s image) same has
 
-  -- so what is laid behind it is safe since before
+  -- so what is laid after it is safe since before
   pub laid_safe : (a b c : Device) → OnlyRests a b → Leaves (IsKeptOrFound k r b) b c → Leaves (IsKeptOrFound k r a) a c
   laid_safe a b c only next =
       leaves_joined (IsKeptOrFound k r a) a b c (rests_safe a b only)
@@ -70,7 +70,7 @@ module _ {E P : Type 0} (k : Known E P) (r : Reading E P) where
         ⊎_elim (λ left. inl (only_now a image one left)) (λ has. has)
         (leaves.only (state a).moment image (omega arith) (counts_now b (state a).moment image other leaves.later may))
 
-    -- and reading behind that is safe too
+    -- and reading after that is safe too
     pub read_safe : (a b c : D) → (state a).honest ≡ true → (state b).honest ≡ true → Leaves (IsKeptOrFound k r (state a)) (state a) (state b) → OnlyRead (state b) (state c)
         → Leaves (IsKeptOrFound k r (state a)) (state a) (state c)
     read_safe a b c one other first read =
@@ -113,7 +113,7 @@ pub never_damaged : (class sectors : ℕ) (seen : List ℕ) (why : Refusal) → 
 never_damaged class sectors seen why may is = subst (λ (w : Refusal). MaySettle class sectors seen (Err w)) is may
 
 module _ {B : Type 0} (shape : Members B) (is_key : B → Bool) (said : List ℕ → B) (f : Format B) (class : ℕ) (a b : Device) where
-  -- what was read behind a settling
+  -- what was read after a settling
   pub formatted_so : (p : Parameters) → LEAST_SECTORS ≤ a.sectors → Settles class a b (Ok p) → IsFormatted shape is_key said f class a p
   formatted_so p large settles =
       let t = settles.told large in
@@ -146,7 +146,7 @@ module _ {B : Type 0} (shape : Members B) (is_key : B → Bool) (said : List ℕ
       damaged = λ is log. (lays.log is).1 (subst (λ (s : List ℕ). HasUndamaged k r s) (sym only.rests.seen) log);
     }
 
-    -- and where its log is damaged it is left so
+    -- and if its log is damaged it is left so
     pub unlaid_left : (why : Refusal) → c.sectors ≡ a.sectors → IsFormatted shape is_key said f class a p → LaysLog k r b c (Err why) → LeavesDamaged shape is_key said f class c why
     unlaid_left why sectors formatted lays = λ is.
         (let left = lays.log is in
@@ -178,7 +178,7 @@ module _ {B : Type 0} (shape : Members B) (is_key : B → Bool) (said : List ℕ
       subst (λ (x : Analysis (Entry B)). AreOfOthers known_there.cmp x.touched) (sym laid.is.kept.told) (log_of_others known_there lawful laid.is.log.bodies laid.is.log.undamaged)
 
   module _ (formatted : IsFormatted shape is_key said f class a s.parameters) (laid : IsLaid known_there reading_there a.seen b s.log) (rests : Rests b c) (pending : SamePending b c) where
-    -- what is laid stays so where the device is read
+    -- what is laid stays so when the device is read
     laid_read : IsLaid known_there reading_there a.seen c s.log
     laid_read = record {
       is = laid.is;
@@ -199,7 +199,7 @@ module _ {B : Type 0} (shape : Members B) (is_key : B → Bool) (said : List ℕ
         let one : is.log.bodies ≡ laid.is.log.bodies = bodies_one_way reading_there (open_bodies a.seen) is.log.bodies laid.is.log.bodies here there in
         is.kept.told ∙ ap (λ (x : List (List (Record (Entry B) (Page B)))). analysis known_there (records_of x)) one ∙ sym laid.is.kept.told
 
-    -- so where its pages aren't sound it is left so
+    -- so if its pages aren't sound it is left so
     says_left : head_in c.seen ≡ head_of s.parameters
     says_left = laid_read.same.head ∙ formatted_head a.seen s.parameters formatted.magic formatted.says
 

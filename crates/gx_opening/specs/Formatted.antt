@@ -37,7 +37,7 @@ WhyNotAllowed class sectors p BadParameter = IsAllowed class p → ⊥
 WhyNotAllowed class sectors p TooSmall = IsAllowed class p × (sectors < sectors_of p.pages)
 WhyNotAllowed class sectors p refusal = ⊥
 
--- what is read of an image: what it says behind the magic
+-- what is read of an image: what it says after the magic
 abbrev pub AreRead : List ℕ → Result Parameters Refusal → Type 0
 AreRead image (Ok p) = HasMagic image × Says image p
 AreRead image (Err OldVersion) = HasOldMagic image

@@ -32,8 +32,8 @@ module _ {E P : Type 0} (k : Known E P) (r : Reading E P) where
   abbrev pub IsKeptOrFound : Device → List ℕ → Type 0
   IsKeptOrFound d image = MayLeave d image ⊎ HasFoundLog d.seen image
 
-  -- The log that starts behind these bodies is on a device as it was on what was seen, with each page written. Where the pages are good for
-  -- it, what each body says its size is fits it.
+  -- The log that starts after these bodies is on a device as it was on what was seen, with each page written. If the
+  -- pages are good for it, what each body says its size is fits it.
   pub record StaysBehind (seen now : List ℕ) (bodies : List (List (Record E P))) : Type 0 where
     pub glog : found_glog now ≡ found_glog seen
     pub written : AllWritten (renewal.found (area_of r k.pages now) (records_of bodies))
@@ -53,11 +53,11 @@ module _ {E P : Type 0} (k : Known E P) (r : Reading E P) where
   LogLaid seen e (Ok found) = IsLaid seen e found
   LogLaid seen e (Err why) = why ≡ Damaged → (e.seen ≡ seen) × (HasUndamaged k r seen → ⊥)
 
-  -- a sector is no part of a page that the log of what is seen gives; where that log is damaged, none is
+  -- a sector is no part of a page that the log of what is seen gives; if that log is damaged, none is
   abbrev pub IsSpared : List ℕ → ℕ → Type 0
   IsSpared seen s = (log : HasUndamaged k r seen) → IsUngiven (records_of log.bodies) s
 
-  -- What finding and laying the log leaves of a synced device, also where it is refused.
+  -- What finding and laying the log leaves of a synced device, even if it is refused.
   pub record LaysLog (d e : Device) (result : Result (FoundLog E) Refusal) : Type 0 where
     pub leaves : Leaves (IsKeptOrFound d) d e
     pub spares : Spares (IsSpared d.seen) d e

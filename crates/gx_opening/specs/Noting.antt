@@ -22,7 +22,7 @@ module _ {E : Type 0} (cmp : E → E → Ordering) where
   IsNoLess e [] = Unit {0}
   IsNoLess e (n ∷ notes) = cmp n.entry e ≡ Less → ⊥
 
-  -- A note is put behind those of lesser entries.
+  -- A note is put after those of lesser entries.
   pub record IsPut (x : NotedPair E) (old new : List (NotedPair E)) : Type 0 where
     pub place : ℕ
     pub before : AreLess x.entry (take place old)

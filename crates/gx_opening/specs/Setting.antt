@@ -86,7 +86,7 @@ module _ {B D : Type 0} (shape : Members B) (traits : Traits B) (state : D → D
   abbrev pub FindsInOrderAs : D → D → Result (Standing B) Refusal → Type 0
   FindsInOrderAs old new result = FindsInOrder shape traits.is_proper traits.said (format_of (own traits)) state (state old) (state new) result
 
-  -- where it is refused as damaged, it is left so
+  -- if it is refused as damaged, it is left so
   abbrev pub LeavesDamagedAs : D → Result (Standing B) Refusal → Type 0
   LeavesDamagedAs new result = IfErr result (LeavesDamaged shape traits.is_proper traits.said (format_of (own traits)) traits.CLASS (state new))
 

@@ -118,7 +118,7 @@ module _ {B : Type 0} (shape : Members B) (is_key : B → Bool) (said : List ℕ
     pub is : IsFound (known_for shape is_key said f p) (reading shape is_key said f) seen found
     pub fits : found.analysis.told.used ≤ p.pages
 
-  -- the outcome of examining it; memory is refused behind its log alone
+  -- the outcome of examining it; memory is refused only after its log was read
   abbrev pub IndexFinds : (D : Type 0) → Parameters → List ℕ → Result (Option Damage) Refusal → Type 0
   IndexFinds D p seen result =
       Finds (IsSoundIndex p seen) (IndexShows D p seen) (λ why. (why ≡ refusal.Device) ⊎ ((why ≡ refusal.Memory) × HasFittingLog p seen)) result
@@ -141,8 +141,8 @@ module _ {B : Type 0} (shape : Members B) (is_key : B → Bool) (said : List ℕ
     pub formatted : IsFormatted shape is_key said f class d parameters
     pub log : HasFittingLog parameters d.seen
 
-  -- Why a device isn't examined: by what it is formatted for; a call failed; or memory was refused, before any call, which leaves it the same, or
-  -- behind its log.
+  -- Why a device isn't examined: by what it is formatted for; a call failed; or memory was refused, before any call,
+  -- which leaves it the same, or after its log was read.
   abbrev pub IsUnexamined : (class : ℕ) (same : Type 0) → disk.Device → Refusal → Type 0
   IsUnexamined class same d why = MaySettle class d.sectors d.seen (Err why) ⊎ ((why ≡ refusal.Memory) × (same ⊎ HoldsLog class d))
 
@@ -156,7 +156,7 @@ module _ {B : Type 0} (shape : Members B) (is_key : B → Bool) (said : List ℕ
     pub formatted : IsFormatted shape is_key said f class d parameters
     pub unsound : IsSoundIndex parameters d.seen → ⊥
 
-  -- so it is left where it was refused as damaged
+  -- so it is left if it was refused as damaged
   abbrev pub LeavesDamaged : (class : ℕ) → disk.Device → Refusal → Type 0
   LeavesDamaged class d why = why ≡ refusal.Damaged → HoldsDamaged class d
 

@@ -47,7 +47,7 @@ Tells holds (Err why) = why ≡ Damaged → holds → ⊥
 abbrev pub IsCause : Refusal → Type 0
 IsCause why = (why ≡ DeviceFailed) ⊎ ((why ≡ Memory) ⊎ (why ≡ Damaged))
 
--- why what is read behind all memory may be: a call failed, or it is damaged
+-- why what is read once all memory was allocated may be refused: a call failed, or it is damaged
 abbrev pub IsFaultOrDamage : Refusal → Type 0
 IsFaultOrDamage why = (why ≡ DeviceFailed) ⊎ (why ≡ Damaged)
 

@@ -29,7 +29,7 @@ use Rattle.gx_opening.specs.Sound.{AreSound, IsCause, IsFaultOrDamage}
 use Rattle.gx_opening.specs.Writing.{IsInOrder, IsUnfit, IsUnwritten, SyncsFirst}
 use Rattle.gx_opening.specs.declared.standing.Standing.{Standing}
 
--- what was found, where its test passed
+-- what was found, if its test passed
 abbrev pub told_with : {T : Type 0} → Result (Unit {0}) Refusal → T → Result T Refusal
 told_with (Ok done) x = Ok x
 told_with (Err why) x = Err why
@@ -67,14 +67,14 @@ module _ {B : Type 0} (shape : Members B) (is_key : B → Bool) (said : List ℕ
   FindsInOrder state d e (Ok s) = SyncsFirst state LaysSafely d e
   FindsInOrder state d e (Err why) = IsInOrder state LaysSafely d e × (IsUnfit why → IsUnwritten d e)
 
-  -- Of a device that is formatted so, where the pages after the log that is found are good for it, an image that says the same and has that log
-  -- and the same pages after it stands for what the log keeps, as it was found.
+  -- Of a device that is formatted so, if the pages after the log that is found are good for it, an image that says the
+  -- same and has that log and the same pages after it stands for what the log keeps, as it was found.
   abbrev pub FoundStands : Parameters → Type 0
   FoundStands p = (seen image : List ℕ) → head_in seen ≡ head_of p → (has : HasFoundLog (known_for p) reading seen image)
       → AreGood (known_for p) reading (area_of reading p.pages seen) (records_of has.log.bodies)
       → durable.Stands (known_for p) reading (found (area_of reading p.pages seen) (records_of has.log.bodies)) image
 
-  -- the pages of a device whose log is laid are good for it, and can be read, where they are sound
+  -- the pages of a device whose log is laid are good for it, and can be read, if they are sound
   abbrev pub SoundIsGood : {D : Type 0} → (D → Device) → Parameters → Type 0
   SoundIsGood {D} state p = (seen : List ℕ) (e : D) (log : FoundLog (Entry B)) → (laid : IsLaid (known_for p) reading seen (state e) log)
       → AreSound (known_for p) reading (is_node f p.pages) log.analysis.told (state e).seen

@@ -42,7 +42,7 @@ fn lay_found<D: SectorDisk, K: ReadKeys>(
 /// leaves it, and everything is durable again.
 ///
 /// Refused as `Damaged` exactly if the log is damaged, before anything is written, and with `Device` if a call fails.
-/// It takes no memory. At each moment, also if it is refused, what a crash may leave is as at the start, or has the log
+/// It takes no memory. At each moment, even if it is refused, what a crash may leave is as at the start, or has the log
 /// that was found and after it the same pages.
 pub(crate) fn lay_log<D: SectorDisk, K: ReadKeys>(
     room: LogRoom<Entry<K::Key>>,

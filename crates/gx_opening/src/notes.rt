@@ -21,7 +21,7 @@ fn place_of<E: Copy + Ord>(notes: &[NotedPair<E>], entry: &E) -> usize
     notes.len()
 }
 
-// Puts a note behind those of lesser entries.
+// Puts a note after those of lesser entries.
 fn insert_note<E: Copy + Ord>(
     notes: &mut Vec<NotedPair<E>>,
     note: NotedPair<E>,

@@ -54,7 +54,7 @@ pub record Spelled (bytes ds : List ℕ) (n end : ℕ) (items : List (List ℕ))
   pub total_is : last + total items ≡ end
   pub each : (k : ℕ) (d : List ℕ) → k < length items → IsItem (get_or items k d)
 
--- two ranges, one behind the other
+-- two ranges, one after the other
 pub ranges : (xs : List ℕ) (a b c : ℕ) → a ≤ b → b ≤ c → slice_range xs a b ++ slice_range xs b c ≡ slice_range xs a c
 ranges xs a b c h k =
     let split : c - a ≡ (b - a) + (c - b) = omega arith in let on : a + (b - a) ≡ b = omega arith in
@@ -101,7 +101,7 @@ spelled bytes size are (suc n) ds das room end below e =
 
 -- ---- bytes without a fault are an image
 
--- a part and what lies behind it
+-- a part and what lies after it
 piece : (bytes part rest : List ℕ) (m n : ℕ) → part ≡ take n (drop m bytes) → rest ≡ drop (m + n) bytes → part ++ rest ≡ drop m bytes
 piece bytes part rest m n e f =
     ap (λ (xs : List ℕ). xs ++ rest) e ∙ ap (λ (xs : List ℕ). take n (drop m bytes) ++ xs) (f ∙ sym (drop-drop n m bytes)) ∙ take-append-drop n (drop m bytes)
@@ -159,7 +159,7 @@ body_is bytes size li free items same =
     ap (λ (xs : List ℕ). slice_range bytes 32 end ++ (gap ++ xs)) upper ∙ ap (λ (xs : List ℕ). slice_range bytes 32 end ++ xs) (ranges bytes end hs 4096 room top) ∙
     ranges bytes 32 end 4096 (omega arith) within ∙ take_all (4096 - 32) (drop 32 bytes) (omega (arith, length-drop 32 bytes))
 
--- the header and what lies behind it
+-- the header and what lies after it
 header_is : (bytes : List ℕ) → length bytes ≡ 4096 → AreBytes bytes → is_reserved_zero bytes ≡ true → (v : Contents) → v.level ≡ number_16 (take 2 bytes) → length v.items ≡ number_16 (take 2 (drop 2 bytes))
     → 4096 - total v.items ≡ number_16 (take 2 (drop 4 bytes)) → v.nsn ≡ number_64 (take 8 (drop 8 bytes)) → v.right ≡ number_32 (take 4 (drop 16 bytes)) → v.number ≡ number_32 (take 4 (drop 20 bytes))
     → (body : List ℕ) → body ≡ drop 32 bytes → header v body ≡ bytes

@@ -6,7 +6,7 @@ use Rattle.gx_page.specs.Edits.{opened, closed, first_length}
 use Rattle.gx_page.proofs.Pieces.{overwrite_more, length-overwrite}
 use Rattle.gx_page.proofs.Slots.{number_here}
 
--- what lies behind a write is unchanged
+-- what lies after a write is unchanged
 pub drop-overwrite : (xs : List ℕ) (at : ℕ) (ys : List ℕ) (n : ℕ) → n ≡ at + length ys → at ≤ length xs → drop n (overwrite xs at ys) ≡ drop n xs
 drop-overwrite xs at ys n e h =
     let size : length (take at xs ++ ys) ≡ n = omega (arith, length-append (take at xs) ys, length-take at xs) in

@@ -41,7 +41,7 @@ pub length-overwrite : (xs : List ℕ) (at : ℕ) (ys : List ℕ) → at + lengt
 length-overwrite xs at ys h = let rest = drop (at + length ys) xs in
     omega (arith, length-append (take at xs) (ys ++ rest), length-append ys rest, length-take at xs, length-drop (at + length ys) xs)
 
--- one write after another, right behind it
+-- one write directly after another
 pub overwrite_more : (xs p q : List ℕ) (at : ℕ) → at + length p ≤ length xs → overwrite (overwrite xs at p) (at + length p) q ≡ overwrite xs at (p ++ q)
 overwrite_more xs p q at h =
     let front = take at xs in let n = at + length p in let m = n + length q in let rest = drop n xs in

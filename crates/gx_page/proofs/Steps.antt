@@ -48,7 +48,7 @@ total-inserted items i x = omega (arith, total-append (take i items) (x ∷ drop
 pub inserted_size : (items : List (List ℕ)) (i : ℕ) (x : List ℕ) → i ≤ length items → 4 * length (insert items i x) + total (insert items i x) ≡ 4 + 4 * length items + total items + length x
 inserted_size items i x h = omega (arith, length-inserted items i x h, total-inserted items i x)
 
--- where the heap starts too low for one more item and its slot, the longer list doesn't fit
+-- if the heap starts too low for one more item and its slot, the longer list doesn't fit
 pub no_room : (items : List (List ℕ)) (i : ℕ) (x : List ℕ) (count start : ℕ) → i ≤ length items → count ≡ length items → start + total items ≡ 4096 → start < 32 + 4 * count + 4 + length x → Fits (insert items i x) → ⊥
 no_room items i x count start h is_count is_start low fits =
     let f : 32 + 4 * length (insert items i x) + total (insert items i x) ≤ 4096 = fits in omega (arith, inserted_size items i x h)

@@ -7,7 +7,7 @@ use Rattle.gx_page.specs.Contents.{Contents}
 abbrev pub first_length : List ℕ → ℕ
 first_length bytes = number_16 (take 2 (drop 2 bytes))
 
--- a slot of so many bytes below `end`, and behind it the next so many slots of a directory, moved down
+-- a slot of so many bytes below `end`, and after it the next so many slots of a directory, moved down
 unfoldable pub opened : ℕ → ℕ → ℕ → List ℕ → List ℕ
 opened zero end size bytes = spell_16 (end - size) ++ spell_16 size
 opened (suc n) end size bytes = spell_16 (end - size) ++ (spell_16 size ++ opened n (end - size) (first_length bytes) (drop 4 bytes))

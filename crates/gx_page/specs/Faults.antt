@@ -30,7 +30,8 @@ directory_end bytes = 32 + 4 * count_of bytes
 unfoldable pub is_reserved_zero : List ℕ → Bool
 is_reserved_zero bytes = all_zero (slice_range bytes 6 8) && all_zero (slice_range bytes 24 32)
 
--- the directory ends within the block, its slots are in order, and the heap starts at the last of them, behind the directory
+-- the directory ends within the block, its slots are in order, and the heap starts at the last of them, after the
+-- directory
 unfoldable pub is_directory : List ℕ → Bool
 is_directory bytes =
     nat_le (directory_end bytes) PAGE_SIZE && in_order PAGE_SIZE (entries_of bytes) && (heap_start bytes == last_place PAGE_SIZE (entries_of bytes)) && nat_le (directory_end bytes) (heap_start bytes)

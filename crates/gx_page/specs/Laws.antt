@@ -27,7 +27,7 @@ FaultlessAreImages = (bytes : List ℕ) → AreBytes bytes → ((fault_of bytes 
 abbrev pub ImagesEndWithTheHeap : Type 0
 ImagesEndWithTheHeap = (v : Contents) → IsWellFormed v → drop (PAGE_SIZE - total v.items) (image_of v) ≡ heap v.items
 
--- the heap of the items from a slot on is that of the items behind it, then the slot's item
+-- the heap of the items from a slot on is that of the items after it, then the slot's item
 abbrev pub HeapGoesOn : Type 0
 HeapGoesOn = (items : List (List ℕ)) (slot : ℕ) → slot < length items → heap (drop slot items) ≡ heap (drop (slot + 1) items) ++ slice_index_or items slot []
 
@@ -48,7 +48,7 @@ PlaceInImage = (v : Contents) (size slot : ℕ) → IsWellFormed v → AllOfLeng
 
 -- ---- room
 
--- where so many items of a greatest length fit a page with their slots, one more of them fits a page that has fewer
+-- if so many items of a greatest length fit a page with their slots, one more of them fits a page that has fewer
 abbrev pub FewFit : Type 0
 FewFit = (items : List (List ℕ)) (item : List ℕ) (slot most size : ℕ) → slot ≤ length items → NoneLonger size items → length item ≤ size
     → length items < most → most * (4 + size) ≤ 4064 → Fits (insert items slot item)

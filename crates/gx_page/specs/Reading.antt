@@ -1,4 +1,4 @@
--- What a block of bytes holds, where it is an image.
+-- What a block of bytes holds, if it is an image.
 use Rattle.std.specs.Prelude.{◌≡◌, ℕ, zero, suc, ◌+◌, List, [], ◌∷◌, map, take, drop, slice_range}
 use Rattle.gx_page.specs.Bytes.{number_16, number_16_at, number_32_at, number_64_at}
 use Rattle.gx_page.specs.Contents.{Contents}

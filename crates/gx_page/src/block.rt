@@ -81,7 +81,7 @@ impl Block {
         unsafe { &mut *self.at }
     }
 
-    /// A block of zeros, or `AllocError` where there is no memory for it.
+    /// A block of zeros, or `AllocError` if there is no memory for it.
     pub(crate) fn fresh(alloc: Global) -> Result<Block, AllocError>
         ensures { IfOk result (λ b. b.bytes ≡ zeros PAGE_SIZE) }
     {

@@ -87,7 +87,7 @@ fn is_free_zero(bytes: &[u8]) -> bool
     all_zero(&bytes[end..usize::from(u16_at(bytes, START))])
 }
 
-/// The first fault behind the header: of the directory, or of the free bytes.
+/// The first fault after the header: of the directory, or of the free bytes.
 fn fault_behind(bytes: &[u8]) -> Option<PageFault>
     requires { length bytes.now ≡ PAGE_SIZE }
     ensures { reserved_zero bytes.now ≡ true → result ≡ fault_of bytes.now }

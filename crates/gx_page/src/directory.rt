@@ -68,8 +68,8 @@ pub(crate) fn end_of(block: &Block, slot: usize) -> u16
     }
 }
 
-/// Writes a slot of so many bytes below `end`, and moves the slots from there on behind it and down.
-/// The lengths add up to no more than `end`, so no difference saturates.
+/// Writes a slot of so many bytes below `end`, and moves the slots from there on after it and down. The lengths add up
+/// to no more than `end`, so no difference saturates.
 pub(crate) fn open_slot(block: &mut Block, slot: usize, count: usize, end: u16, size: u16)
     requires slots { (slot ≤ count) × (36 + 4 * count ≤ PAGE_SIZE) }
     requires block { length block.old.bytes ≡ PAGE_SIZE }
@@ -91,7 +91,7 @@ pub(crate) fn open_slot(block: &mut Block, slot: usize, count: usize, end: u16, 
     block.set_u16(at + LENGTH, pending);
 }
 
-/// Moves the slots behind a slot over it and up below `end`, and writes zeros over the last.
+/// Moves the slots after a slot over it and up below `end`, and writes zeros over the last.
 pub(crate) fn close_slot(block: &mut Block, slot: usize, count: usize, end: u16)
     requires slots { (slot < count) × (32 + 4 * count ≤ PAGE_SIZE) }
     requires block { length block.old.bytes ≡ PAGE_SIZE }

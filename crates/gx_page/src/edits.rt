@@ -47,7 +47,7 @@ pub(crate) fn load(block: &mut Block, bytes: &[u8]) -> Result<(), PageFault>
     Ok(())
 }
 
-/// Puts an item in front of a slot, where it fits. The items from that slot on move down by one copy.
+/// Puts an item in front of a slot, if it fits. The items from that slot on move down by one copy.
 pub(crate) fn insert(block: &mut Block, slot: usize, bytes: &[u8])
     requires image { IsImage block.old.bytes }
     requires slot { slot ≤ length (read_of block.old.bytes).items }
@@ -70,7 +70,7 @@ pub(crate) fn insert(block: &mut Block, slot: usize, bytes: &[u8])
     block.set_u16(START, start - size);
 }
 
-/// Takes a slot's item out. The items behind it move up by one copy, and the bytes that it leaves are zero.
+/// Takes a slot's item out. The items after it move up by one copy, and the bytes that it leaves are zero.
 pub(crate) fn remove(block: &mut Block, slot: usize)
     requires image { IsImage block.old.bytes }
     requires slot { slot < length (read_of block.old.bytes).items }

@@ -29,8 +29,8 @@ pub fn places()
     ensures in_image { PlaceInImage }
 {}
 
-/// A page with fewer than so many items takes one more, where that many of the greatest length fit with their slots.
-/// So 99 items of up to 36 bytes leave room for one more.
+/// A page with fewer than so many items takes one more, if that many of the greatest length fit with their slots. So 99
+/// items of up to 36 bytes leave room for one more.
 pub fn room()
     ensures { FewFit }
 {}

@@ -84,8 +84,8 @@ impl Page {
         Ok(Page { block })
     }
 
-    /// Becomes the page whose image the bytes are, with no memory taken.
-    /// Refused with the first fault of the bytes, and the page is then as it was.
+    /// Becomes the page whose image the bytes are, with no memory taken. Refused with the first fault of the bytes, and
+    /// the page is then unchanged.
     pub fn load(&mut self, bytes: &[u8]) -> Result<(), PageFault>
         ensures loaded { IfOk result (λ _. (fault_of bytes.now ≡ None) × IsImage bytes.now
             × (self.new ≡ read_of bytes.now)) }
@@ -148,8 +148,8 @@ impl Page {
         self.block.slice(from, from + size)
     }
 
-    /// Puts an item of 1 to 4,060 bytes in front of a slot, or behind the last. False if the page has no room for it
-    /// and its slot, and the page is then as it was.
+    /// Puts an item of 1 to 4,060 bytes in front of a slot, or after the last. False if the page has no room for it and
+    /// its slot, and the page is then unchanged.
     pub fn insert(&mut self, slot: usize, bytes: &[u8]) -> bool
         requires slot { slot ≤ length self.old.items }
         requires item { (1 ≤ length bytes.now) × (length bytes.now ≤ 4060) }
@@ -200,8 +200,7 @@ impl Page {
         self.block.u16_at(0)
     }
 
-    /// The node sequence number: the counter of splits as it was at the page's last one (Kornacker, Mohan, Hellerstein
-    /// 1997).
+    /// The node sequence number: the counter of splits at the page's last one (Kornacker, Mohan, Hellerstein 1997).
     pub fn nsn(&self) -> u64
         ensures { result ≡ self.now.nsn }
     {

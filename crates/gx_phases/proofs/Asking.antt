@@ -131,7 +131,7 @@ module _ {B W : Type 0} (k : Keys B) (l : IsLawful k) (live : Entry B → Bool) 
         (changed_alike asked.Open (phase.Open Commit work) h a.0 (a.1 ∙ same_session k old kept s is (phase.Open Commit work)))
     working_alike Abort work at a = changed_alike asked.Open (phase.Undoing 0 work) h a.0 (a.1 ∙ same_session k old kept s is (phase.Undoing 0 work))
 
-    -- the event, where it is asked
+    -- the event, if it is asked
     asks_event : (call : Call B) → old.failed ≡ false → Alike (ask_slot k call (least call) (claims_held all) (slot_of p h))
         → IsHappening k E (Asks s call given) (engine_of live older new)
     asks_event call works alike =

@@ -13,7 +13,7 @@ use Rattle.gx_txn.specs.Tables.{Held, held_by, with_locks, least_in, claims_in, 
 use Rattle.gx_phases.specs.States.{ClaimsFor}
 
 module _ {B : Type 0} (k : Keys B) (l : IsLawful k) where
-  -- where locks are given, the entry is among their claims
+  -- if locks are given, the entry is among their claims
   abbrev Claimed : Entry B → Result (Locks B) Refusal → Type 0
   Claimed e (Ok locks) = has k e locks.claims ≡ true
   Claimed e (Err why) = Unit {0}

@@ -1,4 +1,4 @@
--- What is kept of the sessions stays kept where one of them is changed.
+-- What is kept of the sessions stays kept if one of them is changed.
 use Rattle.std.proofs.Common.{◌≡◌, ℕ, zero, suc, ◌+◌, ◌-◌, ◌<◌, ◌≤◌, Bool, true, false, ◌||◌, List, [], ◌∷◌, length, Result, Ok, Err, None, Some, refl, ap, sym, ◌∙◌, arith, subst}
 use Rattle.std.specs.Prelude.{slice_set, sum_by, nat_le}
 use Rattle.std.proofs.lemmas.Bool.{leb-false}
@@ -58,7 +58,7 @@ module _ {B W : Type 0} where
   commits_in_all [] = omega arith
   commits_in_all (p ∷ ps) = omega (arith, sum_by-cons may_commit p ps, commits_in_all ps, commits_most p)
 
-  -- numbers are left where no more may commit, and where one more does and they weren't used up
+  -- numbers are left if no more may commit, and if one more does and they weren't used up
   pub numbers_left : (phases phases' : List (Phase B W)) (i : ℕ) (q : Phase B W) (last last' : ℕ) → length phases ≡ 8 → i < 8 → phases' ≡ slice_set phases i q
       → last + sum_by may_commit phases ≤ 18446744073709551615 → last' + may_commit q ≤ last + may_commit (phase_at i phases)
       → last' + sum_by may_commit phases' ≤ 18446744073709551615

@@ -41,7 +41,7 @@ module _ {B : Type 0} (k : Keys B) (s : ℕ) (n : txn.Note B) (old : List (Held 
   held_note (Err why) done mid new is eight a noted = let no : ⊥ = cc in absurd no
 
 module _ {B W : Type 0} (k : Keys B) (l : IsLawful k) (old : State B W) (kept : IsKept k old) (s : ℕ) (is : is_session s ≡ true) (n : txn.Note B) where
-  -- where it is refused
+  -- if it is refused
   pub refused_kept : (r : Result (Locks B) Refusal) (why : Refusal) (table' : List (Held B)) → HeldNote k r s n old.table (Err why) table'
       → IsKept k (record old { table = table' })
   refused_kept (Ok locks) why table' a = let is_ok : IsOk {T = Unit {0}} (Err why) = a.0 in let no : ⊥ = cc in absurd no

@@ -86,7 +86,7 @@ module _ {B : Type 0} (k : Keys B) where
       pub one_more_restored : AreRestored k later (m + 1) notes
       one_more_restored e was h = changed e ∙ more_step e was (same_entry k e n.entry) refl h
 
-  -- where no note is left, each is restored
+  -- if no note is left, each is restored
   pub all_restored : (live : Entry B → Bool) (m : ℕ) (notes : List (txn.Note B)) → length notes ≤ m → AreRestored k live m notes
       → (e : Entry B) (was : Bool) → noted k e (map note_of notes) ≡ Some was → live e ≡ was
   all_restored live m notes past before e was h = before e was (ap (λ (ns : List (txn.Note B)). noted k e (map note_of ns)) (take_all m notes past) ∙ h)

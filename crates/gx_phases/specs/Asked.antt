@@ -31,7 +31,7 @@ LockTaken (Err why) s call work old given new = IsRefused why old given new
 abbrev pub is_full : {B W : Type 0} → State B W → Bool
 is_full state = nat_le LAST_NUMBER state.latest || nat_le LAST_NUMBER state.next
 
--- a Begin of a session without a transaction: refused where the numbers are used up, else the session has the next one
+-- a Begin of a session without a transaction: refused if the numbers are used up, else the session has the next one
 abbrev pub Begun : {B W : Type 0} → Bool → ℕ → State B W → Asked B → State B W → Type 0
 Begun true s old given new = IsRefused HistoryFull old given new
 Begun false s old given new = (given ≡ asked.Now reply.Ok) × (new ≡ with_transaction s old)

@@ -111,17 +111,17 @@ written_state k s n state = with_session s phase.Working (with_notes (noting k n
 abbrev pub sealed_state : {B W : Type 0} → ℕ → State B W → State B W
 sealed_state s state = record (with_session s (phase.Waiting (state.latest + 1)) nothing_held state) { latest = state.latest + 1 }
 
--- the number, where it is durable
+-- the number, if it is durable
 abbrev pub covered : ℕ → Option ℕ → Option ℕ
 covered durable None = None
 covered durable (Some number) = if nat_le number durable then Some number else None
 
--- a session's commit is acknowledged, where its number is durable
+-- a session's commit is acknowledged, if its number is durable
 abbrev pub Acknowledged : {B W : Type 0} → Option ℕ → ℕ → State B W → State B W → Type 0
 Acknowledged None s old new = new ≡ old
 Acknowledged (Some number) s old new = new ≡ with_phase_of s phase.Free old
 
--- so many are restored, where a note is left
+-- so many are restored, if a note is left
 abbrev pub before_last : ℕ → Option ℕ → Option ℕ
 before_last notes None = None
 before_last notes (Some restored) = if nat_lt restored notes then Some restored else None
@@ -138,7 +138,7 @@ abbrev pub restored_state : {B W : Type 0} → ℕ → ℕ → txn.Note B → �
 restored_state s restored n leaf work state =
     with_session s (phase.Undoing (restored + 1) work) (with_notes (moved restored n leaf (held_by s state.table).notes) (held_by s state.table)) state
 
--- one note more is restored, where one is left, by a write in this leaf, and this is the work on the next
+-- one note more is restored, if one is left, by a write in this leaf, and this is the work on the next
 abbrev pub RestoredOne : {B W : Type 0} → Option ℕ → ℕ → ℕ → W → State B W → State B W → Type 0
 RestoredOne None s leaf work old new = new ≡ old
 RestoredOne {B} (Some restored) s leaf work old new =
@@ -160,7 +160,7 @@ synced_state number state = record state { durable = number }
 abbrev pub failed_state : {B W : Type 0} → State B W → State B W
 failed_state state = record state { failed = true }
 
--- a note of what a session wrote, where it gets its lock; or why it doesn't, and nothing changes
+-- a note of what a session wrote, if it gets its lock; or why it doesn't, and nothing changes
 abbrev pub HeldNote : {B : Type 0} → Keys B → Result (Locks B) Refusal → ℕ → txn.Note B → List (Held B) → Result (Unit {0}) Refusal → List (Held B) → Type 0
 HeldNote k (Ok locks) s n old result new =
     IsOk result × (new ≡ with_held s (with_notes (noting k n (held_by s old).notes) (with_locks locks (held_by s old))) old)

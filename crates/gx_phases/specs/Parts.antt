@@ -24,7 +24,7 @@ LockTakenIn (Ok locks) s call work phases table given phases' table' =
     (given ≡ asked.Open) × (phases' ≡ with_phase s (phase.Open call work) phases) × (table' ≡ with_held s (with_locks locks (held_by s table)) table)
 LockTakenIn (Err why) s call work phases table given phases' table' = Stays why phases given phases' × (table' ≡ table)
 
--- the same, where the table has answered
+-- the same, if the table has answered
 abbrev pub Settled : {B W : Type 0} → Result (Unit {0}) Refusal → ℕ → Call B → W → List (Phase B W) → Asked B → List (Phase B W) → Type 0
 Settled (Ok done) s call work phases given phases' = (given ≡ asked.Open) × (phases' ≡ with_phase s (phase.Open call work) phases)
 Settled (Err why) s call work phases given phases' = Stays why phases given phases'

@@ -79,7 +79,7 @@ slots_of [] table = []
 slots_of (p ∷ phases) [] = []
 slots_of (p ∷ phases) (h ∷ table) = slot_of p h ∷ slots_of phases table
 
--- what decides, where these entries are live and these are the kept sets but the last
+-- what decides, if these entries are live and these are the kept sets but the last
 abbrev pub engine_of : {B W : Type 0} → (Entry B → Bool) → List (List (Entry B)) → State B W → Engine B
 engine_of live older state = record {
   live = live;
@@ -114,7 +114,7 @@ ClaimsItsEntry k (phase.Open call work) h = ClaimsFor k call h
 ClaimsItsEntry k (phase.Undoing restored work) h = Unit {0}
 ClaimsItsEntry k (phase.Waiting number) h = Unit {0}
 
--- one where a session has a transaction whose commit may come
+-- one if a session has a transaction whose commit may come
 abbrev pub may_commit : {B W : Type 0} → Phase B W → ℕ
 may_commit phase.Free = 0
 may_commit phase.Working = 1
@@ -122,7 +122,7 @@ may_commit (phase.Open call work) = 1
 may_commit (phase.Undoing restored work) = 0
 may_commit (phase.Waiting number) = 0
 
--- a session that waits for its commit, waits for one that is sealed
+-- a session waits for no commit that isn't sealed
 abbrev pub WaitsForSealed : {B W : Type 0} → ℕ → Phase B W → Type 0
 WaitsForSealed latest p = (number : ℕ) → p ≡ phase.Waiting number → number ≤ latest
 

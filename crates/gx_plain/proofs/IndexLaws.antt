@@ -24,7 +24,7 @@ use Rattle.gx_plain.specs.Kept.{IsKept}
 use Rattle.gx_plain.proofs.SlotLaws.{claims_ask, added_ask, opened_ask, can_answer_ask, begun_ask}
 
 module _ {B : Type 0} (k : Keys B) where
-  -- asking the session at a place, where these are the least that conflicts and the claims held in all
+  -- asking the session at a place, if these are the least that conflicts and the claims held in all
   abbrev pub asked_at : ℕ → Call B → Option ℕ → ℕ → Bool → Index B → Asked B × Index B
   asked_at place call least spent begun index =
       let r = ask_session k call least spent (slice_index_or index.machine.sessions place Idle) in
@@ -62,7 +62,7 @@ module _ {B : Type 0} (k : Keys B) where
       ∙ ap (λ (t : Bool). index_by t u (at_place s call index) index)
       (begun_ask k call (least_conflicting k call s 1 index.machine.sessions) (claims_held index.machine.sessions) (slice_index_or index.machine.sessions (s - 1) Idle) ∙ eb)
 
-  -- asking where the numbers last
+  -- asking if the numbers last
   pub asks : (s : ℕ) (call : Call B) (index : Index B) (place : ℕ) (least : Option ℕ) (spent : ℕ) (b u : Bool) → is_session s ≡ true → place ≡ s - 1
       → least ≡ least_conflicting k call s 1 index.machine.sessions → spent ≡ claims_held index.machine.sessions
       → begins call (slice_index_or index.machine.sessions place Idle) ≡ b → is_used_up index ≡ u → (b && u) ≡ false
@@ -72,7 +72,7 @@ module _ {B : Type 0} (k : Keys B) where
       ∙ ap (λ (t : Bool). cond t (asked.Now (Refused HistoryFull), index) (asked_at (s - 1) call (least_conflicting k call s 1 index.machine.sessions) (claims_held index.machine.sessions) b index)) lasts
       ∙ (λ i. asked_at (sym ep i) call (sym eb i) (sym es i) b index)
 
-  -- asking where they don't
+  -- asking if they don't
   pub asks_too_late : (s : ℕ) (call : Call B) (index : Index B) (place : ℕ) (b u : Bool) → is_session s ≡ true → place ≡ s - 1
       → begins call (slice_index_or index.machine.sessions place Idle) ≡ b → is_used_up index ≡ u → (b && u) ≡ true
       → ask_index k s call index ≡ (asked.Now (Refused HistoryFull), index)
@@ -129,7 +129,7 @@ module _ {B : Type 0} (k : Keys B) where
   both_below : (n a b : ℕ) → (nat_le n a || nat_le n b) ≡ false → (a < n) × (b < n)
   both_below n a b h = below_by n a b (nat_le n a) refl h
 
-  -- where a transaction begins, the numbers aren't used up
+  -- if a transaction begins, the numbers aren't used up
   numbers_left : (begun : Bool) (n a b : ℕ) → (begun && (nat_le n a || nat_le n b)) ≡ false → (begun ≡ false) ⊎ ((begun ≡ true) × (a < n) × (b < n))
   numbers_left true n a b h = inr (refl, (both_below n a b h).0, (both_below n a b h).1)
   numbers_left false n a b h = inl refl

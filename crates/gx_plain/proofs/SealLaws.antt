@@ -52,7 +52,7 @@ module _ {B : Type 0} (k : Keys B) where
     found_at =
         ap (λ (t : Bool). cond t (slice_index_or sessions (s - 1) Idle) Idle) session ∙ ap (λ (p : ℕ). slice_index_or sessions p Idle) (sym at)
 
-    -- the sessions, where the one at the place is unchanged
+    -- the sessions, if the one at the place is unchanged
     same_sessions : x' ≡ slice_index_or sessions place Idle → sessions' ≡ sessions
     same_sessions same = changed ∙ ap (slice_set sessions place) same ∙ set-get_or sessions place Idle
 

@@ -1,4 +1,5 @@
--- What calls alone decide: a reply, and the text of a script, where nothing is refused for a cause that isn't the machine's.
+-- What calls alone decide: a reply, and the text of a script, if nothing is refused for a cause that isn't the
+-- machine's.
 use Rattle.std.specs.Prelude.{ℕ, ◌≡◌, ◌+◌, Bool, true, false, length, List, [], ◌∷◌, ◌++◌}
 use Rattle.gx_geom.specs.declared.refusal.Refusal.{Refusal}
 use Rattle.gx_geom.specs.declared.refusal.Refusal.TheVariants as refusal

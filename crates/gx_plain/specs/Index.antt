@@ -36,7 +36,7 @@ has_begun (asked.Now (Refused why)) = false
 abbrev pub is_used_up : {B : Type 0} → Index B → Bool
 is_used_up index = nat_le LAST_NUMBER (newest index.machine) || nat_le LAST_NUMBER index.next
 
--- Ask: as the machine does, but a Begin is refused where the numbers are used up, and takes the next number else.
+-- Ask: as the machine does, but a Begin is refused if the numbers are used up, and takes the next number else.
 abbrev pub ask_index : {B : Type 0} → Keys B → ℕ → Call B → Index B → Asked B × Index B
 ask_index k s call index =
     let r = ask k s call index.machine in
@@ -51,11 +51,11 @@ sealed_machine k s m = option_map (λ sealed. durable (newest sealed) sealed) (s
 abbrev pub commit : {B : Type 0} → Keys B → ℕ → Machine B → Option (Reply B × Machine B)
 commit k s m = option_and_then (answer k s) (sealed_machine k s m)
 
--- Answer, where memory lasts: as the machine does, a commit by its three steps; else there is no such call or session.
+-- Answer, if memory lasts: as the machine does, a commit by its three steps; else there is no such call or session.
 abbrev pub answer_machine : {B : Type 0} → Keys B → ℕ → Machine B → Reply B × Machine B
 answer_machine k s m = unwrap_or (option_or (answer k s m) (commit k s m)) (Refused (if is_session s then NoCall else BadSession), m)
 
--- the answer where memory lasts
+-- the answer if memory lasts
 pub record AnswersFully {B : Type 0} (k : Keys B) (s : ℕ) (old : Index B) (reply : Reply B) (new : Index B) : Type 0 where
   pub reply_is : reply ≡ (answer_machine k s old.machine).0
   pub machine_is : new.machine ≡ (answer_machine k s old.machine).1
@@ -83,7 +83,7 @@ abbrev pub DropsIndex : {B : Type 0} → ℕ → Index B → Bool → Index B �
 DropsIndex s old true new = (close s old.machine ≡ Some new.machine) × (new.next ≡ old.next)
 DropsIndex s old false new = (close s old.machine ≡ None) × (new ≡ old)
 
--- asking a call, and answering it where it is then open
+-- asking a call, and answering it if it is then open
 abbrev pub AnswersAsked : {B : Type 0} → Keys B → ℕ → Asked B → Index B → Reply B → Index B → Type 0
 AnswersAsked k s (asked.Now given) index reply new = (reply ≡ given) × (new ≡ index)
 AnswersAsked k s asked.Open index reply new = AnswersIndex k s index reply new

@@ -114,7 +114,7 @@ takes_memory (replies.Committed number) = false
 takes_memory replies.Aborted = false
 takes_memory (replies.Refused why) = false
 
--- an open call is closed with this reply and these changes, or with nothing changed where the memory that the reply
+-- an open call is closed with this reply and these changes, or with nothing changed if the memory that the reply
 -- takes is refused; the locks stay
 abbrev pub Closes : {B : Type 0} → Reply B × Changes B → Session B → Reply B → Session B → Type 0
 Closes given old reply new =
@@ -187,7 +187,7 @@ IsOpen (Open locks changes call) = Unit {0}
 IsOpen (Aborting locks) = ⊥
 IsOpen (Committing number) = ⊥
 
--- one where the session has a transaction, or is undoing one
+-- one if the session has a transaction, or is undoing one
 abbrev pub opened_by : {B : Type 0} → Session B → ℕ
 opened_by Idle = 0
 opened_by (Open locks changes call) = 1

@@ -23,7 +23,7 @@ fn lacks_numbers(begins: bool, commits: u64, next: u64) -> bool
     begins && (commits >= LAST_NUMBER || next >= LAST_NUMBER)
 }
 
-/// The place of a session in the list, where there is one of that number.
+/// The place of a session in the list, if there is one of that number.
 fn place_of(session: u8) -> Option<usize>
     ensures place { MatchOption result (is_session session ≡ false) (λ place. (is_session session ≡ true)
         × (place ≡ session - 1)) }

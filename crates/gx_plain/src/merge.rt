@@ -22,8 +22,8 @@ fn gap<B: Shape>(e: &Entry<B>, set: &[Entry<B>]) -> usize
     }
 }
 
-/// Puts an entry behind so many places that are still free from `at` on, and moves what was from there up to `end`
-/// behind it.
+/// Puts an entry after so many places that are still free from `at` on, and moves what was from there up to `end` after
+/// it.
 #[tactic(auto, using(crate::proofs::merge::Merging::moved_front, crate::proofs::merge::Merging::moved_tail))]
 fn put_behind<B: Shape>(set: &mut [Entry<B>], at: usize, end: usize, free: usize, e: Entry<B>)
     requires order { at ≤ end }
@@ -61,7 +61,7 @@ fn put_last<B: Shape>(
     at
 }
 
-/// Merges these entries into the set of the first `count`, which has none of them. There is a place for each behind it.
+/// Merges these entries into the set of the first `count`, which has none of them. There is a place for each after it.
 fn merge_down<B: Shape>(more: &[Entry<B>], set: &mut [Entry<B>], count: usize)
     requires more_in_order { InOrder (keys_of B.Shape) more.now }
     requires in_order { InOrder (keys_of B.Shape) (take count set.old) }
@@ -79,7 +79,7 @@ fn merge_down<B: Shape>(more: &[Entry<B>], set: &mut [Entry<B>], count: usize)
     }
 }
 
-/// Puts each of these entries in its place, in one pass where the set has none of them. There is room for them all.
+/// Puts each of these entries in its place, in one pass if the set has none of them. There is room for them all.
 pub fn merge<B: Shape>(more: &[Entry<B>], set: &mut Vec<Entry<B>>)
     requires more { InOrder (keys_of B.Shape) more.now }
     requires in_order { InOrder (keys_of B.Shape) set.old.items }

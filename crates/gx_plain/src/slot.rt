@@ -102,11 +102,11 @@ impl<B: Shape> Slot<B> {
     /// Asks a call, where `least` is the least other session that conflicts and `spent` the claims held in all. It
     /// takes no memory.
     ///
-    /// The reply comes at once where the call is refused and for a Begin; else the call is open until it is
-    /// answered. Refusals, the first that holds: `CallOpen` where a call is open, or the session is aborting or waits
-    /// for its commit; `InTransaction` for a Begin in a transaction, `NoTransaction` for any other call outside of
-    /// one; `Busy` where a session is given that conflicts; `ClaimsFull` where 512 claims are spent, and
-    /// `PredicatesFull` where the session has 16, unless it holds this one already. A refused call changes nothing.
+    /// The reply comes at once if the call is refused and for a Begin; else the call is open until it is answered.
+    /// Refusals, the first that holds: `CallOpen` if a call is open, or the session is aborting or waits for its
+    /// commit; `InTransaction` for a Begin in a transaction, `NoTransaction` for any other call outside of one; `Busy`
+    /// if a session is given that conflicts; `ClaimsFull` if 512 claims are spent, and `PredicatesFull` if the session
+    /// has 16, unless it holds this one already. A refused call changes nothing.
     pub fn ask(&mut self, call: Call<B>, least: Option<u8>, spent: usize) -> Asked<B>
         requires { claims_of self.old ≤ spent }
         ensures asked { result ≡ (ask_session (keys_of B.Shape) call least spent self.old).0 }
@@ -335,7 +335,7 @@ impl<B: Shape> Slot<B> {
     }
 
     /// Seals its commit: the set becomes what its transaction sees, the number of commits rises by one and is the
-    /// commit's, and its claims and predicates are free. None, and nothing changes, where it has no commit open.
+    /// commit's, and its claims and predicates are free. None, and nothing changes, if it has no commit open.
     pub fn seal(&mut self, latest: &mut Vec<Entry<B>>, commits: &mut u64) -> Option<u64>
         requires in_order { InOrder (keys_of B.Shape) latest.old.items }
         requires room { vec_len latest.old + added_by self.old ≤ vec_capacity latest.old }
@@ -356,8 +356,7 @@ impl<B: Shape> Slot<B> {
         }
     }
 
-    /// Closes its open call without an answer: the call may be asked again. False, and nothing changes, where it has
-    /// none.
+    /// Closes its open call without an answer: the call may be asked again. False, and nothing changes, if it has none.
     pub fn drop_call(&mut self) -> bool
         ensures drops { SlotDrops self.old result self.new }
         ensures added { added_by self.new ≡ added_by self.old }
@@ -376,8 +375,8 @@ impl<B: Shape> Slot<B> {
     /// Answers the session. The set is the last committed one, for which there is room for all that sessions
     /// have added, and `commits` the number of commits. A commit that isn't sealed is sealed and answered in one.
     ///
-    /// Refusals: `NoCall` where nothing is open; `Present` for an insert of an entry that the session sees; `Absent`
-    /// for a delete of one that it doesn't; `Memory` for an insert or a search that needs memory and is refused it.
+    /// Refusals: `NoCall` if nothing is open; `Present` for an insert of an entry that the session sees; `Absent` for a
+    /// delete of one that it doesn't; `Memory` for an insert or a search that needs memory and is refused it.
     pub fn answer(
         &mut self,
         latest: &mut Vec<Entry<B>>,

@@ -1,6 +1,6 @@
 //! Numbers in bytes, the highest byte first.
 
-/// So many bytes from a place on, where there are so many.
+/// So many bytes from a place on, if there are so many.
 pub(crate) fn span(bytes: &[u8], at: usize, size: usize) -> Option<&[u8]> {
     bytes.get(at..at.checked_add(size)?)
 }

@@ -46,7 +46,7 @@ pub enum Damage {
     Page,
     /// An entry of a page has another length, another mark, or a child that isn't in use.
     Entry,
-    /// A node has too many entries, none where it needs one, or a sequence number above the counter.
+    /// A node has too many entries, none if it needs one, or a sequence number above the counter.
     Node,
     /// The counter doesn't fit the pages in use.
     Counter,

@@ -8,7 +8,7 @@ use std::alloc::{AllocError, Global};
 pub(crate) enum Place {
     /// Ahead of the log.
     Head,
-    /// In the log of this extent, in this body, behind so many bytes of whole records.
+    /// In the log of this extent, in this body, after so many bytes of whole records.
     Log(&'static str, usize, usize),
     /// This page can't be read.
     Unread(u32),

@@ -171,8 +171,8 @@ pub fn findings(alloc: Global, image: &[u8], class: u16) -> Result<Vec<Finding>,
 }
 
 /// Reads a device's bytes as an index of this class, 1 for boxes and 2 for intervals. Nothing is taken on trust: the
-/// bytes that an index has are tested one by one, and `Damage` says what the first test was that failed, where tests go
-/// from the sectors to the log, then the pages, then the tree.
+/// bytes that an index has are tested one by one, and `Damage` says which test failed first; tests go from the sectors
+/// to the log, then the pages, then the tree.
 pub fn read(alloc: Global, image: &[u8], class: u16) -> Result<Reading, Damage> {
     let (log, nodes) = match look(alloc, image, class)? {
         Ok(sound) => sound,

@@ -226,7 +226,7 @@ impl Log {
         Ok(())
     }
 
-    /// A small change of a page; none where its key is none of the class, which fits no page.
+    /// A small change of a page; none if its key is none of the class, which fits no page.
     fn test_change(
         &mut self,
         alloc: Global,

@@ -29,7 +29,7 @@ pub struct Child {
 pub struct Node {
     pub level: u16,
     pub nsn: u64,
-    /// The page to the right, 0 where there is none.
+    /// The page to the right, 0 if there is none.
     pub right: u32,
     pub pairs: Vec<Pair>,
     pub children: Vec<Child>,
@@ -115,7 +115,7 @@ fn pair_of(class: u16, item: &[u8]) -> Result<Pair, Damage> {
     })
 }
 
-/// Whether an inner node's entry may name a page, on a device of so many pages; where that isn't known, any.
+/// Whether an inner node's entry may name a page, on a device of so many pages; if that isn't known, any.
 fn may_name(pages: Option<u32>, page: u32) -> bool {
     match pages {
         Some(pages) => page > 0 && page <= pages,
@@ -156,7 +156,7 @@ fn children_of(
     Ok(children)
 }
 
-/// The node that a page's bytes spell, on a device of so many pages; where that isn't known, it may name any.
+/// The node that a page's bytes spell, on a device of so many pages; if that isn't known, it may name any.
 pub(crate) fn node_of(
     alloc: Global,
     class: u16,

@@ -1,4 +1,4 @@
-//! The records of bodies, one behind another.
+//! The records of bodies, one after another.
 use crate::bytes::{sector, span, u16_at, u32_at, u64_at};
 use crate::key::{Entry, KEY, Key, key_of};
 use crate::log::{Image, Log};
@@ -240,7 +240,7 @@ fn widen(class: u16, cursor: &mut Cursor<'_>) -> Option<Logged> {
     Some(Logged::Adjust(page, key.map(|key| Small::Bound(slot, key))))
 }
 
-/// The slots of a sweep, behind their count.
+/// The slots of a sweep, after their count.
 fn slots(cursor: &mut Cursor<'_>) -> Option<Slots> {
     let count = usize::from(cursor.byte()?);
     if count < 1 || count > SLOTS {
@@ -321,10 +321,10 @@ fn take_body(alloc: Global, log: &mut Log, image: &[u8], at: usize) -> Result<()
     Ok(())
 }
 
-/// How many places an extent has: so many gates, of a sector each, and behind them as many bodies, of 64 each.
+/// How many places an extent has: so many gates, of a sector each, and after them as many bodies, of 64 each.
 const PLACES: usize = 128;
 
-/// The records behind the leading open gates of an extent that begins at this sector, up to one that may not be there.
+/// The records after the leading open gates of an extent that begins at this sector, up to one that may not be there.
 pub(crate) fn take_extent(
     alloc: Global,
     log: &mut Log,

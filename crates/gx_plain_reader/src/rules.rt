@@ -1,7 +1,7 @@
-//! The rules that an image keeps: what is wrong where one is broken, and what the user reads then.
+//! The rules that an image keeps: what is wrong if one is broken, and what the user reads then.
 use crate::Damage;
 
-/// What is wrong where a rule is broken, and how a sentence about it ends.
+/// What is wrong if a rule is broken, and how a sentence about it ends.
 #[derive(Clone, Copy)]
 pub(crate) struct Rule(pub(crate) Damage, pub(crate) &'static str);
 

@@ -20,8 +20,8 @@ fn node(nodes: &[Node], page: u32) -> Option<&Node> {
     nodes.get((page as usize).checked_sub(1)?)
 }
 
-/// The chain of leaves from page 2 on, as far as it leads over leaves in use, none of them twice, and the page behind
-/// these; 0 where it ends.
+/// The chain of leaves from page 2 on, as far as it leads over leaves in use, none of them twice, and the page after
+/// these; 0 if it ends.
 fn chain(alloc: Global, nodes: &[Node]) -> Result<(Vec<u32>, u32), Damage> {
     let mut chain = Vec::new(alloc);
     let mut page = 2;

@@ -28,7 +28,7 @@ masked word from i start below = bit_at_and word (2 ^ 64 - 2 ^ from) i ∙ ap (m
 pub masked_away : (word from i : ℕ) → i < from → bit_at (bit_and word (2 ^ 64 - 2 ^ from)) i ≡ 0
 masked_away word from i before = bit_at_and word (2 ^ 64 - 2 ^ from) i ∙ ap (min (bit_at word i)) (bit_at_mask_below from 64 i before) ∙ with_none (bit_at word i)
 
--- where none is left, none is set from there on
+-- if none is left, none is set from there on
 pub none_left : (word from : ℕ) → bit_and word (2 ^ 64 - 2 ^ from) ≡ 0 → (i : ℕ) → from ≤ i → i < 64 → bit_at word i ≡ 0
 none_left word from none i start below = sym (masked word from i start below) ∙ ap (λ n. bit_at n i) none ∙ bit_at-zero i
 
@@ -95,7 +95,7 @@ next_word words from word none more n start before = elim (cases_lt n (64 * word
   | inr past ↦ more n past (omega (arith, past, before))
 ]
 
--- the first from a place on, where there is none before
+-- the first from a place on, if there is none before
 pub first_from : (words : List ℕ) (from place n : ℕ) → from ≤ place → ((k : ℕ) → from ≤ k → k < place → has words k ≡ 0) → IsFirst words place n → IsFirst words from n
 first_from words from place n order none is = record {
   start = omega (arith, order, is.start);

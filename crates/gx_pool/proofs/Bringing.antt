@@ -163,7 +163,7 @@ both_true : (a b : Bool) → (a && b) ≡ true → b ≡ true
 both_true true b is = is
 both_true false b is = absurd (grind arith)
 
--- where each clean frame has a page above the leaves, no leaf may go
+-- if each clean frame has a page above the leaves, no leaf may go
 spare_upper : (s : State) (page : ℕ) (k : Kept) (o : Option ℕ) → IsSound s → place_of s page ≡ o → kept s page ≡ Some k → IsSpare s page → NoCleanLeaf s → 0 < k.page.level
 spare_upper s page k None sound at is may none = absurd (none-some k (sym (kept_none s page at) ∙ is))
 spare_upper s page k (Some i) sound at is may none =
@@ -177,7 +177,7 @@ spare_upper s page k (Some i) sound at is may none =
 no_spare_leaf : (s : State) → IsSound s → NoCleanLeaf s → NoSpareLeaf s
 no_spare_leaf s sound none = λ page k is may. spare_upper s page k (place_of s page) sound refl is may none
 
--- where the frame's page alone goes, and it is above the leaves only if no leaf could, leaves go first
+-- if the frame's page alone goes, and it is above the leaves only if no leaf could, leaves go first
 pub first_leaves : (s t : State) (i : ℕ) → IsSound s → GoesAlone s t i → (is_upper_at s i ≡ true → NoCleanLeaf s) → LeavesGoFirst s t
 first_leaves s t i sound alone none = λ q k was gone upper. let none_is = none (upper_here s i q k sound (alone q k was gone) was upper) in (none_is, no_spare_leaf s sound none_is)
 
@@ -428,7 +428,7 @@ still_gone t u page r ne next gone = ⊎_elim (λ same. same ∙ gone) (λ is. i
 not_leaf : (level : ℕ) → 0 < level → level ≡ 0 → ⊥
 not_leaf level upper leaf = omega (arith, upper, leaf)
 
--- where one of these pages above the leaves goes as one more is brought, no leaf may, and what might have before is gone
+-- if one of these pages above the leaves goes as one more is brought, no leaf may, and what might have before is gone
 leaf_gone : (s t u : State) (pages : List ℕ) (page r : ℕ) (l : Kept) → s.held ≡ pages → t.held ≡ s.held → is_held pages (Some page) ≡ true → AllOthersStayOrGo s t pages → OthersStayOrGo t u page → NoSpareLeaf t
     → kept s r ≡ Some l → IsSpare s r → l.page.level ≡ 0 → kept u r ≡ None
 leaf_gone s t u pages page r l held held_t named first next none is may leaf =
@@ -531,13 +531,13 @@ pub refused_as : (passes : Contents → Bool) (d f : Device) (s u : State) (page
 refused_as passes d f s u pages (Ok a) fault P is same all = absurd is
 refused_as passes d f s u pages (Err found) fault P is same all = rw (same found is) all
 
--- ---- where nothing is to be read
+-- ---- if nothing is to be read
 
 pub same_held_kept : (s : State) (pages : List ℕ) (page : ℕ) → kept (holding s pages) page ≡ kept s page
 unfolding kept
 same_held_kept s pages page = refl
 
--- where all pages are kept, or no frame is clean, the next one is idle too
+-- if all pages are kept, or no frame is clean, the next one is idle too
 pub idle_next : (s t : State) (pages : List ℕ) (n page : ℕ) → n < length pages → page ≡ get_or pages n 0 → t ≡ holding s pages → AllKept s pages ⊎ NoneClean (holding s pages)
     → IsSome (kept t page) ⊎ NoneClean t
 idle_next s t pages n page inside is same (inl all) = inl (rw (same, same_held_kept s pages page, is) (all n inside))

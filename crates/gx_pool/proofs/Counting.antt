@@ -31,7 +31,7 @@ unfolding Counted
 some_counted p [] d positive = absurd (omega arith)
 some_counted p (x ∷ xs) d positive = some_next p x xs d (p x) refl (some_counted p xs d) positive
 
--- where one that passed is one that doesn't, one fewer passes
+-- if one that passed is one that doesn't, one fewer passes
 pub one_fewer : {A : Type 0} → (p : A → Bool) (xs : List A) (i : ℕ) (x d : A) → i < length xs → p (get_or xs i d) ≡ true → p x ≡ false → count_by p (set xs i x) + 1 ≡ count_by p xs
 one_fewer p xs i x d inside was is =
     let all = sum_by-set (λ y. cond (p y) 1 0) xs i x d inside in
@@ -43,14 +43,14 @@ one_fewer p xs i x d inside was is =
 pub counted_set : {A : Type 0} → (p : A → Bool) (xs : List A) (i : ℕ) (x d : A) → i < length xs → count_by p (set xs i x) + cond (p (get_or xs i d)) 1 0 ≡ count_by p xs + cond (p x) 1 0
 counted_set p xs i x d inside = sum_by-set (λ y. cond (p y) 1 0) xs i x d inside
 
--- and where both pass or neither, as many
+-- and if both pass or neither, as many
 pub as_many : {A : Type 0} → (p : A → Bool) (xs : List A) (i : ℕ) (x d : A) → i < length xs → p (get_or xs i d) ≡ p x → count_by p (set xs i x) ≡ count_by p xs
 as_many p xs i x d inside same =
     let all = counted_set p xs i x d inside in
     let one : (let n : ℕ = cond (p (get_or xs i d)) 1 0 in n) ≡ cond (p x) 1 0 = ap (λ b. cond b 1 0) same in
     omega (arith, all, one)
 
--- where one that didn't pass is one that does, one more passes
+-- if one that didn't pass is one that does, one more passes
 pub one_more : {A : Type 0} → (p : A → Bool) (xs : List A) (i : ℕ) (x d : A) → i < length xs → p (get_or xs i d) ≡ false → p x ≡ true → count_by p (set xs i x) ≡ count_by p xs + 1
 one_more p xs i x d inside was is =
     let all = counted_set p xs i x d inside in
@@ -67,7 +67,7 @@ counted_at p (x ∷ xs) (suc i) d inside =
     let rest = counted_at p xs i d (omega arith) in
     omega (arith, next, rest)
 
--- where each item that passes one of two tests passes a third, and no other does, the counts add up
+-- if each item that passes one of two tests passes a third, and no other does, the counts add up
 pub counts_joined : {A : Type 0} → (p q r : A → Bool) (xs : List A) → ((x : A) → cond (p x) 1 0 + cond (q x) 1 0 ≡ cond (r x) 1 0) → count_by p xs + count_by q xs ≡ count_by r xs
 counts_joined p q r [] each = refl
 counts_joined p q r (x ∷ xs) each =
@@ -77,7 +77,7 @@ counts_joined p q r (x ∷ xs) each =
     let rest = counts_joined p q r xs each in
     omega (arith, one, two, all, rest, each x)
 
--- where each item passes one of three tests, all are counted
+-- if each item passes one of three tests, all are counted
 pub all_counted : {A : Type 0} → (p q r : A → Bool) (xs : List A) → ((x : A) → cond (p x) 1 0 + cond (q x) 1 0 + cond (r x) 1 0 ≡ 1) → count_by p xs + count_by q xs + count_by r xs ≡ length xs
 all_counted p q r [] each = refl
 all_counted p q r (x ∷ xs) each =
@@ -91,7 +91,7 @@ pub false_of : (b : Bool) → (b ≡ true → ⊥) → b ≡ false
 false_of true never = absurd (never refl)
 false_of false never = refl
 
--- where only the item at one place may pass, it alone is counted
+-- if only the item at one place may pass, it alone is counted
 pub one_counted : {A : Type 0} → (p : A → Bool) (xs : List A) (i : ℕ) (d : A) → i < length xs → ((k : ℕ) → k < length xs → p (get_or xs k d) ≡ true → k ≡ i) → count_by p xs ≡ cond (p (get_or xs i d)) 1 0
 one_counted p [] i d inside only = absurd (omega arith)
 one_counted p (x ∷ xs) zero d inside only =

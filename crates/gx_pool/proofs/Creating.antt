@@ -15,11 +15,11 @@ use Rattle.gx_pool.proofs.Counting.{none_counted, one_fewer, false_of}
 use Rattle.gx_pool.proofs.Going.{goes_one}
 use Rattle.gx_pool.proofs.Numbers.{then_dirty}
 
--- where none is clean, so many are
+-- if none is clean, so many are
 pub none_clean_counted : (s : State) → NoneClean s → clean_count s ≡ 0
 none_clean_counted s none = none_counted (clean s.held) s.marks empty none
 
--- a frame is clean, where some are
+-- a frame is clean, if some are
 pub no_frame : (s : State) → 0 < clean_count s → NoneClean s → ⊥
 no_frame s positive none = let counted = none_clean_counted s none in omega (arith, counted)
 

@@ -1,4 +1,4 @@
--- Why a write of one page leaves the others' sectors as they were.
+-- Why a write of one page leaves the others' sectors unchanged.
 use Rattle.std.proofs.Common.{◌≡◌, ◌≢◌, ◌∙◌, sym, ap, subst, refl, inl, inr, ℕ, ◌≤◌, Bool, true, false, Result, arith}
 use Rattle.std.proofs.lemmas.Bool.{cases_lt}
 use Rattle.gx_disk.specs.declared.layout.TheConstants.{PAGE_SECTORS}

@@ -23,7 +23,7 @@ listed_has : (o : Option ℕ) (q : ℕ) → o ≡ Some q → Contains (listed o)
 unfolding listed
 listed_has o q is = rw is (Contains-push [] q)
 
--- where the frame's page alone goes, at most one does
+-- if the frame's page alone goes, at most one does
 pub goes_one : (s t : State) (i : ℕ) → GoesAlone s t i → AtMostGo s t 1
 goes_one s t i alone = record { gone = listed (mark_at s i).page; few = listed_one (mark_at s i).page; all = λ q k was gone. listed_has (mark_at s i).page q (alone q k was gone) }
 
@@ -40,7 +40,7 @@ goes_few s t i page absent alone =
     let one : AtMostGo s t 1 = goes_one s t i alone in
     record { gone = one.gone; few = rw (one_missing s page true (ap is_none absent)) one.few; all = one.all }
 
--- where nothing changes, none goes
+-- if nothing changes, none goes
 pub none_goes : (s t : State) (most : ℕ) → t ≡ s → AtMostGo s t most
 none_goes s t most same = record { gone = []; few = omega arith; all = λ q k was gone. absurd (none-some k (sym gone ∙ ap (λ v. kept v q) same ∙ was)) }
 

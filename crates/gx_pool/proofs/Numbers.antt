@@ -35,7 +35,7 @@ is_same page = grind arith
 first_held : State → ℕ → FrameMark → Bool
 first_held s n mark = is_none mark.stamp && is_held (take n s.held) mark.page
 
--- whether a frame has the next one, clean, where it is none of those
+-- whether a frame has the next one, clean, if it is none of those
 next_held : State → ℕ → FrameMark → Bool
 next_held s n mark = not (is_held (take n s.held) (Some (get_or s.held n 0))) && (is_none mark.stamp && is_page (get_or s.held n 0) mark.page)
 
@@ -200,7 +200,7 @@ page_in None = 0
 page_in (Some page) = page
 
 module _ (s t : State) (sound : IsSound s) (other : IsSound t) (same : (page : ℕ) → stamp_of (kept t page) ≡ stamp_of (kept s page)) where
-  -- where the page of a frame is in the other pool
+  -- if the page of a frame is in the other pool
   place_there : ℕ → ℕ
   place_there i = page_in (place_of t (page_in (mark_at s i).page))
 
@@ -334,11 +334,11 @@ cleaned_held s i page inside at was held =
 
 -- ---- a frame's page
 
--- as many are dirty where a frame that wasn't dirty isn't
+-- as many are dirty if a frame that wasn't dirty isn't
 pub still_clean : (s : State) (i : ℕ) (mark : FrameMark) → i < length s.marks → (mark_at s i).stamp ≡ None → mark.stamp ≡ None → count_by is_dirty (set s.marks i mark) ≡ dirty_count s
 still_clean s i mark inside was is = as_many is_dirty s.marks i mark empty inside (ap is_some was ∙ sym (ap is_some is))
 
--- and one more where it is
+-- and one more if it is
 pub then_dirty : (s : State) (i : ℕ) (mark : FrameMark) → i < length s.marks → (mark_at s i).stamp ≡ None → is_dirty mark ≡ true → count_by is_dirty (set s.marks i mark) ≡ dirty_count s + 1
 then_dirty s i mark inside was is = one_more is_dirty s.marks i mark empty inside (ap is_some was) is
 

@@ -85,7 +85,7 @@ OthersStayOrGo old new page = (q : ℕ) → q ≢ page → (kept new q ≡ kept 
 abbrev pub AllOthersStayOrGo : State → State → List ℕ → Type 0
 AllOthersStayOrGo old new pages = (q : ℕ) → is_held pages (Some q) ≡ false → (kept new q ≡ kept old q) ⊎ (kept new q ≡ None)
 
--- Where a page above the leaves went, each leaf that might go went too.
+-- If a page above the leaves went, each leaf that might go went too.
 abbrev pub LeavesWentFirst : State → State → Type 0
 LeavesWentFirst old new = (q : ℕ) (k : Kept) → kept old q ≡ Some k → kept new q ≡ None → 0 < k.page.level
     → (r : ℕ) (l : Kept) → kept old r ≡ Some l → IsSpare old r → l.page.level ≡ 0 → kept new r ≡ None
@@ -111,15 +111,15 @@ pub record Refuted (passes : Contents → Bool) (d : Device) (old new : State) (
   pub left : SomeClean new
   pub damaged : d.honest ≡ true → ¬ IsPassing passes page (bytes_of d.seen page)
 
--- What an answer for one page says: it is kept; or it isn't, and no frame is clean for the event; or one is, and the device
--- failed; or one is, and what an honest device has is no page of that number that passes the test.
+-- What a result for one page says: it is kept; or it isn't, and no frame is clean for the event; or one is, and the
+-- device failed; or one is, and what an honest device has is no page of that number that passes the test.
 abbrev pub Answers : {A : Type 0} → (Contents → Bool) → Device → State → State → ℕ → Result A PoolFault → Type 0
 Answers passes d old new page (Ok a) = IsSome (kept new page)
 Answers passes d old new page (Err NoCleanFrame) = NoFrame old new page
 Answers passes d old new page (Err DeviceFault) = Unread old new page
 Answers passes d old new page (Err Damaged) = Refuted passes d old new page
 
--- One page was brought. None goes for it where it was kept, and at most one where it wasn't.
+-- One page was brought. None goes for it if it was kept, and at most one if it wasn't.
 pub record BringsOne {A : Type 0} (passes : Contents → Bool) (d e : Device) (old new : State) (page : ℕ) (result : Result A PoolFault) : Type 0 where
   pub brings : Brings passes d.honest d.seen old new
   pub alone : ComesAlone old new page
@@ -144,9 +144,9 @@ pub record IsFirstMissing (s : State) (pages : List ℕ) (k : ℕ) : Type 0 wher
 abbrev pub FirstMissing : State → List ℕ → (ℕ → Type 0) → Type 0
 FirstMissing s pages P = (k : ℕ) × IsFirstMissing s pages k × P (slice_index pages k)
 
--- What an answer for several pages says: each is kept; or those before one are, that one isn't, and no frame is clean for
--- the event; or one is, and the device failed; or one is, the page wasn't kept, and what an honest device has is no page of
--- that number that passes the test.
+-- What a result for several pages says: each is kept; or those before one are, that one isn't, and no frame is clean
+-- for the event; or one is, and the device failed; or one is, the page wasn't kept, and what an honest device has is no
+-- page of that number that passes the test.
 abbrev pub AnswersAll : {A : Type 0} → (Contents → Bool) → Device → State → State → List ℕ → Result A PoolFault → Type 0
 AnswersAll passes d old new pages (Ok a) = AllKept new pages
 AnswersAll passes d old new pages (Err NoCleanFrame) = FirstMissing new pages (λ page. NoneClean new)

@@ -9,7 +9,7 @@ use Rattle.gx_pool.specs.Laws.{IsBacked, shown}
 use Rattle.gx_pool.specs.Readable.{IsReadable}
 use Rattle.gx_pool.specs.State.{State}
 
--- Only sectors ahead of page 1 may read otherwise, or be pending where they were settled.
+-- Only sectors ahead of page 1 may read otherwise, or be pending if they were settled.
 pub record LeavesPages (d e : Device) : Type 0 where
   pub first : ℕ
   pub count : ℕ

@@ -10,11 +10,11 @@ use Rattle.gx_pool.specs.Words.{has, OthersStay}
 abbrev pub IsListed : ℕ → Queue → ℕ → ℕ → Type 0
 IsListed gated q page batch = (has q.ready page ≡ 1) ⊎ ((has q.waiting page ≡ 1) × (gated < batch))
 
--- each frame's page is, where it is dirty
+-- each frame's page is, if it is dirty
 abbrev pub AreListed : ℕ → List FrameMark → Queue → Type 0
 AreListed gated marks q = (i page batch : ℕ) → (slice_index_or marks i empty).page ≡ Some page → (slice_index_or marks i empty).stamp ≡ Some batch → IsListed gated q page batch
 
--- Each frame's page is listed, where it is dirty; and of those that wait, those below a number aren't in gated batches.
+-- Each frame's page is listed, if it is dirty; and of those that wait, those below a number aren't in gated batches.
 abbrev pub AreListedBelow : ℕ → ℕ → List FrameMark → Queue → Type 0
 AreListedBelow below gated marks q = (i page batch : ℕ) → (slice_index_or marks i empty).page ≡ Some page → (slice_index_or marks i empty).stamp ≡ Some batch
     → (has q.ready page ≡ 1) ⊎ ((has q.waiting page ≡ 1) × (page < below → gated < batch))

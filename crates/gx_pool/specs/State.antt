@@ -19,7 +19,7 @@ pub record State : Type 0 where
   -- the last batch that is gated
   pub gated : ℕ
 
--- a page that is kept, and the greatest batch that has a change of it, none where it is as the device has it
+-- a page that is kept, and the greatest batch that has a change of it, none if it is as the device has it
 pub record Kept : Type 0 where
   pub page : Contents
   pub stamp : Option ℕ

@@ -2,7 +2,7 @@
 use Rattle.std.specs.Prelude.{◌≡◌, ◌≢◌, ℕ, ◌<◌, ◌≤◌, ◌/◌, ◌%◌, List, slice_index_or}
 use Rattle.std.specs.Int.{bit_at}
 
--- 1 where the set has the number, otherwise 0
+-- 1 if the set has the number, otherwise 0
 abbrev pub has : List ℕ → ℕ → ℕ
 has words n = bit_at (slice_index_or words (n / 64) 0) (n % 64)
 

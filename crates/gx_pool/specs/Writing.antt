@@ -10,8 +10,8 @@ use Rattle.gx_pool.specs.Laws.{IsBacked, shown}
 use Rattle.gx_pool.specs.Marks.{is_gated, is_held}
 use Rattle.gx_pool.specs.State.{State, Kept, clean_count, dirty_count, kept, stamp_of}
 
--- A kept page was written to its sectors, as the image that reads back as it. Where that succeeded, it is clean, one
--- page fewer is dirty, and its frame is clean too unless the event holds the page; where it failed, all is kept
+-- A kept page was written to its sectors, as the image that reads back as it. If that succeeded, it is clean, one
+-- page fewer is dirty, and its frame is clean too unless the event holds the page; if it failed, all is kept
 -- unchanged.
 pub record WritesPage {A E : Type 0} (d e : Device) (old new : State) (page : ℕ) (k : Kept) (result : Result A E) : Type 0 where
   pub counts : Counts 1 d e result
@@ -38,7 +38,7 @@ contents_of None = None
 contents_of (Some k) = Some k.page
 
 -- At most a page was written, whether that succeeded, failed, or wasn't to be done. Of an honest device only the page's
--- eight sectors may read otherwise, or be pending where they were settled, and time went on; at most one call was made.
+-- eight sectors may read otherwise, or be pending if they were settled, and time went on; at most one call was made.
 -- Each other page is kept unchanged, and this one with the same contents. What is dirty was so, with the same stamp; no
 -- more pages are dirty, and no fewer frames are clean.
 pub record WritesAtMost (d e : Device) (old new : State) (page : ℕ) : Type 0 where
@@ -58,7 +58,7 @@ pub record WritesAtMost (d e : Device) (old new : State) (page : ℕ) : Type 0 w
 abbrev pub may_be_written : State → ℕ → Bool
 may_be_written s page = is_gated s.gated (stamp_of (kept s page))
 
--- a page that is kept was written, where all its changes are gated
+-- a page that is kept was written, if all its changes are gated
 abbrev pub WritesGated : {A E : Type 0} → Device → Device → State → State → ℕ → Result A E → Type 0
 WritesGated d e old new page result = (k : Kept) → kept old page ≡ Some k → is_gated old.gated k.stamp ≡ true → WritesPage d e old new page k result
 

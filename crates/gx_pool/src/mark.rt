@@ -60,7 +60,7 @@ pub(crate) fn place_in(places: &[Option<u16>], page: usize) -> Option<usize>
     }
 }
 
-/// The stamp of a page, none where it isn't kept or is clean.
+/// The stamp of a page, none if it isn't kept or is clean.
 pub(crate) fn stamp_of(marks: &[FrameMark], places: &[Option<u16>], page: usize) -> Option<u64>
     requires placed { ArePlaced marks.now places.now }
     requires page { page < length places.now }

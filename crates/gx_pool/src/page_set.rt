@@ -81,7 +81,7 @@ impl PageSet {
         }
     }
 
-    /// The least page of the set behind the word of a number that has none from that number on.
+    /// The least page of the set after the word of a number that has none from that number on.
     #[tactic(auto, using(crate::proofs::page_set::PageSets::word_inside, crate::proofs::page_set::PageSets::least_later, crate::proofs::page_set::PageSets::some_later, crate::proofs::page_set::PageSets::none_later))]
     fn first_behind(&self, from: usize) -> Option<usize>
         requires from { from ≤ MAX_PAGES + 1 }

@@ -249,7 +249,7 @@ impl<T: PageTest> Pool<T> {
     /// else does nothing. Once it is written it is clean, and its frame may be used for another page.
     ///
     /// Whether it succeeds or not, no sector but the page's eight changes, each other page is kept unchanged, and each
-    /// dirty page was dirty before with the same stamp. So where the sectors of all pages but some are settled, and the
+    /// dirty page was dirty before with the same stamp. So if the sectors of all pages but some are settled, and the
     /// pages that may be written are among those, a crash at any moment of the call leaves each other page's bytes.
     ///
     /// Whether it succeeds or not, if each clean page is what an honest device has, each page is shown as before: as
@@ -298,8 +298,8 @@ impl<T: PageTest> Pool<T> {
         self.frames.set_gated(batch);
     }
 
-    /// Notes that a checkpoint has ended: the log goes on behind batch 0, which is gated, in the other extent. All
-    /// pages were written before.
+    /// Notes that a checkpoint has ended: the log goes on after batch 0, which is gated, in the other extent. All pages
+    /// were written before.
     pub fn turned(&mut self)
         requires { NoneDirty self.old.frames }
         ensures { self.new ≡ record self.old { frames = record self.old.frames { gated = 0 } } }

@@ -25,7 +25,7 @@ impl Queue {
         })
     }
 
-    /// Lists a page by its stamp, where batches up to this one are gated.
+    /// Lists a page by its stamp, if batches up to this one are gated.
     pub(crate) fn list(&mut self, page: u32, stamp: Option<u64>, gated: u64)
         requires { page ≤ MAX_PAGES }
         ensures listed { (batch : ℕ) → stamp ≡ Some batch → IsListed gated self.new page batch }

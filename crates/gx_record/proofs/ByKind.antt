@@ -10,7 +10,7 @@ use Rattle.gx_record.specs.Slots.{slots_bytes}
 use Rattle.gx_record.proofs.Fields.{bind_some, some_is, Takes, takes-then, bytes_take, number_8_takes, number_4_takes, number_2_takes, mark_takes, page_takes, numbered_takes, images_take, entry_takes}
 use Rattle.gx_record.proofs.SlotFields.{slots_take}
 
--- what was taken behind the byte of a kind
+-- what was taken after the byte of a kind
 pub record TakesRecord (key tag : ℕ) (bytes : List ℕ) (x : Rec × List ℕ) : Type 0 where
   pub takes : Takes (tag ∷ bytes) (spelling x.0) x.1
   pub is_record : IsRecord key x.0

@@ -253,7 +253,7 @@ pub record TakesImages (bytes : List ℕ) (x : List (ℕ × List ℕ) × List �
   pub few : length x.0 ≤ 3
   pub pages : ArePages 0 x.0
 
--- pages behind their count
+-- pages after their count
 counted : (count : ℕ) (rest : List ℕ) (x : List (ℕ × List ℕ) × List ℕ) → 1 ≤ count → count ≤ 3 → AreBytes rest → rising_at count 0 rest ≡ Some x → TakesImages (count ∷ rest) x
 counted count rest x some few are e =
     let t = rising_takes count 0 rest x are e in

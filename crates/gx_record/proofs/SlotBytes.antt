@@ -40,7 +40,7 @@ slots_back (high ∷ low ∷ bytes) are =
     ap (λ (l : List ℕ). l ++ slots_bytes (slots_in bytes)) one ∙ ap (λ (l : List ℕ). high ∷ low ∷ l) others
     ∙ ap (λ (n : ℕ). take n (high ∷ low ∷ bytes)) size
 
--- all of the bytes, where none is left over
+-- all of the bytes, if none is left over
 pub slots_back_whole : (count : ℕ) (bytes : List ℕ) → AreBytes bytes → length bytes ≡ SLOT_NUMBER * count → slots_bytes (slots_in bytes) ≡ bytes
 slots_back_whole count bytes are long =
     let size = length-whole count bytes long in
@@ -83,7 +83,7 @@ pub two_bytes : (high low : ℕ) → u16_of (high ∷ low ∷ []) ≡ high * 256
 unfolding u16_of
 two_bytes high low = omega arith
 
--- whether slots rise, by the first of them and those behind it
+-- whether slots rise, by the first of them and those after it
 pub rise_step : (least slot : ℕ) (bytes : List ℕ) → 2 ≤ length bytes → slot ≡ get_or bytes 0 0 * 256 + get_or bytes 1 0
     → rise_from least (slots_in bytes) ≡ leb least slot && rise_from (slot + 1) (slots_in (take (length bytes - 2) (drop 2 bytes)))
 rise_step least slot [] some e = absurd (omega (arith, some))

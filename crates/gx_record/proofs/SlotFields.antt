@@ -22,7 +22,7 @@ refused_or : {A : Type 0} (b : Bool) (o : Option A) (y : A) → cond b None o �
 refused_or false o y e = (refl, e)
 refused_or true o y e = absurd cc
 
--- slots behind their count
+-- slots after their count
 counted : (count : ℕ) (rest : List ℕ) (x : List ℕ × List ℕ) → 1 ≤ count → count ≤ 100 → AreBytes rest → rising_slots_at count rest ≡ Some x → TakesSlots (count ∷ rest) x
 unfolding rising_slots_at
 counted count rest x some few are e =

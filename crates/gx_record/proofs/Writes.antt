@@ -1,4 +1,4 @@
--- One field written behind another, and how long a spelling is.
+-- One field written after another, and how long a spelling is.
 use Rattle.std.proofs.Common.{◌≡◌, ℕ, ◌+◌, ◌*◌, ◌≤◌, List, [], ◌∷◌, ◌++◌, length, drop, ap, sym, ◌∙◌, arith, length-append, append_assoc, subst}
 use Rattle.std.proofs.lemmas.List.{append-nil}
 use Rattle.std.specs.List.{AllByRecursion}
@@ -14,7 +14,7 @@ use Rattle.gx_record.specs.Slots.{slots_bytes}
 use Rattle.gx_record.proofs.Numbers.{length-u64_bytes, length-u32_bytes, length-u16_bytes}
 use Rattle.gx_record.proofs.SlotBytes.{length-slots_bytes}
 
--- a text behind another one
+-- a text after another one
 pub then_wrote : {old now new : List ℕ} {at mid end : ℕ} {text more : List ℕ} → Wrote old now at text mid → Wrote now new mid more end → Wrote old new at (text ++ more) end
 then_wrote {old = old} {now = now} {new = new} {at = at} {mid = mid} {end = end} {text = text} {more = more} h k =
     let long : length (text ++ more) ≡ length text + length more = length-append text more in

@@ -13,7 +13,7 @@ abbrev pub ◌>>=◌ : {A B : Type 0} → Option A → (A → Option B) → Opti
 None >>= f = None
 (Some x) >>= f = f x
 
--- what a function answered, seen by view, is what reading gives
+-- what a function returned, seen by view, is what reading gives
 abbrev pub Reads : {X Y : Type 0} → (X → Y) → Option X → Option Y → Type 0
 Reads view None read = read ≡ None
 Reads view (Some x) read = read ≡ Some (view x)
@@ -71,7 +71,7 @@ rising_at (suc count) least bytes = do
   others ← rising_at count (first.0.0 + 1) first.1
   Some (first.0 ∷ others.0, others.1)
 
--- one to three pages, behind their count
+-- one to three pages, after their count
 unfoldable pub images_at : List ℕ → Option (List (ℕ × List ℕ) × List ℕ)
 images_at [] = None
 images_at (zero ∷ rest) = None
@@ -156,7 +156,7 @@ rising_slots_at count bytes = do
   front ← bytes_at (SLOT_NUMBER * count) bytes
   if rise_from 0 (slots_in front.0) then Some (slots_in front.0, front.1) else None
 
--- one slot to the most, behind their count
+-- one slot to the most, after their count
 unfoldable pub slots_at : List ℕ → Option (List ℕ × List ℕ)
 slots_at [] = None
 slots_at (count ∷ rest) = if nat_lt count 1 || nat_lt 100 count then None else rising_slots_at count rest
@@ -167,7 +167,7 @@ sweep_at bytes = do
   slots ← slots_at page.1
   Some (Sweep page.0 slots.0, slots.1)
 
--- the fields behind a byte for the kind
+-- the fields after a byte for the kind
 unfoldable pub fields_at : ℕ → ℕ → List ℕ → Option (Rec × List ℕ)
 fields_at size tag bytes =
     if tag == 1 then pages_at bytes

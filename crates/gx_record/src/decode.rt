@@ -1,4 +1,4 @@
-//! Reading a record from the front of bytes, field by field. Each function answers what it read and the bytes after it.
+//! Reading a record from the front of bytes, field by field. Each function returns what it read and the bytes after it.
 ghost use Rattle.std.specs.Prelude.{◌≡◌, ◌≤◌};
 ghost use Rattle.gx_record.specs.Reading.{Reads, bytes_at, number_8_at, number_4_at, number_2_at, mark_at, page_at};
 ghost use Rattle.gx_record.specs.Reading.{is_image_of, image_at, numbered_at, rising_at, images_at, pages_at};
@@ -129,7 +129,7 @@ fn three_at(bytes: &[u8]) -> Option<(PageImages<'_>, &[u8])>
     Some((PageImages::Three(first, second, third), rest))
 }
 
-/// One to three pages, behind their count.
+/// One to three pages, after their count.
 #[tactic(auto, unfolding(crate::specs::Reading::images_at))]
 fn images_at(bytes: &[u8]) -> Option<(PageImages<'_>, &[u8])>
     ensures { Reads (λ x. (images x.0, x.1.now)) result (images_at bytes.now) }
@@ -298,7 +298,7 @@ fn rising_slots_at(bytes: &[u8], count: usize) -> Option<(Slots<'_>, &[u8])>
     Some((slots, rest))
 }
 
-/// One slot to the most, behind their count.
+/// One slot to the most, after their count.
 #[tactic(auto, unfolding(crate::specs::Reading::slots_at))]
 fn slots_at(bytes: &[u8]) -> Option<(Slots<'_>, &[u8])>
     ensures { Reads (λ x. (slots_of x.0, x.1.now)) result (slots_at bytes.now) }

@@ -1,4 +1,4 @@
-//! Writing a record's spelling, field by field. Each function that writes answers the place behind what it wrote.
+//! Writing a record's spelling, field by field. Each function that writes returns the place after what it wrote.
 ghost use Rattle.std.specs.Prelude.{◌≡◌, ◌+◌, ◌≤◌, ◌++◌, ◌∷◌, ◌*◌, [], length};
 ghost use Rattle.std.specs.List.{AllByRecursion};
 ghost use Rattle.gx_record.specs.Bytes.{u64_bytes, u32_bytes, u16_bytes, mark_byte};
@@ -110,7 +110,7 @@ fn put_page(out: &mut [u8], at: usize, page: u32, image: &[u8]) -> usize
     put_bytes(out, at, image)
 }
 
-/// Writes pages behind their count.
+/// Writes pages after their count.
 fn put_pages(out: &mut [u8], at: usize, pages: &PageImages<'_>) -> usize
     requires room { at + (1 + NUMBERED_IMAGE * length (images pages.now)) ≤ length out.old }
     requires whole { AllByRecursion IsWhole (images pages.now) }
@@ -218,7 +218,7 @@ fn write_widen(out: &mut [u8], page: u32, slot: u16, key: &[u8]) -> usize
     put_bytes(out, at, key)
 }
 
-/// Writes slots behind their count.
+/// Writes slots after their count.
 fn put_slots(out: &mut [u8], at: usize, slots: &Slots<'_>) -> usize
     requires few { length (slots_of slots.now) ≤ MOST_SLOTS }
     requires room { at + (1 + SLOT_NUMBER * length (slots_of slots.now)) ≤ length out.old }

@@ -48,7 +48,7 @@ impl<'a> PageImages<'a> {
         }
     }
 
-    /// The page at a place, counted from 0. None behind the last.
+    /// The page at a place, counted from 0. None after the last.
     pub fn get(&self, place: usize) -> Option<PageImage<'a>>
         ensures { option_map numbered result ≡ slice_get (images self.now) place }
     {

@@ -96,7 +96,7 @@ impl<'a> Record<'a> {
         encode::length_of(self)
     }
 
-    /// Writes the record's spelling at the front, and answers how many bytes it has. None if there is no room for it,
+    /// Writes the record's spelling at the front, and returns how many bytes it has. None if there is no room for it,
     /// and nothing is then written.
     #[tactic(auto, using(crate::proofs::Writes::in_range_sized, crate::proofs::Writes::front_wrote))]
     pub fn encode_into(&self, out: &mut [u8]) -> Option<usize>

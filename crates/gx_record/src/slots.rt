@@ -28,7 +28,7 @@ impl<'a> Slots<'a> {
         self.bytes.len() / SLOT_NUMBER
     }
 
-    /// The slot at a place, counted from 0. None behind the last.
+    /// The slot at a place, counted from 0. None after the last.
     pub fn get(&self, place: usize) -> Option<u16>
         ensures { result ≡ slice_get (slots self.now) place }
     {

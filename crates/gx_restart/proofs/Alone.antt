@@ -39,7 +39,7 @@ use Rattle.gx_engine.proofs.Running.{ran}
 use Rattle.gx_restart.specs.Alone.{CallsAlone, HaveHappened, RunsAs, RunsOn}
 use Rattle.gx_engine.specs.Driven.{AreDriven, IsDriven, IsGivenUp}
 use Rattle.gx_engine.specs.Helping.{AskedEnds, HoldsIndex}
-use Rattle.gx_restart.specs.Called.{CallsBy, CallsIndex}
+use Rattle.gx_restart.specs.Called.{CallsBy, CallsIndex, StepsBy}
 use Rattle.gx_engine.specs.Made.{AreMade, Makes}
 use Rattle.gx_restart.specs.Settled.{SettlesBy, SettlesOn}
 use Rattle.gx_restart.specs.States.{State}
@@ -145,6 +145,11 @@ module _ {C B D : Type 0} (shape : Members B) (proper : B → Bool) (said : List
   calls_run true old s call reply new calls = runs_same old.engine new.engine (ap (λ x. x.engine) calls.1)
   calls_run false old s call reply new (inl calls) = runs_made calls.0.steps old.engine new.engine calls.0.made
   calls_run false old s call reply new (inr given_up) = runs_made given_up.0.1.steps old.engine new.engine given_up.0.1.made
+
+  -- one event
+  pub steps_run : (ended : Bool) (old : State B D) (event : Event B) (given : Outcome B) (new : State B D) → StepsBy makes ended old event given new → Runs old.engine new.engine
+  steps_run true old event given new steps = runs_same old.engine new.engine (ap (λ x. x.engine) steps.1)
+  steps_run false old event given new steps = runs_made ((event, given) ∷ []) old.engine new.engine (new.engine, steps.0, refl)
 
   -- the events of a settling
   settled_on : (old : Parts B D) (result : Result (Unit {0}) Refusal) (new : Parts B D) → SettlesOn makes old result new → (steps : List (Event B × Outcome B)) × AreMade makes old steps new

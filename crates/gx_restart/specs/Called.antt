@@ -1,4 +1,4 @@
--- A call that is run to its end.
+-- A call that is run to its end, and one event.
 use Rattle.std.specs.Prelude.{ℕ, ◌≡◌, ◌⊎◌, Bool, true, false, List}
 use Rattle.gx_class.specs.Traits.{Traits}
 use Rattle.gx_disk.specs.Device.{Device}
@@ -11,6 +11,7 @@ use Rattle.gx_machine.specs.declared.reply.Reply.TheVariants.{Refused}
 use Rattle.gx_events.specs.declared.event.Event.{Event}
 use Rattle.gx_events.specs.declared.event.Event.TheVariants.{Ask}
 use Rattle.gx_events.specs.declared.outcome.Outcome.{Outcome}
+use Rattle.gx_events.specs.declared.outcome.Outcome.TheVariants as outcome
 use Rattle.gx_recovery.specs.Known.{Limits}
 use Rattle.gx_recovery.specs.Records.{Record}
 use Rattle.gx_index_laws.specs.Classes.{Page}
@@ -32,6 +33,15 @@ module _ {B D : Type 0} (makes : Parts B D → Event B → Outcome B → Parts B
   -- on Failed, and nothing changes.
   abbrev pub CallsIndex : State B D → ℕ → Call B → Reply B → State B D → Type 0
   CallsIndex old s call reply new = CallsBy old.ended old s call reply new
+
+  -- of one event, by the same
+  abbrev pub StepsBy : Bool → State B D → Event B → Outcome B → State B D → Type 0
+  StepsBy true old event given new = (given ≡ outcome.Refused Failed) × (new ≡ old)
+  StepsBy false old event given new = makes old.engine event given new.engine × (new.ended ≡ false)
+
+  -- An index makes an event with this outcome: the engine's; or it is refused with Failed once a call was given up, and nothing changes.
+  abbrev pub StepsIndex : State B D → Event B → Outcome B → State B D → Type 0
+  StepsIndex old event given new = StepsBy old.ended old event given new
 
 -- where the engine holds an index of the class, no call is given up
 module _ {B D : Type 0} (shape : Members B) (traits : Traits B) (state : D → Device) (l : Limits) where

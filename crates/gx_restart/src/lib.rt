@@ -11,6 +11,7 @@ pub mod laws;
 mod opening;
 mod script;
 mod settle;
+mod step;
 mod text;
 mod verification;
 

@@ -9,7 +9,7 @@ use Rattle.std.proofs.lemmas.Bool.{ltb-false, le-ltb, lt-ltb, cases_lt}
 use Rattle.std.proofs.lemmas.List.{drop_more}
 use Rattle.gx_script.specs.Numbers.{is_digit, digits_value, if_below, number_of, next_value, to_negative_corner}
 
--- the number of these digits behind a value
+-- the number of these digits after a value
 abbrev pub number_after : ℕ → List ℕ → Option ℕ
 number_after value ds = if list_all is_digit ds then if_below (2 ^ 64) (value * 10 ^ length ds + digits_value ds) else None
 

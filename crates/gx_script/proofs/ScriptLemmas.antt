@@ -95,7 +95,7 @@ module _ {B I : Type 0} (k : Grammar B) (answered : I → ℕ → Call B → Rep
         wrote = h.wrote;
       }
 
-  -- where nothing waits, all of the text is written
+  -- if nothing waits, all of the text is written
   pub written_all : (n : ℕ) (done : List (Line B)) (old new : I) (w : List ℕ) → IsWritten k answered n done old w [] new → IsScript k answered n done old w new
   written_all n done old new w h =
       let text : h.settled ++ (h.late ++ []) ≡ w = ap (λ x. h.settled ++ x) (append-nil h.late) ∙ sym h.wrote in
@@ -104,7 +104,7 @@ module _ {B I : Type 0} (k : Grammar B) (answered : I → ℕ → Call B → Rep
       subst (λ ls. IsScript k answered n ls old (h.settled ++ (h.late ++ [])) new) (sym h.parts) all in
       subst (λ x. IsScript k answered n done old x new) text lines
 
-  -- a line that asks, where nothing waits
+  -- a line that asks, if nothing waits
   pub written_asked : (n : ℕ) (done : List (Line B)) (old mid new : I) (w t : List ℕ) (l : Line B)
       → IsWritten k answered n done old w [] mid → IsTold k answered (n + length done) l mid t new
       → IsWritten k answered n (done ++ (l ∷ [])) old w t new
@@ -334,7 +334,7 @@ module _ {B I : Type 0} (k : Grammar B) (answered : I → ℕ → Call B → Rep
     more.1,
   )
 
-  -- the end, where no line was begun
+  -- the end, if no line was begun
   pub ended_none : (n : ℕ) (done : List (Line B)) (start old : I) (w begun waiting : List ℕ) (h h1 : Option (List ℕ))
       → IsWritten k answered n done start w waiting old → length begun ≡ 0 → Appends h h1 waiting
       → IsEnded k answered n done start w begun h h1 old
@@ -359,7 +359,7 @@ module _ {B I : Type 0} (k : Grammar B) (answered : I → ℕ → Call B → Rep
     which = inl refl;
   }
 
-  -- the end, where a line was begun
+  -- the end, if a line was begun
   pub ended_one : (n at : ℕ) (done : List (Line B)) (start old new : I) (w begun waiting left : List ℕ) (h h1 h2 : Option (List ℕ))
       → IsWritten k answered n done start w waiting old → at ≡ n + length done → IsUnended begun → 0 < length begun
       → IsToldWhole k answered at (line_of k begun) old new h h1 waiting left → Appends h1 h2 left

@@ -32,7 +32,7 @@ pub words-skipped : (bs : List ℕ) → words bs ≡ words (drop (prefix_len is_
 words-skipped [] = refl
 words-skipped (b ∷ bs) = skipped_case (is_separator b) b bs refl (words-skipped bs)
 
--- where no byte passes, the first place is past the end
+-- if no byte passes, the first place is past the end
 pub none-past : (n m : ℕ) → n ≤ m → cond (ltb n m) (Some n) None ≡ None → m ≡ n
 none-past n m h e = grind (arith, nat_tests)
 
@@ -43,7 +43,7 @@ not_not : (t : Bool) → not (not t) ≡ t
 not_not true = refl
 not_not false = refl
 
--- what the first place of a word's byte means, where it is looked for by its opposite
+-- what the first place of a word's byte means, if it is looked for by its opposite
 same_test : (b : ℕ) → not (not (is_separator b)) ≡ is_separator b
 same_test b = not_not (is_separator b)
 

@@ -13,7 +13,7 @@ use Rattle.gx_script.specs.Writes.{IsPut, IsCut}
 pub put_nothing : (h : Option (List ℕ)) (w : List ℕ) → IsPut h h w [] w
 put_nothing h w = record { sent = []; wrote = Appends-nil h; all = append-nil w }
 
--- more text, behind what is left
+-- more text, after what is left
 pub put_more : (h h1 h2 : Option (List ℕ)) (w t m m2 t2 all new : List ℕ)
     → IsPut h h1 w t m → IsPut h1 h2 m [] m2 → new ≡ m2 ++ t2 → all ≡ t ++ t2 → IsPut h h2 w all new
 put_more h h1 h2 w t m m2 t2 all new a b e f = record {

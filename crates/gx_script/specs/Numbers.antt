@@ -10,7 +10,7 @@ abbrev pub digits_value : List ℕ → ℕ
 digits_value [] = 0
 digits_value (d ∷ ds) = (d - 48) * 10 ^ length ds + digits_value ds
 
--- this number, where it is below the limit
+-- this number, if it is below the limit
 abbrev pub if_below : ℕ → ℕ → Option ℕ
 if_below limit n = if nat_lt n limit then Some n else None
 

@@ -39,7 +39,7 @@ abbrev pub numbers_of : List (List ℕ) → Option (List ℤ)
 numbers_of [] = Some []
 numbers_of (w ∷ ws) = option_and_then (λ z. option_map (λ zs. z ∷ zs) (numbers_of ws)) (corner_of w)
 
--- as many corners as a key has, all of which may be corners, and the key that they make: none where they are reversed
+-- as many corners as a key has, all of which may be corners, and the key that they make: none if they are reversed
 abbrev pub key_of : {B : Type 0} → Grammar B → List ℤ → Option (Option B)
 key_of grammar zs = if length zs == grammar.count && grammar.fit zs then Some (grammar.made zs) else None
 
@@ -47,7 +47,7 @@ key_of grammar zs = if length zs == grammar.count && grammar.fit zs then Some (g
 abbrev pub key_words : {B : Type 0} → Grammar B → List (List ℕ) → Option (Option B)
 key_words grammar ws = option_and_then (key_of grammar) (numbers_of ws)
 
--- a row, the corners of a key and no other word, and the entry that they make: none where the corners are reversed
+-- a row, the corners of a key and no other word, and the entry that they make: none if the corners are reversed
 abbrev pub entry_words : {B : Type 0} → Grammar B → List (List ℕ) → Option (Option (Entry B))
 entry_words grammar ws =
     option_and_then (λ row. option_map (λ made. option_map (λ key. record { row = row.0; key = key }) made) (key_words grammar row.1))

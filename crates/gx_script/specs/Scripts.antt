@@ -19,7 +19,7 @@ use Rattle.gx_script.specs.Replies.{reply_text, bad_line}
 abbrev pub asked : {B : Type 0} → Grammar B → List ℕ → List (Line B)
 asked grammar bytes = map (line_of grammar) (lines bytes)
 
--- the number under which an index is asked: 0, which no session has, where it doesn't fit in eight bits
+-- the number under which an index is asked: 0, which no session has, if it doesn't fit in eight bits
 abbrev pub asked_as : ℕ → ℕ
 asked_as session = if nat_lt session 256 then session else 0
 

@@ -13,7 +13,7 @@ unfoldable pub kept : List ℕ → List ℕ
 kept bytes = take 1026 bytes
 
 module _ {B I : Type 0} (grammar : Grammar B) (answered : I → ℕ → Call B → Reply B → I → Type 0) where
-  -- A line was added behind what waited: this is left of both, and the front was written.
+  -- A line was added after what waited: this is left of both, and the front was written.
   pub record IsToldWhole (number : ℕ) (line : Line B) (old new : I) (held holds : Option (List ℕ)) (waiting left : List ℕ) : Type 0 where
     pub text : List ℕ
     pub sent : List ℕ

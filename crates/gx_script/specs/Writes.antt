@@ -2,7 +2,7 @@
 use Rattle.std.specs.Prelude.{ℕ, ◌≡◌, ◌<◌, length, Option, List, ◌++◌}
 use Rattle.std.specs.Io.KnownBytes.{Appends}
 
--- Behind what waited, this text was put: what is left of both waits now, and the front was written.
+-- After what waited, this text was put: what is left of both waits now, and the front was written.
 pub record IsPut (held holds : Option (List ℕ)) (waiting text left : List ℕ) : Type 0 where
   pub sent : List ℕ
   pub wrote : Appends held holds sent

@@ -12,7 +12,7 @@ pub trait Corners: Shape {
 
     const COUNT: usize;
 
-    /// The corners of a key, as they are written.
+    /// The corners of a key, in the order in which they are written.
     ghost corners: { Self → List ℤ };
 
     /// Whether each of these numbers may be a corner.
@@ -32,7 +32,7 @@ pub trait Corners: Shape {
         ensures { MatchResult result (λ key. made numbers.now ≡ Some key)
             (λ why. (why ≡ Refusal.BadBox) × (made numbers.now ≡ None)) };
 
-    /// The i-th corner as it is written, from 0.
+    /// The i-th corner in that order, from 0.
     fn corner(&self, i: usize) -> i64
         requires { i < COUNT }
         ensures { result ≡ number_at i (corners self.now) };
@@ -60,7 +60,7 @@ fn is_short(number: i64) -> bool
     -2147483648 <= number && number <= 2147483647
 }
 
-// the number at this place, where each is in that range
+// the number at this place, if each is in that range
 fn short_at(numbers: &[i64], i: usize) -> i32
     requires there { i < length numbers.now }
     requires short { list_all is_short numbers.now ≡ true }

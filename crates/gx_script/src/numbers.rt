@@ -3,7 +3,7 @@ ghost use Rattle.std.specs.Prelude.{◌≡◌, ◌<◌, ◌^◌, IfSome, FitsSig
 ghost use Rattle.std.specs.Int.{w64};
 ghost use Rattle.gx_script.specs.Numbers.{number_of, corner_of, next_value, to_corner, to_negative_corner};
 
-/// The number that a word of digits says, where it is below 2^64.
+/// The number that a word of digits says, if it is below 2^64.
 pub(crate) fn number(word: &[u8]) -> Option<u64>
     ensures { result ≡ number_of word.now }
 {
@@ -17,7 +17,7 @@ pub(crate) fn number(word: &[u8]) -> Option<u64>
     Some(value)
 }
 
-/// The number that a corner's word says, where it is in the range of an i64.
+/// The number that a corner's word says, if it is in the range of an i64.
 pub(crate) fn corner(word: &[u8]) -> Option<i64>
     ensures value { result ≡ corner_of word.now }
     ensures fits { IfSome result (λ z. FitsSigned w64 z) }

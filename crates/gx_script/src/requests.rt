@@ -137,7 +137,7 @@ fn covers<B: Corners>(session: u64, rest: &[u8]) -> Line<B>
     }
 }
 
-// a row and a key, and no other word; no entry where the corners are reversed
+// a row and a key, and no other word; no entry if the corners are reversed
 fn entry<B: Corners>(rest: &[u8]) -> Option<Option<Entry<B>>>
     ensures { result ≡ entry_words (grammar_of B.Corners) (words rest.now) }
 {
@@ -148,7 +148,7 @@ fn entry<B: Corners>(rest: &[u8]) -> Option<Option<Entry<B>>>
     }
 }
 
-// the corners of a key and no other word; no key where they are reversed
+// the corners of a key and no other word; no key if they are reversed
 fn key<B: Corners>(rest: &[u8]) -> Option<Option<B>>
     ensures { result ≡ key_words (grammar_of B.Corners) (words rest.now) }
 {

@@ -44,7 +44,7 @@ is_found (reply.Committed number) = false
 is_found reply.Aborted = false
 is_found (reply.Refused why) = false
 
--- one where an ask opens the call
+-- one if an ask opens the call
 abbrev pub opens : {B : Type 0} → Given B → ℕ
 opens (asked.Now r) = 0
 opens asked.Open = 1
@@ -53,12 +53,12 @@ abbrev pub finds : {B : Type 0} → Given B → Bool
 finds (asked.Now r) = is_found r
 finds asked.Open = false
 
--- one where an ask's outcome leaves the call open
+-- one if an ask's outcome leaves the call open
 abbrev pub asked_more : {B : Type 0} → Outcome B → ℕ
 asked_more outcome.More = 1
 asked_more other = 0
 
--- one where a move's outcome ends the call
+-- one if a move's outcome ends the call
 abbrev pub closes_of : Bool → ℕ
 closes_of true = 0
 closes_of false = 1
@@ -114,7 +114,7 @@ module _ {B : Type 0} where
   unanswered_open : (x : Session B) → is_unanswered x ≡ true → open_of x ≡ 1
   unanswered_open x h = ap (λ (b : Bool). if b then 1 else 0) h
 
--- What an event does to the sums, where it opens and ends so many calls, adds so many items, and may owe so many more.
+-- What an event does to the sums, if it opens and ends so many calls, adds so many items, and may owe so many more.
 pub record Sums {B : Type 0} (m n : Machine B) (opened closed added allowed : ℕ) : Type 0 where
   pub eight : length n.sessions ≡ 8
   pub calls : open_calls n.sessions + closed ≡ open_calls m.sessions + opened
@@ -407,7 +407,7 @@ module _ {B : Type 0} (k : Keys B) where
     move_sums outcome.Nothing h = absurd h
     move_sums (outcome.Refused why) h = quiet_sums h.1
 
--- What is left where an outcome ends no call.
+-- What is left if an outcome ends no call.
 
 module _ {B : Type 0} (k : Keys B) where
   pub asked_stays_open : (s : ℕ) (call : Call B) (o : Outcome B) (m n : Machine B) (x y : ℕ) → AskHappens k s call m o n → replied o ≡ 0
@@ -433,7 +433,7 @@ module _ {B : Type 0} (k : Keys B) where
   handed_same reply.Aborted handed h none = h
   handed_same (reply.Refused why) handed h none = h
 
-  -- a reply as it is returned ends the call as the reply does
+  -- the reply that is returned ends the call as the engine's reply does
   pub handed_ends : (s : ℕ) (r handed : Reply B) (m n : Machine B) → IsHanded r handed → Ends k s r m n → Ends k s handed m n × (is_fault handed ≡ is_fault r)
   handed_ends s (reply.Found entries) handed m n h e = elim h [
     | inl p ↦ (subst (λ (x : Reply B). Ends k s x m n) (sym p) e, ap (λ (x : Reply B). is_fault x) p)

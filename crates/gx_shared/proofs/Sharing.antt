@@ -151,7 +151,7 @@ share_of_work event o ended given old new none is same noted =
     let n : old.0.1 + replied given ≡ old.0.1 = none_more (replied given) old.0.1 (ap replied (same ∙ is) ∙ replies_as o ∙ none) in
     noted ∙ sym (λ i. ((old.0.0, n i), hold_of event given ∷ old.1))
 
--- and after one of its own, it has finished a call too where that was replied to
+-- and after one of its own, it has finished a call too if that was replied to
 pub share_of_own : {B : Type 0} (event : Event B) (old middle new : Known B) (o ended given : Outcome B) → middle ≡ after_reply old o → ended ≡ given_up o → given ≡ ended
     → new ≡ (middle.0, hold_of event given ∷ middle.1) → new ≡ after_hold old event given
 share_of_own event old middle new o ended given share is same noted =
@@ -204,7 +204,7 @@ own_next : {B : Type 0} (s : ℕ) (named next : Event B) → InCall s named → 
 own_next s named next own (inl same) = subst (λ e. InCall s e) (sym same) own
 own_next s named next own (inr move) = subst (λ e. InCall s e) (sym move) (inl refl)
 
--- Amid a call: the holds up to now are noted behind those of before, and this event comes behind them.
+-- Amid a call: the holds up to now are noted after those of before, and this event comes after them.
 pub record IsAmid {B : Type 0} (start : Known B) (call : Call B) (now : Known B) (event : Event B) : Type 0 where
   pub earlier : List (Hold B)
   pub now_is : now ≡ (start.0, earlier ++ start.1)

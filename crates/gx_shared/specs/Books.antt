@@ -114,12 +114,12 @@ pub record IsHold {B E : Type 0} (k : Keys B) (sees : E → Machine B → Type 0
   pub is_seen : sees new.0 after
   pub applies : Applies k old.1 before event outcome new.1 after
 
--- a reply as it is returned: unchanged, or `Memory` in place of a search's result
+-- the reply that is returned for a reply: the same, or `Memory` in place of a search's result
 abbrev pub IsHanded : {B : Type 0} → Reply B → Reply B → Type 0
 IsHanded (reply.Found entries) handed = (handed ≡ reply.Found entries) ⊎ (handed ≡ reply.Refused refusal.Memory)
 IsHanded given handed = handed ≡ given
 
--- an outcome as it is returned: its reply so, everything else unchanged
+-- the outcome that is returned for an outcome: its reply so, everything else unchanged
 abbrev pub IsHandedOn : {B : Type 0} → Outcome B → Outcome B → Type 0
 IsHandedOn (Replied given) (Replied handed) = IsHanded given handed
 IsHandedOn (Replied given) other = ⊥

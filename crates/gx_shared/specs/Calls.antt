@@ -5,7 +5,7 @@ use Rattle.gx_machine.specs.Sessions.{Session, Idle, Open, Aborting, Committing,
 use Rattle.gx_machine.specs.Machine.{Machine}
 use Rattle.gx_shared.specs.declared.record.TheConstants.{RECORD}
 
--- one where a call of the session is open
+-- one if a call of the session is open
 abbrev pub open_of : {B : Type 0} → Session B → ℕ
 open_of x = if is_unanswered x then 1 else 0
 

@@ -33,7 +33,7 @@ fresh_sessions (suc n) = fresh_sessions n ++ ((suc n, 0), []) ∷ []
 abbrev pub shares_of : {B : Type 0} → List (Known B) → ℕ
 shares_of sessions = sum_by (λ s. s.0.1) sessions
 
--- a session after an outcome: its share rises by one where that is a reply
+-- a session after an outcome: its share rises by one if that is a reply
 abbrev pub after_reply : {B : Type 0} → Known B → Outcome B → Known B
 after_reply old outcome = ((old.0.0, old.0.1 + replied outcome), old.1)
 
@@ -75,11 +75,11 @@ pub record IsRun {B E : Type 0} (k : Keys B) (engine : Ghosts E B) (old : E × L
   pub made : is_work event ≡ false → IsMade engine.makes old event given new
   pub hold : is_work event ≡ false → engine.granted → IsHold k engine.sees old event given new
 
--- the event that comes behind an outcome in a call of the session: that which the outcome names, or a move in its place
+-- the event that comes after an outcome in a call of the session: that which the outcome names, or a move in its place
 abbrev pub Comes : {B : Type 0} → ℕ → Outcome B → Event B → Type 0
 Comes {B} s outcome event = (named : Event B) × (next_of s outcome ≡ Run named) × ((event ≡ named) ⊎ (event ≡ Move s))
 
--- the event that comes behind these holds in a call of the session, the last of them first: at first the call is asked
+-- the event that comes after these holds in a call of the session, the last of them first: at first the call is asked
 abbrev pub ComesBehind : {B : Type 0} → ℕ → Call B → List (Hold B) → Event B → Type 0
 ComesBehind s call [] event = event ≡ Ask s call
 ComesBehind s call (last ∷ earlier) event = Comes s last.outcome event × ComesBehind s call earlier last.event
@@ -101,7 +101,7 @@ pub record Follows {B : Type 0} (old : Known B) (event : Event B) (next : Next B
   pub next_is : next ≡ next_of old.0.0 outcome
   pub new_is : new ≡ after_hold old event outcome
 
--- the event of a flusher's part, in the round of this number, where so many pages are used and this one may be written
+-- the event of a flusher's part, in the round of this number, if so many pages are used and this one may be written
 abbrev pub flusher_event : {B : Type 0} → Part → ℕ → ℕ → Option ℕ → Option (Event B)
 flusher_event part.Checkpoint round used dirty = Some CheckpointStep
 flusher_event part.Log round used dirty = Some LogStep

@@ -5,7 +5,7 @@ ghost use Rattle.gx_shared.specs.Agreed.{replies_of};
 use gx_geom::Shape;
 use gx_machine::{Item, Reply, is_same_reply};
 
-/// The reply of an item, where it is one of this session.
+/// The reply of an item, if it is one of this session.
 fn reply_of<B: Shape>(session: u8, item: &Item<B>) -> Option<&Reply<B>>
     ensures { MatchOption result (replies_of session (item.now ∷ []) ≡ [])
         (λ r. replies_of session (item.now ∷ []) ≡ r.now ∷ []) }

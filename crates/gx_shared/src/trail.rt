@@ -27,7 +27,7 @@ impl<T> Trail<T> {
         }
     }
 
-    /// The trail with the referenced value noted behind it.
+    /// The trail with the referenced value noted after it.
     pub(crate) fn after(&self, x: &T) -> Trail<T>
         ensures { result.noted ≡ x.now ∷ self.now.noted }
     {

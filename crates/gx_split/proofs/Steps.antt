@@ -85,7 +85,7 @@ row_keeps w best i (suc k) each =
     (worst_in_row-more w best i k ∙ ap (λ p. worse w p (pair i (i + 1 + k))) before
     ∙ ap (λ t. cond t (pair i (i + 1 + k)) best) (no_less (w best.lower best.higher) (w i (i + 1 + k)) (each k (omega arith))))
 
--- where no key wastes more beside one, no pair of its slot does
+-- if no key wastes more beside one, no pair of its slot does
 pub row_wastes : {K : Type 0} (m : Measure K) (keys : List K) (i j : ℕ) (key : K) (worst best : ℤ) → slice_get keys i ≡ Some key → j < length keys
     → All (λ other. waste m key other ≤ℤ worst) keys → worst ≡ best → waste_at m keys i j ≤ℤ best
 unfolding waste_at

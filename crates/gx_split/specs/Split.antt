@@ -31,7 +31,7 @@ pub record Pair : Type 0 where
 abbrev pub pair : ℕ → ℕ → Pair
 pair i j = record { lower = i; higher = j }
 
--- the first pair, but where the second wastes more, the second
+-- the first pair, but if the second wastes more, the second
 abbrev pub worse : (ℕ → ℕ → ℤ) → Pair → Pair → Pair
 worse w p q = if int_lt (w p.lower p.higher) (w q.lower q.higher) then q else p
 

@@ -12,12 +12,12 @@ slot_of w = w.slot
 abbrev pub gap_of : {K : Type 0} → Waiting K → ℕ
 gap_of w = w.apart
 
--- the cover of a group, of the second where the side is true
+-- the cover of a group, of the second if the side is true
 abbrev pub cover_of : {K : Type 0} → Bool → Covers K → K
 cover_of true c = c.second
 cover_of false c = c.first
 
--- a key goes to a group, the second where the side is true
+-- a key goes to a group, the second if the side is true
 abbrev pub covers_with : {K : Type 0} → Measure K → Bool → Covers K → K → Covers K
 covers_with m true c key = record c { second = m.join c.second key; in_second = c.in_second + 1 }
 covers_with m false c key = record c { first = m.join c.first key; in_first = c.in_first + 1 }
@@ -34,7 +34,7 @@ abbrev pub with_growth : {K : Type 0} → Measure K → Bool → Covers K → Wa
 with_growth m true c w = with_second w (growth m c.second (Some w.key.now))
 with_growth m false c w = with_first w (growth m c.first (Some w.key.now))
 
--- the sides with one more, where all are false at first
+-- the sides with one more, if all are false at first
 abbrev pub sides_with : Bool → List Bool → ℕ → List Bool
 sides_with true sides slot = slice_set sides slot true
 sides_with false sides slot = sides
@@ -56,7 +56,7 @@ pub record HasGrowths {K : Type 0} (m : Measure K) (c : Covers K) (w : Waiting K
   pub second : w.second ≡ growth m c.second (Some w.key.now)
   pub apart : w.apart ≡ abs_diff w.first w.second
 
--- where a measure's sizes are short, so are a key's growths
+-- if a measure's sizes are short, so are a key's growths
 pub record IsShort {K : Type 0} (short : Bool) (w : Waiting K) : Type 0 where
   pub first : short ≡ true → w.first < 2 ^ 64
   pub second : short ≡ true → w.second < 2 ^ 64

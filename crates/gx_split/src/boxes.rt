@@ -34,7 +34,7 @@ fn framed(frame: &BoxFrame, key: &Box2) -> BoxFrame
     }
 }
 
-/// How long a side from `low` to `high` becomes at most, where it is joined with one of at most `longest` that lies
+/// How long a side from `low` to `high` becomes at most, if it is joined with one of at most `longest` that lies
 /// between `from` and `to`.
 pub(crate) fn longest_side(low: i32, high: i32, from: i32, to: i32, longest: u32) -> u32
     requires { low ≤ℤ high }

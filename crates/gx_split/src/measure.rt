@@ -29,7 +29,7 @@ pub trait Measure: Copy {
     fn covers(&self, other: &Self) -> bool
         ensures { result ≡ true → joined self.now other.now ≡ self.now };
 
-    /// The size, below 2^126, and below 2^64 where sizes are short.
+    /// The size, below 2^126, and below 2^64 if sizes are short.
     fn size(&self) -> u128
         ensures value { result ≡ extent self.now }
         ensures bound { extent self.now < 2 ^ 126 }

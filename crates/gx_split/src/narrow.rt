@@ -1,4 +1,4 @@
-//! Sizes and their differences in 64 bits, where the measure's sizes are short.
+//! Sizes and their differences in 64 bits, if the measure's sizes are short.
 ghost use Rattle.std.specs.Prelude.{◌≡◌, ◌≤◌, ◌<◌, ◌-◌, ◌^◌, true, nat_lt};
 ghost use Rattle.std.specs.Int.{abs_diff};
 

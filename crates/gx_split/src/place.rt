@@ -9,7 +9,7 @@ use crate::choice::{farthest, goes_second, growth};
 use crate::narrow::distance;
 use crate::waiting::{Covers, Waiting, WaitingList};
 
-/// A key is joined to a group, to the second where `second` says so.
+/// A key is joined to a group, to the second if `second` says so.
 fn join_group<M: Measure>(second: bool, key: &M, covers: &mut Covers<M>)
     requires first { covers.old.in_first + 1 < 2 ^ 64 }
     requires second { covers.old.in_second + 1 < 2 ^ 64 }
@@ -61,8 +61,7 @@ fn refresh_all<M: Measure>(second: bool, covers: &Covers<M>, waiting: &mut [Wait
     }
 }
 
-/// A key goes to a group, and the others' growths are those beside its new cover:
-/// as they were, where it covered the key.
+/// A key goes to a group, and the others' growths are those beside its new cover: unchanged, if it covered the key.
 fn assign_key<M: Measure>(
     second: bool,
     key: &M,

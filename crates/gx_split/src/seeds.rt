@@ -120,7 +120,7 @@ fn is_spent<M: Measure>(key: &M, size: u128, frame: &M::Frame, worst: i128) -> b
     excess(key.reach(frame), size, 0) <= worst
 }
 
-/// As `worst_in_row`, which it leaves out where no pair of the slot can waste more than the best.
+/// As `worst_in_row`, which it leaves out if no pair of the slot can waste more than the best.
 fn worst_with_row<M: Measure>(
     keys: &[M],
     sizes: &[u128],

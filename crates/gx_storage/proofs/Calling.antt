@@ -126,7 +126,7 @@ rests_none k r log d bodies s up idle =
     one_way r [] s.flight [] (subst A idle up.carries.told.flight) (none_are r)
 
 module _ {B : Type 0} (k : Known (Entry B) (Page B)) (r : Reading (Entry B) (Page B)) (f : Format B) (passes : ℕ → Contents → Bool) {D : Type 0} (d e : Device) (v w : Volume D) where
-  -- A call that leaves the pages, where the records leave the same of them as before.
+  -- A call that leaves the pages, if the records leave the same of them as before.
   pub keeps_on : (fr : State) → w.shelf ≡ record v.shelf { disk = w.shelf.disk; frames = fr } → ((p : ℕ) → kept fr p ≡ kept v.shelf.frames p) → e.honest ≡ d.honest → LeavesPages d e
       → (bodies now : List (List (Record (Entry B) (Page B)))) (s t : Logged (Entry B) (Page B)) → Keeps k r f passes d v bodies s → Runs k r w.log w.shelf.frames e now t → AllSaid w.shelf.frames t → AllPlaced w.log w.shelf.frames → AllImaged w.imaged t
       → (analysis k (all_records t)).used ≡ (analysis k (all_records s)).used → (analysis k (all_records t)).counter ≡ (analysis k (all_records s)).counter

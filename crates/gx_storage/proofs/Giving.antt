@@ -179,7 +179,7 @@ never_widened (Widen slot child key) seen = refl
 pub unwidened_narrow : {B : Type 0} (way : Way B) (seen : ℕ) (d : Descended B) → unwidened way seen ≡ Some d → is_widened d ≡ false
 unwidened_narrow way seen d is = sym (ap widened_in is) ∙ never_widened way seen
 
--- and where it comes to nothing, a bound has to be widened
+-- and if it comes to nothing, a bound has to be widened
 pub has_to_widen : {B : Type 0} (cost : B → B → ℕ × ℕ) (joined : B → B → B) (most : ℕ) (s : Store B) (item : TraversalItem) (coming : B) (way : Way B) (seen : ℕ) → unwidened way seen ≡ None
     → WayAt cost joined most s item coming way → HasToWiden cost joined most s item coming
 has_to_widen {B} cost joined most s item coming Again seen is at = absurd (let never : ◌≡◌ {A = Option (Descended B)} (Some did.Again) None = is in cc)

@@ -1,4 +1,4 @@
--- What helps where frames are wanted, and whether a turn may go on.
+-- What helps if frames are wanted, and whether a turn may go on.
 use Rattle.std.proofs.Common.{◌≡◌, ◌∙◌, sym, ap, refl, ℕ, ◌<◌, ◌≤◌, Bool, true, false, Option, None, Some, arith}
 use Rattle.std.specs.Prelude.{nat_eq}
 use Rattle.std.specs.Bool.{OnFalse}
@@ -16,6 +16,6 @@ on_false : (b : Bool) {X : Type 0} → (b ≡ false → X) → OnFalse b X
 on_false true x = tt
 on_false false x = x refl
 
--- where a page is dirty no turn may go on
+-- if a page is dirty no turn may go on
 pub not_clean : {D : Type 0} (v : Volume D) (n : ℕ) → (NoneDirty v.shelf.frames → n ≡ 0) → OnFalse (nat_eq n 0) (ReadyToTurn v → ⊥)
 not_clean v n zero = on_false (nat_eq n 0) (λ no ready. absurd (let never : true ≡ false = sym (ap (λ m. nat_eq m 0) (zero ready.clean)) ∙ no in cc))

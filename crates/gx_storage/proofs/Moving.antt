@@ -101,13 +101,13 @@ module _ {B D : Type 0} (k : Known (Entry B) (Page B)) (r : Reading (Entry B) (P
       let some : IsSome (stamp_of (kept v.shelf.frames p)) = rw was refl in
       ap (λ (o : Option Kept). bytes_by o (bytes_of e.seen p)) (same.dirty some)
 
-  -- and is stored as it was
+  -- and is stored unchanged
   pub now_stored : (p : ℕ) → IsAsItWas d e v.shelf.frames t.frames p → stored r k.pages t.frames e.seen p ≡ stored r k.pages v.shelf.frames d.seen p
   now_stored p same =
       stored_same r k.pages v.shelf.frames t.frames e.seen p (bytes_still p (stamp_of (kept v.shelf.frames p)) refl same)
       ∙ ap (λ (seen : List ℕ). stored r k.pages v.shelf.frames seen p) now_seen
 
-  -- where each page is, and nothing was taken or counted, the volume keeps the same state
+  -- if each page is, and nothing was taken or counted, the volume keeps the same state
   pub stays_same : (most : ℕ) → ((q : ℕ) → IsAsItWas d e v.shelf.frames t.frames q) → t.used ≡ v.shelf.used → t.counter ≡ v.shelf.counter
       → StaysSame k r f passes d e (record { log = v.log; shelf = t; most = most; imaged = v.imaged }) bodies s
   stays_same most same used counter = record {

@@ -18,7 +18,7 @@ use Rattle.gx_storage.specs.State.{Volume}
 use Rattle.gx_storage.proofs.Moving.{stays_same}
 
 module _ {D : Type 0} (passes : ℕ → Contents → Bool) (state : D → Device) (v : Volume D) (t : Shelf D) where
-  -- since an event began with that place and room, where this is since its pages are so
+  -- since an event began with that place and room, if this is since its pages are so
   pub since_begun : (u : Shelf D) (batch q : ℕ) (room : Bool) → u ≡ record v.shelf { batch = batch; has_room = room }
       → ((was : Shelf D) → IsSince passes (state was.disk) (state u.disk) was u q → IsSince passes (state was.disk) (state t.disk) was t q)
       → IsSince passes (state v.shelf.disk) (state t.disk) (record v.shelf { batch = batch; has_room = room }) t q

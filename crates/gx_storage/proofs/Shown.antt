@@ -58,7 +58,7 @@ module _ {B : Type 0} (said : List ℕ → B) (f : Format B) where
       ∙ ap (node_of f) (bytes_shown (kept frames p) (bytes_of seen p) (formed p) ∙ sym (stands_shown frames seen p backed))
 
   module _ (k : Known (Entry B) (Page B)) where
-    -- the tree that is shown is the one after all records, where each page is stored as they leave it
+    -- the tree that is shown is the one after all records, if each page is stored as they leave it
     pub stored_shows : {D : Type 0} (d : Device) (v : Volume D) (s : Logged (Entry B) (Page B)) → v.shelf.used ≤ k.pages → IsBacked v.shelf.frames d.seen → AreFormed v.shelf.frames
         → IsStored (reading_of said f) k.pages v.shelf.frames d.seen s → (analysis k (all_records s)).used ≡ v.shelf.used → (analysis k (all_records s)).counter ≡ v.shelf.counter
         → AgreeOnUsed (tree_after k (reading_of said f) f (λ n c. true) s) (tree_shown k (reading_of said f) f (λ n c. true) d v)

@@ -50,13 +50,13 @@ add_read {B} said spelling f false transaction its entry leaf seen s number back
     ap (λ t. (let x : Record (Entry B) (Page B) = Write t (record { row = entry.row; key = said (spelling entry.key) }) true false leaf (add_told spelling f false entry leaf seen s) in x)) number
     ∙ ap (λ k. (let x : Record (Entry B) (Page B) = Write its (record { row = entry.row; key = k }) true false leaf (add_told spelling f false entry leaf seen s) in x)) back
 
--- ---- a pair that stands nowhere
+-- ---- a pair that no leaf has
 
 by_first : (first rest b : Bool) → first ≡ b → (first ≡ true → ⊥) → rest ≡ false → (first || rest) ≡ false
 by_first first rest true is never none = absurd (never is)
 by_first first rest false is never none = ap (λ x. x || rest) is ∙ none
 
--- no pair of a list passes a test where none is counted
+-- no pair of a list passes a test if none is counted
 none_any : {X : Type 0} (test : X → Bool) (xs : List X) → how_many test xs ≡ 0 → list_any test xs ≡ false
 none_any test [] none = refl
 none_any test (x ∷ xs) none = by_first (test x) (list_any test xs) (test x) refl (λ is. omega (arith, ap one_if is, none)) (none_any test xs (omega (arith, none)))
@@ -72,7 +72,7 @@ part_of f a (x ∷ xs) some = elim (cases_eq x a) [
       omega (arith, rest)
 ]
 
--- where no pair of a legal tree passes, none of a leaf does
+-- if no pair of a legal tree passes, none of a leaf does
 none_on : {B : Type 0} (r : Rules B) (t : Tree B) → Legal r t → (test : Pair B → Bool) → standing test t ≡ 0 → (a : ℕ) → Used t a → (t.node a).level ≡ 0
     → list_any test (t.node a).pairs ≡ false
 none_on r t legal test none a used leaf =

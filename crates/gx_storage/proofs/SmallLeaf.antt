@@ -46,7 +46,7 @@ by_level : {B : Type 0} (f : Format B) (c : Contents) (leaf : Bool) → (if leaf
 by_level f c true = refl
 by_level f c false = refl
 
--- a page's node has its level, and is a leaf's where that is 0
+-- a page's node has its level, and is a leaf's if that is 0
 pub node_level : {B : Type 0} (f : Format B) (c : Contents) → (node_of f c).level ≡ c.level
 node_level f c = by_level f c (c.level == 0)
 
@@ -66,7 +66,7 @@ module _ {B : Type 0} (IsKey : B → Type 0) (spelling : B → List ℕ) (f : Fo
       same_contents b (with_items a items) (ap (λ (n : Node B). n.level) is) (ap (λ (n : Node B). n.nsn) is) (ap (λ (n : Node B). n.right) is) number
       ((hold b well leaf).items ∙ ap (λ (n : Node B). map (pair_bytes spelling) n.pairs) is ∙ spelled)
 
-  -- a pair behind the last is an item behind the last
+  -- a pair after the last is an item after the last
   module _ (used : ℕ) (a b : Contents) (old new : Node B) (row : ℕ) (key : B) (well : IsWellFormed a) (well_now : IsWellFormed b) (node : is_node f used a ≡ true) (node_now : is_node f used b ≡ true)
       (number : b.number ≡ a.number) (is_old : old ≡ node_of f a) (is_new : new ≡ node_of f b) (leaf : old.level ≡ 0)
       (made : new ≡ node_with old old.nsn old.right (old.pairs ++ record { row = row; key = key; marked = false } ∷ []) old.children) where
@@ -110,6 +110,6 @@ module _ {B D : Type 0} (k : Known (Entry B) (Page B)) (said : List ℕ → B) (
       node_there (standing_node f v.shelf.frames d.seen) v.shelf.used page low high
       ∙ ap (node_of f) (stands_shown v.shelf.frames d.seen page keeps.steady.backed ∙ sym (bytes_shown said f (kept v.shelf.frames page) (bytes_of d.seen page) (keeps.formed page)))
 
--- a page that is held is shown as it is kept
+-- what is shown of a page that is held is what its frame keeps
 pub node_held : {B D : Type 0} (f : Format B) (seen : List ℕ) (t : Shelf D) (page : ℕ) (j : Kept) → IsHeld t page → kept t.frames page ≡ Some j → (tree_of (store_of f seen t)).node page ≡ node_of f j.page
 node_held f seen t page j held is = node_there (standing_node f t.frames seen) t.used page held.from held.to ∙ ap (node_of f) (stands_kept t.frames seen page j held.stays is)

@@ -136,7 +136,7 @@ pub of_class_at : {B : Type 0} (IsKey : B → Type 0) (spelling : B → List ℕ
     → (slot : ℕ) (x : Pair B) → slice_get (leaf_of f a).pairs slot ≡ Some x → IsKey x.key
 of_class_at IsKey spelling f hold a well leaf slot x at = (all_there (IsPair IsKey) (leaf_of f a).pairs slot x at (hold a well leaf).each).key
 
--- how marks are set in the leaves of a class, by the bytes of its keys, where a node may have so many entries
+-- how marks are set in the leaves of a class, by the bytes of its keys, if a node may have so many entries
 pub record ReadsMarks {B : Type 0} (IsKey : B → Type 0) (spelling : B → List ℕ) (f : Format B) (shape : Members B) (most : ℕ) : Type 0 where
   pub hold : LeavesHold IsKey spelling f
   pub long : (key : B) → IsKey key → length (spelling key) ≡ f.key

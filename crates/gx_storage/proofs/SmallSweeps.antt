@@ -1,4 +1,4 @@
--- The sweep of a leaf with its record: small where the log's extent has an image of the leaf.
+-- The sweep of a leaf with its record: small if the log's extent has an image of the leaf.
 use Rattle.std.proofs.Common.{◌≡◌, ◌≢◌, ◌∙◌, sym, ap, refl, subst, ℕ, ◌^◌, ◌<◌, ◌≤◌, Bool, true, false, List, [], length, map, Result, Err, arith}
 use Rattle.std.specs.Prelude.{IfErr}
 use Rattle.std.proofs.lemmas.List.{length-map}
@@ -181,7 +181,7 @@ module _ {B D : Type 0} (k : Known (Entry B) (Page B)) (said : List ℕ → B) (
       small_fits k said f passes d v bodies s keeps was page low high bit (change_of f (RemoveSlots (swept_slots claimed node)))
       ((mean (swept_slots claimed node) c).back (leaf_is f v.shelf.pages c level (was.nodes v.shelf.pages c before.passing)) marked)
 
--- so where it was swept
+-- so if it was swept
 pub swept_fits : {B D : Type 0} (k : Known (Entry B) (Page B)) (said : List ℕ → B) (f : Format B) (passes : ℕ → Contents → Bool) (d : Device) (v : Volume D)
     (bodies : List (List (Record (Entry B) (Page B)))) (s : Logged (Entry B) (Page B)) → Keeps k (reading_of said f) f passes d v bodies s → AreNodes f passes v.shelf → RemovalsMean f
     → (page : ℕ) (claimed : Entry B → Bool) (slots : List ℕ) (new : Store B) → slots ≡ swept_slots claimed ((tree_of (store_of f d.seen v.shelf)).node page)
@@ -213,7 +213,7 @@ planned_goes {B} plan read old new page here same fits takes some =
 module _ {B D : Type 0} (known : Limits → Known (Entry B) (Page B)) (r : Reading (Entry B) (Page B)) (f : Format B) (passes : ℕ → Contents → Bool) (state : D → Device) (v w : Volume D)
     (IsTest : (Entry B → Bool) → Type 0) (page : ℕ) (plan : Planned) (read : Store B) (same : IsSteady (state v.shelf.disk) v.shelf.frames → read ≡ store_of f (state v.shelf.disk).seen v.shelf)
     (plans : (test : Entry B → Bool) → IsTest test → PlansSweep test ((tree_of read).node page) plan) where
-  -- a planned sweep that was logged, where it takes something, or refused
+  -- a planned sweep that was logged, if it takes something, or refused
   pub sweep_logged : (any : Bool)
       → IsLoggedIf known r f passes (sweep_room (is_imaged v.imaged page) (length (slots_of plan))) (state v.shelf.disk) (state w.shelf.disk) v w
       (sweep_said (is_imaged v.imaged page) page (slots_of plan) (state w.shelf.disk).seen w.shelf) any

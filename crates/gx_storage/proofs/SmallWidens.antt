@@ -143,7 +143,7 @@ by_widened Wide Narrow P wide narrow did.Leaf is = narrow is
 by_widened Wide Narrow P wide narrow did.FullLeaf is = narrow is
 by_widened Wide Narrow P wide narrow did.FullInner is = narrow is
 
--- what holds where none was
+-- what holds if none was
 pub if_narrow : {B : Type 0} (Wide : ℕ → B → Type 0) (Narrow : Type 0) (how : Descended B) → is_widened how ≡ false → Narrow → IfWidened Wide Narrow how
 if_narrow Wide Narrow (did.Widened next slot key) narrow is = cc
 if_narrow Wide Narrow (did.Down next) narrow is = is

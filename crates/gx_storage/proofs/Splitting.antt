@@ -106,7 +106,7 @@ module _ (P : ℕ → Type 0) where
 -- ---- some pages with their record
 
 module _ {D : Type 0} (passes : ℕ → Contents → Bool) (state : D → Device) (v : Volume D) (size : ℕ) (t : Shelf D) where
-  -- a store has gone on since its event began, with each page as it was but these
+  -- a store has gone on since its event began, with each page unchanged but these
   pub record SteppedBut (pages : List ℕ) : Type 0 where
     pub goes_on : GoesOn passes (state v.shelf.disk) (state t.disk) (begun v size) t
     pub others : (q : ℕ) → is_among q pages ≡ false → IsAsItWas (state v.shelf.disk) (state t.disk) v.shelf.frames t.frames q
@@ -279,7 +279,7 @@ module _ {B D : Type 0} (f : Format B) (state : D → Device) (v : Volume D) (si
   pub begun_pages : u.pages ≡ v.shelf.pages
   begun_pages = ap (λ (x : Shelf D). x.pages) is
 
-  -- where a refusal as damaged is false of what the steps see then, it is false of what they saw before
+  -- if a refusal as damaged is false of what the steps see then, it is false of what they saw before
   pub damaged_since : (r : Rules B) (page parent : ℕ) → IsNeverDamaged r (store_of f (state u.disk).seen u) page parent → IsNeverDamaged r (store_of f (state v.shelf.disk).seen v.shelf) page parent
   damaged_since r page parent never = subst {A = Store B} (λ s. IsNeverDamaged r s page parent) (store_begun f state v size u is) never
 

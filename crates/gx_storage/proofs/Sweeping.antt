@@ -35,7 +35,7 @@ use Rattle.gx_storage.proofs.Writing.{Stepped, same_node, stepped_since}
 
 -- ---- a leaf that is swept isn't as it was
 
--- fewer stay than there are, where a side goes
+-- fewer stay than there are, if a side goes
 fewer_stay : {X : Type 0} (n : ℕ) (sides : List Bool) (xs : List X) → length sides ≡ length xs → 0 < length (slots_from n sides) → length (staying sides xs) < length xs
 unfolding slots_from
 fewer_stay n [] xs same some = absurd (omega (arith, some))
@@ -126,7 +126,7 @@ why_anew passes d e s read batch room (fault.TooFewFrames wanted) is = record { 
 why_anew passes d e s read batch room fault.Device is = is
 why_anew passes d e s read batch room fault.Damaged is = is
 
--- so where the event had begun, and begins anew
+-- so if the event had begun, and begins anew
 module _ {D : Type 0} (passes : ℕ → Contents → Bool) (state : D → Device) (log : Log) (size : ℕ) (s start read u : Shelf D)
     (started : start ≡ record s { batch = log.used; has_room = true }) (begins : u ≡ begun_at log size read) where
   pub since_anew : (q : ℕ) → ((was : Shelf D) → IsSince passes (state was.disk) (state start.disk) was start q → IsSince passes (state was.disk) (state read.disk) was read q)
@@ -153,7 +153,7 @@ takes_some plan test node plans some =
     and_all (node.level == 0) (nat_lt 0 (how_many (is_sweepable (λ x. test (entry_of x))) node.pairs)) (eq-eqb node.level 0 plans.leaf)
     (lt-ltb 0 (how_many (is_sweepable (λ x. test (entry_of x))) node.pairs) count)
 
--- where a plan was only read, and the event then began, what changes is the page that is planned
+-- if a plan was only read, and the event then began, what changes is the page that is planned
 pub swept_step : {D : Type 0} (passes : ℕ → Contents → Bool) (state : D → Device) (v : Volume D) (size : ℕ) (read t : Shelf D) (planned page : ℕ) → planned ≡ page
     → ((q : ℕ) → IsSince passes (state v.shelf.disk) (state read.disk) (begun v size) read q)
     → ((was : Shelf D) (q : ℕ) → q ≢ planned → IsSince passes (state was.disk) (state read.disk) was read q → IsSince passes (state was.disk) (state t.disk) was t q)

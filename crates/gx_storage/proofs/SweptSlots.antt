@@ -18,7 +18,7 @@ use Rattle.gx_storage.specs.Sweeping.{swept_slots}
 
 -- ---- the sides of a plan's slots
 
--- the side behind those that are done, set
+-- the side after those that are done, set
 side_set : (done rest : List Bool) → set (done ++ false ∷ rest) (length done) true ≡ (done ++ true ∷ []) ++ rest
 side_set [] rest = refl
 side_set (b ∷ done) rest = ap (λ (l : List Bool). b ∷ l) (side_set done rest)

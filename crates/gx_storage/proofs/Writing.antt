@@ -133,7 +133,7 @@ begun_is v u size said is same = is ∙ ap (λ n. begun v n) same
 -- ---- what a step leaves
 
 module _ {D : Type 0} (passes : ℕ → Contents → Bool) (state : D → Device) (v : Volume D) (size : ℕ) (t : Shelf D) where
-  -- a store has gone on since its event began, with each page as it was but one
+  -- a store has gone on since its event began, with each page unchanged but one
   pub record Stepped (page : ℕ) : Type 0 where
     pub goes_on : GoesOn passes (state v.shelf.disk) (state t.disk) (begun v size) t
     pub others : (q : ℕ) → (page == q) ≡ false → IsAsItWas (state v.shelf.disk) (state t.disk) v.shelf.frames t.frames q
@@ -163,11 +163,11 @@ module _ {D : Type 0} (passes : ℕ → Contents → Bool) (state : D → Device
   pub steady_begun : (u : Shelf D) → u ≡ begun v size → IsSteady (state v.shelf.disk) v.shelf.frames → IsSteady (state u.disk) u.frames
   steady_begun u is steady = subst {A = Shelf D} (λ x. IsSteady (state x.disk) x.frames) (sym is) steady
 
-  -- the event's record has room, where the store says so
+  -- the event's record has room, if the store says so
   pub takes_then : has_room v.log size ≡ t.has_room → t.has_room ≡ true → v.log.turn ≡ Closed → CanTake v.log size
   takes_then same is still = takes_if v.log size (same ∙ is) still
 
--- what a step says of pages as its event begins, it says of them as they were before
+-- what a step says of pages when its event begins, it says of the pages before
 pub over_begun : {B D : Type 0} (f : Format B) (state : D → Device) (Tells : Type 0 → Store B → Store B → Type 0) (s u t : Shelf D) (batch : ℕ) (room : Bool) → u ≡ record s { batch = batch; has_room = room }
     → Tells (IsSteady (state u.disk) u.frames) (store_of f (state u.disk).seen u) (store_of f (state t.disk).seen t)
     → Tells (IsSteady (state s.disk) s.frames) (store_of f (state s.disk).seen s) (store_of f (state t.disk).seen t)

@@ -75,7 +75,7 @@ module _ {B : Type 0} (known : Limits → Known (Entry B) (Page B)) (r : Reading
     IsLoggedIf size d e v w x true = IsLogged size d e v w x
     IsLoggedIf size d e v w x false = IsUnlogged (begun v size) d e v w
 
--- Where a store has only gone on, with each page as it was and as many taken and counted, its volume keeps the same state.
+-- If a store has only gone on, with each page unchanged and as many taken and counted, its volume keeps the same state.
 abbrev pub ReadsKeep : {B D : Type 0} → Known (Entry B) (Page B) → Reading (Entry B) (Page B) → Format B → (ℕ → Contents → Bool) → Device → Device → Volume D → Shelf D → Type 0
 ReadsKeep k r f passes d e v t = ((q : ℕ) → IsSince passes d e v.shelf t q) → t.used ≡ v.shelf.used → t.counter ≡ v.shelf.counter
     → KeepsTheSame k r f passes d e v (record v { shelf = t })

@@ -11,7 +11,7 @@ use Rattle.gx_tree.specs.declared.descent.Descended.{Descended}
 use Rattle.gx_tree.specs.declared.descent.Descended.TheVariants as did
 use Rattle.gx_tree.specs.declared.seek.Sought.TheVariants.{Here}
 
--- what a step of a descent did that took this way, where it widened no bound
+-- what a step of a descent did that took this way, if it widened no bound
 abbrev pub unwidened : {B : Type 0} → Way B → ℕ → Option (Descended B)
 unwidened Again seen = Some did.Again
 unwidened Add seen = Some did.Leaf
@@ -20,7 +20,7 @@ unwidened FullInner seen = Some did.FullInner
 unwidened (Down slot child) seen = Some (did.Down (record { page = child; seen = seen }))
 unwidened (Widen slot child key) seen = None
 
--- the one where a step of a descent widened a bound, by its slot and its key, and the other where it didn't
+-- the one if a step of a descent widened a bound, by its slot and its key, and the other if it didn't
 abbrev pub IfWidened : {B : Type 0} → (ℕ → B → Type 0) → Type 0 → Descended B → Type 0
 IfWidened Wide Narrow (did.Widened next slot key) = Wide slot key
 IfWidened Wide Narrow (did.Down next) = Narrow

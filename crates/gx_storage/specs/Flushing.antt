@@ -42,12 +42,12 @@ abbrev pub IsLeastWritable : State → Option ℕ → Type 0
 IsLeastWritable s None = (q : ℕ) → IsWritable s q → ⊥
 IsLeastWritable s (Some p) = IsWritable s p × ((q : ℕ) → IsWritable s q → p ≤ q)
 
--- what gives a clean frame: the write of that page; and where there is none, the log's next call
+-- what gives a clean frame: the write of that page; and if there is none, the log's next call
 abbrev pub frame_by : Option ℕ → Need
 frame_by None = need.Log
 frame_by (Some p) = need.Write p
 
--- what helps where frames are wanted: nothing where as many are clean by now, else what gives one
+-- what helps if frames are wanted: nothing if as many are clean by now, else what gives one
 pub record HelpsFrames (s : State) (wanted : ℕ) (result : Option Need) : Type 0 where
   pub enough : wanted ≤ clean_count s → result ≡ None
   pub few : clean_count s < wanted → (least : Option ℕ) × IsLeastWritable s least × (result ≡ Some (frame_by least))
@@ -69,7 +69,7 @@ abbrev pub Recorded : {D : Type 0} → Rec → Volume D → Volume D → Result 
 Recorded x v w (Ok done) = Logs x v.log w.log × (w ≡ record v { log = w.log })
 Recorded x v w (Err fault) = (fault ≡ NoRoom) × HasNoRoom x v.log × (w ≡ v)
 
--- a record came behind those of the head, or there was no room for it
+-- a record came after those of the head, or there was no room for it
 pub record GoesInHead (x : Rec) (old new : Log) : Type 0 where
   pub still : old.turn ≡ Closed
   pub fits : length old.flight + length (spelling x) ≤ BODY_ROOM
@@ -119,7 +119,7 @@ module _ {B : Type 0} (k : Known (Entry B) (Page B)) (r : Reading (Entry B) (Pag
   StepsLog d e v w result = (bodies : List (List (Record (Entry B) (Page B)))) (s : Logged (Entry B) (Page B)) → IsLawful k → Keeps k r f passes d v bodies s
       → Becomes d e w (bodies_stepped result bodies (with_batch v.log.stage v.log.filling s)) s (stepped result (with_batch v.log.stage v.log.filling s))
 
-  -- The records are the same, over the page area that is read now, which is as it was on each page that no gated record
+  -- The records are the same, over the page area that is read now, which is unchanged on each page that no gated record
   -- gives.
   pub record Rewrites {D : Type 0} (d e : Device) (w : Volume D) (bodies : List (List (Record (Entry B) (Page B)))) (s : Logged (Entry B) (Page B)) : Type 0 where
     pub keeps : Keeps k r f passes e w bodies (rewritten r k.pages e.seen s)
@@ -131,7 +131,7 @@ module _ {B : Type 0} (k : Known (Entry B) (Page B)) (r : Reading (Entry B) (Pag
   WritesGated d e v w = (bodies : List (List (Record (Entry B) (Page B)))) (s : Logged (Entry B) (Page B)) → IsLawful k → v.log.turn ≡ Closed → Keeps k r f passes d v bodies s
       → Rewrites d e w bodies s
 
-  -- A record that gives no page was appended: where it may come, the volume keeps the state with it; and where the tree
+  -- A record that gives no page was appended: if it may come, the volume keeps the state with it; and if the tree
   -- that was shown is the log's, the tree that is shown is the log's with it. The device is unchanged.
   pub record KeepsRecord {D : Type 0} (d : Device) (v w : Volume D) (x : Rec) : Type 0 where
     pub keeps : (bodies : List (List (Record (Entry B) (Page B)))) (s : Logged (Entry B) (Page B)) → IsLawful k → MayCome k s.area (all_records s) (record_read r x)

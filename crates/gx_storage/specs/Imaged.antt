@@ -1,4 +1,4 @@
--- The bits of a log's pages: a page's is set where an image of it was appended for the extent that is selected.
+-- The bits of a log's pages: a page's is set if an image of it was appended for the extent that is selected.
 use Rattle.std.specs.Prelude.{◌≡◌, ℕ, zero, suc, Bool, true, false, List, [], ◌∷◌, length, replicate, slice_index_or, slice_set, Result, Ok, Err}
 use Rattle.gx_geom.specs.declared.refusal.Refusal.{Refusal}
 use Rattle.gx_glog.specs.declared.stage.Turn.{Turn}

@@ -78,8 +78,8 @@ module _ {B : Type 0} (k : Known (Entry B) (Page B)) (r : Reading (Entry B) (Pag
   abbrev pub KeepsTheSame : {D : Type 0} → Device → Device → Volume D → Volume D → Type 0
   KeepsTheSame d e v w = (bodies : List (List (Record (Entry B) (Page B)))) (s : Logged (Entry B) (Page B)) → IsLawful k → Keeps d v bodies s → StaysSame d e w bodies s
 
-  -- A change with its record: the tree that is shown is the log's with that record; and where the record may come, the volume keeps
-  -- the state with it. Within the call a crash leaves only what stands for a kept set of the state before.
+  -- A change with its record: the tree that is shown is the log's with that record; and if the record may come, the
+  -- volume keeps the state with it. Within the call a crash leaves only what stands for a kept set of the state before.
   pub record StaysWith {D : Type 0} (d e : Device) (w : Volume D) (bodies : List (List (Record (Entry B) (Page B)))) (s : Logged (Entry B) (Page B)) (x : Record (Entry B) (Page B)) : Type 0 where
     pub shows : AgreeOnUsed (tree_after (appended x s)) (tree_shown e w)
     pub keeps : MayCome k s.area (all_records s) x → Keeps e w bodies (appended x s)

@@ -10,7 +10,7 @@ use Rattle.gx_storage.specs.Changes.{image_at}
 abbrev pub HasOwnNumber : {D : Type 0} → List ℕ → Shelf D → ℕ → Type 0
 HasOwnNumber seen s page = (read_of (image_at seen s page)).number ≡ page
 
--- so it has where a mark was set
+-- so it has if a mark was set
 abbrev pub OwnWhereSet : {D : Type 0} → List ℕ → Shelf D → ℕ → Sought → Type 0
 OwnWhereSet seen s page (Here slot before) = HasOwnNumber seen s page
 OwnWhereSet seen s page (Right next) = Unit {0}

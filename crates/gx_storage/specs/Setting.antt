@@ -45,7 +45,7 @@ module _ {D : Type 0} (state : D → Device) where
   abbrev pub IsSteadyAs : Shelf D → Type 0
   IsSteadyAs s = IsSteady (state s.disk) s.frames
 
-  -- no call of the device has failed where the result is well, and else as many as its fault says
+  -- no call of the device has failed if the result is well, and else as many as its fault says
   abbrev pub ToldAs : {A F : Type 0} → (F → ℕ) → Shelf D → Shelf D → Result A F → Type 0
   ToldAs fails old new result = owner.CountsFaults fails (state old.disk).faults (state new.disk).faults result
 
@@ -133,8 +133,8 @@ module _ {B D : Type 0} (shape : Members B) (traits : Traits B)
   abbrev at : Volume D → Device
   at v = state v.shelf.disk
 
-  -- a change is logged by a record of so many bytes; or where something changed; or with the mark that was found; or
-  -- where a bound was widened
+  -- a change is logged by a record of so many bytes; or if something changed; or with the mark that was found; or
+  -- if a bound was widened
   abbrev pub LogsAs : ℕ → Volume D → Volume D → Rec → Type 0
   LogsAs size v w x = IsLogged known reading form passes size (at v) (at w) v w x
 

@@ -1,4 +1,4 @@
--- What is logged of a change of one page, by the page's bit: where the selected extent has an image of the page, the
+-- What is logged of a change of one page, by the page's bit: if the selected extent has an image of the page, the
 -- change alone, otherwise the page after it. And how many bytes that record has.
 use Rattle.std.specs.Prelude.{ℕ, ◌+◌, ◌*◌, ◌<◌, ◌^◌, Bool, true, false, List}
 use Rattle.gx_page.specs.Bytes.{AreBytes}

@@ -3,7 +3,7 @@ use Rattle.std.specs.Prelude.{ℕ, Bool, List}
 use Rattle.gx_glog.specs.State.{Log}
 use Rattle.gx_store.specs.State.{Shelf}
 
--- A log, and a bit a page, set where the log's extent has an image of the page.
+-- A log, and a bit a page, set if the log's extent has an image of the page.
 pub record Journal : Type 0 where
   pub log : Log
   pub imaged : List Bool

@@ -30,7 +30,7 @@ use Rattle.gx_storage.specs.State.{Journal, Volume}
 abbrev pub swept_slots : {B : Type 0} → (Entry B → Bool) → Node B → List ℕ
 swept_slots claimed node = slots_from 0 (map (is_sweepable (λ x. claimed (entry_of x))) node.pairs)
 
--- the slots of what was planned; none where no plan was made
+-- the slots of what was planned; none if no plan was made
 abbrev pub slots_planned : {E : Type 0} → Result Planned E → List ℕ
 slots_planned (Ok plan) = slots_of plan
 slots_planned (Err why) = []
@@ -49,8 +49,8 @@ module _ {B : Type 0} (known : Limits → Known (Entry B) (Page B)) (r : Reading
   abbrev pub room_for : List ℕ → ℕ
   room_for slots = sweep_room (is_imaged v.imaged page) (length slots)
 
-  -- A leaf was swept, where it had slots to take: the record has these slots, or the leaf's image, by the leaf's bit, and the room for
-  -- just that was asked for. Else nothing is logged.
+  -- A leaf was swept, if it had slots to take: the record has these slots, or the leaf's image, by the leaf's bit, and
+  -- the room for just that was asked for. Else nothing is logged.
   pub record SweepIsLogged (any : Bool) : Type 0 where
     pub slots : List ℕ
     pub exact : IsSteady d v.shelf.frames → AreSwept slots

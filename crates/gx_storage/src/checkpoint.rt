@@ -21,7 +21,7 @@ use crate::Storage;
 use gx_class::ReadKeys;
 use gx_disk::SectorDisk;
 use gx_durable::OfClass;
-use gx_durable::turn::put_first;
+use gx_durable::calls::put_first;
 use gx_geom::Refusal;
 use gx_glog::{Appended, Stage, Turn};
 use gx_record::Record;
@@ -118,7 +118,7 @@ impl<D: SectorDisk, K: ReadKeys> Storage<D, K> {
 
     /// Makes the next device call of the turn to the other extent, exactly one, in this order: the other extent's gates
     /// closed, its first body, sync, its gate, sync, the selector, sync. Returns which call it was. With `Done` the log
-    /// goes on in the other extent behind the head, where no page has an image yet, and the frames count batches from 0
+    /// goes on in the other extent after the head, where no page has an image yet, and the frames count batches from 0
     /// again. Pages don't change. Refused with `Device` exactly if the device failed; the call is then still due.
     ///
     /// Of an honest device whose pages are synced, if the head restates the log: the same state is kept until the last

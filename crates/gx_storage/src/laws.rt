@@ -26,7 +26,7 @@ pub fn a_volume_shows_keys<D: SectorDisk, K: ReadKeys>()
     inners::<K>();
 }
 
-/// A store that has only gone on, with each page as it was, leaves the state that its volume keeps: the log is
+/// A store that has only gone on, with each page unchanged, leaves the state that its volume keeps: the log is
 /// untouched, and nothing was taken or counted. This holds of what a look or a seek reads.
 pub fn reads_keep<D: SectorDisk, K: ReadKeys>()
     ensures { (l : Limits) (v : Volume D) (t : Shelf D) → ReadsKeepAs K.Key.Shape K.ReadKeys D.state l v t }

@@ -1,4 +1,5 @@
-//! The calls that the log's owner makes of the store's frames and device.
+//! The calls that the log's owner makes of the store's frames and device, each with its effect on the state that the
+//! device carries.
 ghost use Rattle.std.specs.Prelude.{◌≡◌, ◌↔◌, ◌≤◌, ℕ, [], true, false, Ok};
 ghost use Rattle.std.specs.Prelude.{IfSome, IfNone, IfOk, IfErr, OnOk, length};
 ghost use Rattle.gx_disk.specs.Device.{Counts, IsSettled, CountsFault};
@@ -11,23 +12,44 @@ ghost use Rattle.gx_pool.specs.State.{IsSound, IsWritable, NoneDirty, clean_coun
 ghost use Rattle.gx_pool.specs.Writing.{WritesAtMost, may_be_written, WritesGated, StaysShown};
 ghost use Rattle.gx_recovery.specs.Known.{Limits};
 ghost use Rattle.gx_durable.specs.Calls.{StepKeepsRunning};
+ghost use Rattle.gx_durable.specs.Opening.{FirstTurnKeeps};
 ghost use Rattle.gx_durable.specs.Pages.{PageKeepsRunning};
 ghost use Rattle.gx_durable.specs.PoolLaws.{StaysUp};
-ghost use Rattle.gx_durable.specs.Steps.{told_frames};
-ghost use Rattle.gx_durable.specs.Turns.{TurnKeepsRunning, told_result};
+ghost use Rattle.gx_durable.specs.Steps.{told, told_frames};
+ghost use Rattle.gx_durable.specs.Turns.{TurnKeepsRunning, told_result, told_turn};
 ghost use Rattle.gx_store.specs.Faults.{CanBeRead};
 
 use crate::store::PageStore;
-use crate::test::NodeTest;
 use gx_class::KeyClass;
 use gx_disk::SectorDisk;
 use gx_durable::Spelled;
-use gx_durable::calls::{log_step, sync};
-use gx_durable::pages::write_page;
-use gx_durable::turn::turn_step;
 use gx_geom::Refusal;
 use gx_glog::{Glog, Stage, Turn};
 use gx_pool::{PageTest, Pool};
+
+// Notes the last batch in the pool, if its gate was synced.
+fn tell_pool<T: PageTest>(pool: &mut Pool<T>, stage: Stage, used: u8)
+    ensures frames { pool.new.frames ≡ told stage used pool.old.frames }
+    ensures test { pool.new.test ≡ pool.old.test }
+{
+    match stage {
+        Stage::GateSync => pool.gated(u64::from(used).saturating_sub(1)),
+        Stage::Body | Stage::BodySync | Stage::Gate | Stage::Idle => {}
+    }
+}
+
+// Notes in the pool that a turn has ended.
+fn tell_turned<T: PageTest>(pool: &mut Pool<T>, call: Turn)
+    requires { NoneDirty pool.old.frames }
+    ensures frames { pool.new.frames ≡ told_turn call pool.old.frames }
+    ensures test { pool.new.test ≡ pool.old.test }
+{
+    match call {
+        Turn::Done => pool.turned(),
+        Turn::Closed | Turn::Body | Turn::BodySync | Turn::Gate | Turn::GateSync | Turn::Selector =>
+            {}
+    }
+}
 
 impl<D: SectorDisk, K: KeyClass> PageStore<D, K> {
     /// How many frames are clean: empty, or with a clean page that the event doesn't hold.
@@ -61,6 +83,10 @@ impl<D: SectorDisk, K: KeyClass> PageStore<D, K> {
     /// Makes the next device call of a log on the store's device; once a gate is synced the frames learn of its batch.
     /// No page changes, in frames or on the device.
     ///
+    /// Of an honest device: the batch that filled is in flight from its first call on, and its commits are durable from
+    /// its gate's sync on, and not before. Whether it succeeds or not, no set changes, and at each moment what a crash
+    /// may leave stands for a kept set of the state before.
+    ///
     /// Refused as the log's own step is.
     pub fn log_step<M: Spelled>(&mut self, log: &mut Glog) -> Result<Stage, Refusal>
         ensures counts { Counts (calls_of result) (D.state self.old.disk) (D.state self.new.disk) result }
@@ -75,11 +101,17 @@ impl<D: SectorDisk, K: KeyClass> PageStore<D, K> {
         ensures runs { (l : Limits) → StepKeepsRunning (M.known l) M.reading log.old log.new self.old.frames
             self.new.frames (D.state self.old.disk) (D.state self.new.disk) result }
     {
-        log_step::<M, NodeTest<K>, D>(log, &mut self.pool, &mut self.disk)
+        let stage = log.log_step(&mut self.disk)?;
+        tell_pool(&mut self.pool, stage, log.used());
+        Ok(stage)
     }
 
     /// Writes a page to its sectors if it has changes and all of them are in gated batches, and returns whether it did;
     /// otherwise does nothing. Once it is written it is clean. No page changes.
+    ///
+    /// Of an honest device, while no turn is under way: whether it succeeds or not, the log stays up over the page area
+    /// that is read now, no set changes, and at each moment what a crash may leave stands for a kept set. Where each
+    /// page was stored as all records leave it, it still is.
     ///
     /// Refused with `Device` if the device failed. The page is then kept unchanged, with its changes.
     pub fn write_page<M: Spelled>(&mut self, page: u32) -> Result<bool, Refusal>
@@ -105,10 +137,11 @@ impl<D: SectorDisk, K: KeyClass> PageStore<D, K> {
         if page == 0 || page > self.used {
             return Ok(false);
         }
-        write_page::<M, NodeTest<K>, D>(&mut self.pool, &mut self.disk, page)
+        self.pool.write_page(&mut self.disk, page)
     }
 
-    /// Makes all writes of the store's device durable. No page changes.
+    /// Makes all writes of the store's device durable. No page changes. Whether it succeeds or not, the log stays up,
+    /// and at each moment what a crash may leave stands for a kept set.
     ///
     /// Refused with `Device` if the device failed.
     pub fn sync<M: Spelled>(&mut self) -> Result<(), Refusal>
@@ -120,11 +153,17 @@ impl<D: SectorDisk, K: KeyClass> PageStore<D, K> {
         ensures up { (l : Limits) → StaysUp (M.known l) M.reading (D.state self.old.disk) (D.state self.new.disk) }
         ensures refusal { IfErr result (λ refusal. refusal ≡ Refusal.Device) }
     {
-        sync::<M, D>(&mut self.disk)
+        self.disk.sync()?;
+        Ok(())
     }
 
     /// Makes the next device call of a log's turn to the other extent; the frames learn of one that has ended. No page
     /// changes; none is dirty.
+    ///
+    /// Of an honest device, if the head is the renewed log and each page is written and synced: the log stays up, with
+    /// the same records until the last call, and with the head alone after it. Whether it succeeds or not, no set
+    /// changes, and at each moment what a crash may leave stands for a kept set. A log that was found, with later gates
+    /// open, may turn as well.
     ///
     /// Refused as the log's own step of a turn is.
     pub fn turn_step<M: Spelled>(&mut self, log: &mut Glog) -> Result<Turn, Refusal>
@@ -141,9 +180,13 @@ impl<D: SectorDisk, K: KeyClass> PageStore<D, K> {
         ensures pages { (D.state self.old.disk).honest ≡ true
             → On log.old (D.state self.old.disk).seen (D.state self.old.disk).pending
             → LeavesPages (D.state self.old.disk) (D.state self.new.disk) }
+        ensures found { (l : Limits) → FirstTurnKeeps (M.known l) M.reading log.old log.new
+            (D.state self.old.disk) (D.state self.new.disk) result }
         ensures runs { (l : Limits) → TurnKeepsRunning (M.known l) M.reading log.old log.new self.old.frames
             self.new.frames (D.state self.old.disk) (D.state self.new.disk) result }
     {
-        turn_step::<M, NodeTest<K>, D>(log, &mut self.pool, &mut self.disk)
+        let call = log.turn_step(&mut self.disk)?;
+        tell_turned(&mut self.pool, call);
+        Ok(call)
     }
 }

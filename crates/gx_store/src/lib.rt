@@ -1,5 +1,5 @@
 //! The pages of a tree in frames over a device: the store that the tree's steps ask for, and what an event says of its
-//! record.
+//! record. It makes the log's device calls too.
 #![tactic(auto)]
 
 mod calls;

@@ -36,7 +36,7 @@ is_faultless (Asked s call) = true
 is_faultless (Sealed s number) = true
 is_faultless (Replied s r) = is_faultless_reply r
 
--- the ask of an item, which waits for the item behind it
+-- the ask of an item, which waits for the item after it
 abbrev pub asked_of : {B : Type 0} → Item B → Option (ℕ × Call B)
 asked_of (Asked s call) = Some (s, call)
 asked_of (Sealed s number) = None

@@ -106,7 +106,7 @@ fn replies<B: Shape>(
     }
 }
 
-/// Whether an item fits where no ask waits for it.
+/// Whether an item fits if no ask waits for it.
 pub(crate) fn fits_here<B: Shape>(
     item: &Item<B>,
     index: &mut PlainIndex<B>,

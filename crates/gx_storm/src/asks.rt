@@ -1,4 +1,4 @@
-//! An ask goes to the plain index only when the item behind it is known.
+//! An ask goes to the plain index only when the item after it is known.
 ghost use Rattle.std.specs.Prelude.{◌≡◌, IfOk, MatchBool, false, true};
 ghost use Rattle.gx_machine.specs.declared.item.Item.TheVariants.{Replied};
 ghost use Rattle.gx_machine.specs.Keys.{keys_of};
@@ -14,7 +14,7 @@ use gx_machine::{Asked, Call, Item, Reply, is_same_reply};
 use gx_plain::PlainIndex;
 use std::alloc::AllocError;
 
-/// The ask of an item, which waits for the item behind it.
+/// The ask of an item, which waits for the item after it.
 pub(crate) fn asked_of<B: Shape>(item: &Item<B>) -> Option<(u8, Call<B>)>
     ensures { result ≡ asked_of item.now }
 {
@@ -44,7 +44,7 @@ fn refuses<B: Shape>(item: &Item<B>, session: u8) -> bool
     }
 }
 
-/// Whether an item fits behind an ask. An ask that is refused for a fault isn't put to the plain index.
+/// Whether an item fits after an ask. An ask that is refused for a fault isn't put to the plain index.
 fn fits_behind<B: Shape>(
     session: u8,
     call: Call<B>,
@@ -65,7 +65,7 @@ fn fits_behind<B: Shape>(
     }
 }
 
-/// Whether an item fits, behind the ask that waits for it or if none waits.
+/// Whether an item fits, after the ask that waits for it or if none waits.
 pub(crate) fn fits<B: Shape>(
     asking: Option<(u8, Call<B>)>,
     item: &Item<B>,

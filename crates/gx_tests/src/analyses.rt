@@ -33,7 +33,7 @@ fn entry(row: u64) -> Entry<Box2> {
     }
 }
 
-/// Tells one record, of fewer than a thousand.
+/// Passes one record, of fewer than a thousand, to the analysis.
 fn tell_step(
     rt: &impl Abort,
     analysis: &mut Analysis<Entry<Box2>>,
@@ -50,7 +50,7 @@ fn tell_step(
     }
 }
 
-/// Tells one record, which comes to this.
+/// Passes one record to the analysis, which then returns this.
 fn tells(
     rt: &impl Abort,
     analysis: &mut Analysis<Entry<Box2>>,
@@ -189,7 +189,7 @@ fn numbers(analysis: &Analysis<Entry<Box2>>) -> (u64, u64, u32, u64) {
     )
 }
 
-/// The first three touches: transaction, row, mark and leaf; zeros where there are fewer.
+/// The first three touches: transaction, row, mark and leaf; zeros if there are fewer.
 fn touches(analysis: &Analysis<Entry<Box2>>) -> [(u64, u64, bool, u32); 3] {
     let mut kept = [(0, 0, false, 0); 3];
     for (place, t) in kept.iter_mut().zip(analysis.touched()) {
@@ -233,7 +233,7 @@ fn eight_transactions_and_not_nine(rt: HostRuntime) {
     }
 }
 
-/// Tells of as many touches as there are places.
+/// Passes records with as many touches as there are places.
 fn touch_all(rt: &impl Abort, analysis: &mut Analysis<Entry<Box2>>) {
     tells(rt, analysis, Counters(4), Ok(()));
     for row in 0..512 {

@@ -6,7 +6,7 @@ use std::process::Abort;
 /// A box by its corners: x1, y1, x2, y2.
 pub type Rectangle = (i32, i32, i32, i32);
 
-/// The box of these corners; fails where they are reversed.
+/// The box of these corners; fails if they are reversed.
 pub fn make_box(rt: &impl Abort, (x1, y1, x2, y2): Rectangle) -> Box2 {
     Box2::new(x1, y1, x2, y2).ok().expect(rt, "a box")
 }

@@ -36,7 +36,7 @@ fn begun<R: Abort + AllocGlobal>(rt: &R) -> Beside {
     Beside { table, plain }
 }
 
-// What the tables are to answer where the plain index gives this.
+// What the tables have to return if the plain index gives this.
 fn given(asked: Asked<Box2>) -> Result<(), Refusal> {
     match asked {
         Asked::Open => Ok(()),

@@ -26,7 +26,7 @@ fn are_sides(rt: &impl Abort, sides: &[bool], groups: &[u8]) {
     }
 }
 
-/// Fails unless `consistent` and `matches` answer so of the query at the bound.
+/// Fails unless `consistent` and `matches` return this for the query at the bound.
 fn check_query<K: KeyClass>(
     rt: &impl Abort,
     bound: &K::Key,
@@ -40,7 +40,7 @@ fn check_query<K: KeyClass>(
     );
 }
 
-/// Queries at a bound, and what `consistent` and `matches` answer.
+/// Queries at a bound, and what `consistent` and `matches` return.
 pub type Queries<K> = [(Query<K>, bool, bool); 8];
 
 /// Fails unless each query is answered so at the bound.

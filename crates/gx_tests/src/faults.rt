@@ -140,7 +140,7 @@ fn is_noted<R: Abort, T>(rt: &R, noted: &Noted<T>, errors: &Errors, is_fault: bo
     same(rt, &(noted.calls, errors.calls_after), &(errors.calls, 0));
 }
 
-// Fails unless the script ends so, and gives this text, where reader and writer fail so.
+// Fails unless the script ends so, and gives this text, if reader and writer fail so.
 fn ends<R: Abort + AllocGlobal>(
     rt: &R,
     (reading, writing): (Errors, Errors),

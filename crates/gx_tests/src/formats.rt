@@ -21,7 +21,7 @@ fn sector<D: SectorDisk>(disk: &mut D, s: u64) -> [u8; 512] {
     [0; 512]
 }
 
-/// The pages of a fresh index that was read; 0 where no magic was found.
+/// The pages of a fresh index that was read; 0 if no magic was found.
 fn fresh_pages(read: &Result<Reading, Damage>) -> Option<u32> {
     match read {
         Ok(found) if found.number == 0 && found.used == 2 && found.set.is_empty() => {
@@ -32,8 +32,8 @@ fn fresh_pages(read: &Result<Reading, Damage>) -> Option<u32> {
     }
 }
 
-/// For how many pages the plain reader finds a fresh index; 0 where it finds none at all, and none where it finds
-/// something else.
+/// For how many pages the plain reader finds a fresh index; 0 if it finds none at all, and none if it finds something
+/// else.
 fn pages_told<R: Abort + AllocGlobal, D: SectorDisk>(rt: &R, disk: &mut D) -> Option<u32> {
     let bytes = image(rt, disk);
     fresh_pages(&read(rt.alloc(), &bytes, 1))
@@ -66,8 +66,8 @@ pub(crate) fn formatted<R: Abort + AllocGlobal>(
     disk
 }
 
-/// What a format for nine pages answers over an index of eight that stops before a call, or behind it where it is done,
-/// and what a crash leaves then.
+/// What a format for nine pages returns over an index of eight that stops before a call, or after it if it is done, and
+/// what a crash leaves then.
 fn stopped<R: Abort + AllocGlobal>(
     rt: &R,
     (k, done): (u64, bool),

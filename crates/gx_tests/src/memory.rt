@@ -9,7 +9,7 @@ fn second_number(text: &str) -> Option<u64> {
     text.split(' ').nth(1)?.parse::<u64>().ok()
 }
 
-// How many pages of 4,096 bytes the process has in memory; none where the system doesn't say.
+// How many pages of 4,096 bytes the process has in memory; none if the system doesn't say.
 fn resident<R: Files + AllocGlobal>(rt: &R) -> Option<u64> {
     match fs::read_to_string(rt, "/proc/self/statm") {
         Ok(text) => second_number(text.as_str()),

@@ -47,7 +47,7 @@ impl Numbered for IntervalClass {
     }
 }
 
-/// Puts bytes behind the last item of a page.
+/// Puts bytes after the last item of a page.
 fn write(rt: &impl Abort, page: &mut Page, item: &[u8]) {
     assert!(rt; !item.is_empty() && item.len() <= 4060);
     let last = page.count();
@@ -76,7 +76,7 @@ fn write_child(rt: &impl Abort, page: &mut Page, key: [u8; 16], child: u8) {
 pub(crate) enum Key {
     /// The key of a number.
     Of(u8),
-    /// No key: the first corner lies behind the second.
+    /// No key: the first corner is greater than the second.
     Reversed,
 }
 
@@ -134,7 +134,7 @@ fn pairs<K: KeyClass>(rt: &impl Abort, page: &Page) -> usize
     }
 }
 
-/// How many children an inner node has, where 200 pages are taken.
+/// How many children an inner node has, if 200 pages are taken.
 fn children<K: KeyClass>(rt: &impl Abort, page: &Page) -> usize
     ensures inner { is_inner (format_of K.KeyClass) 200 page.now ≡ true }
     ensures count { result ≡ length (inner_of (format_of K.KeyClass) page.now).children }
@@ -352,7 +352,7 @@ fn inner_nodes(rt: HostRuntime) {
     inners::<IntervalClass>(&rt);
 }
 
-/// Fails unless a page is damaged, read as either kind, where 200 pages are taken.
+/// Fails unless a page is damaged, read as either kind, if 200 pages are taken.
 fn damaged<K: KeyClass>(rt: &impl Abort, page: &Page) {
     let leaf = Leaf::<K>::read(page).err();
     let inner = Inner::<K>::read(page, 200).err();

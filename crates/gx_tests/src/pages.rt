@@ -69,7 +69,7 @@ fn try_put(rt: &impl Abort, page: &mut Page, slot: usize, item: &[u8]) -> bool {
     page.insert(slot, item)
 }
 
-/// Puts the item in; fails where the page has no room.
+/// Puts the item in; fails if the page has no room.
 fn put_item(rt: &impl Abort, page: &mut Page, slot: usize, item: &[u8]) {
     holds(rt, try_put(rt, page, slot, item));
 }
@@ -144,7 +144,7 @@ fn fresh_pages_and_a_first_item(rt: HostRuntime) {
 /// What page 2 shows of its items: their count and the heap's start, the directory, and the heap.
 type Items = (&'static [u8], &'static [u8], Part<'static>);
 
-/// The item `abc`, then `de` behind it, then `f` between the two, and then these without `abc`.
+/// The item `abc`, then `de` after it, then `f` between the two, and then these without `abc`.
 static ONE: Items = (&[1, 0x0f, 0xfd], &[0x0f, 0xfd, 0, 3], (4093, b"abc"));
 
 static TWO: Items = (
@@ -317,7 +317,7 @@ fn key_of<K: KeyClass>(item: &[u8]) -> Option<K::Key> {
     }
 }
 
-/// Moves a page's only item behind the only one of another.
+/// Moves a page's only item after the only one of another.
 fn move_the_only_item(rt: &impl Abort, from: &mut Page, to: &mut Page) {
     assert!(rt; from.count() == 1);
     put_item(rt, to, 1, from.get(0));

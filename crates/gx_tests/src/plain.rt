@@ -250,7 +250,7 @@ fn two_sessions_take_all_claims(rt: HostRuntime) {
     }
 }
 
-// Fails unless session 1's call is answered so, at once or where it is asked again since memory was refused.
+// Fails unless session 1's call is answered so, at once or if it is asked again since memory was refused.
 fn gives_again(rt: &impl Abort, index: &mut PlainIndex<Box2>, word: Word, told: Told) {
     let first = called(index, 1, word);
     if first == MEMORY {
@@ -275,7 +275,7 @@ fn calls_again(rt: &impl Abort, index: &mut PlainIndex<Box2>) {
     gives(rt, index, 1, Word::Abort, ABORTED);
 }
 
-// Each call that takes memory answers as ever, at once or where it is asked again; a delete takes none. (With one
+// Each call that takes memory answers as ever, at once or if it is asked again; a delete takes none. (With one
 // allocation refused, this is run for each in turn.)
 #[test]
 fn refused_memory_changes_nothing(rt: HostRuntime) -> Result<(), Fail> {

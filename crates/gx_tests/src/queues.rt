@@ -1,4 +1,5 @@
-//! A device that keeps its calls in a queue: its calls succeed, and come out of the queue as they were made.
+//! A device that keeps its calls in a queue: its calls succeed, and come out of the queue in the order in which they
+//! were made.
 use crate::asserts::{got, holds};
 use gx_disk::SectorDisk;
 use gx_queue_disk::{CallQueue, DeviceCall, Image, QueueDisk, QueuesCalls};

@@ -62,7 +62,7 @@ impl Answers<Box2> for List {
     }
 }
 
-// Gives so many bytes a read, each time after an interrupted read, and fails after the last where that is asked.
+// Gives so many bytes a read, each time after an interrupted read, and fails after the last if that is asked.
 #[derive(Drop)]
 struct Drip<'a> {
     rest: &'a [u8],
@@ -332,7 +332,7 @@ fn many(alloc: Global, before: &[u8], bytes: &[u8], behind: &[u8]) -> Result<Vec
     [before, all.as_slice(), behind].concat(alloc)
 }
 
-// What is written where 200 rows are inserted and found.
+// What is written if 200 rows are inserted and found.
 fn many_found(alloc: Global) -> Result<Vec<u8>, AllocError> {
     let inserted = many(alloc, b"", b"1 inserted\n", b"1 found 200\n")?;
     many(alloc, inserted.as_slice(), FOUND, b"1 aborted\n")
@@ -368,7 +368,7 @@ fn a_reader_that_fails_ends_the_script(rt: HostRuntime) {
 
 const TEXT: &[u8] = b"1 ok\n1 inserted\n1 found 1\n1 entry 7 0 0 1 1\n1 aborted\n";
 
-// How many calls are asked where the writer takes so much of that text.
+// How many calls are asked if the writer takes so much of that text.
 fn calls_asked(most: usize) -> u64 {
     match most {
         0..=4 => 1,

@@ -37,7 +37,7 @@ static SCRIPTS: [Row; 6] = [
         b"1 BEGIN\n1 INSERT 7 1 0 0 0 1 1\n1 INSERT 7 0 1 0 1 0 1\n1 INSERT 7 0 0 1 1 1 0\n9 OVERLAP 0 0 1 1 1 0\n",
         b"1 ok\n1 refused 6 bad box\n1 refused 6 bad box\n1 refused 6 bad box\n9 refused 6 bad box\n",
     ),
-    // entries of one row come by their corners as they are written
+    // entries of one row come in the order of their corners
     (
         b"1 BEGIN\n1 INSERT 7 0 0 1 5 5 5\n1 INSERT 7 0 0 0 9 9 9\n1 INSERT 7 0 0 0 9 9 8\n1 OVERLAP 1 1 1 1 1 1\n",
         b"1 ok\n1 inserted\n1 inserted\n1 inserted\n1 found 3\n1 entry 7 0 0 0 9 9 8\n1 entry 7 0 0 0 9 9 9\n1 entry 7 0 0 1 5 5 5\n",

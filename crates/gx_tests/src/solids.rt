@@ -15,7 +15,7 @@ fn try_solid([x1, y1, z1, x2, y2, z2]: Corners) -> Result<Box3, Refusal> {
     Box3::new(x1, y1, z1, x2, y2, z2)
 }
 
-/// The box of these corners; fails where they are reversed.
+/// The box of these corners; fails if they are reversed.
 fn make_solid(rt: &impl Abort, corners: Corners) -> Box3 {
     try_solid(corners).ok().expect(rt, "a box of space")
 }

@@ -206,7 +206,7 @@ fn says(rt: &impl Abort, pages: &mut Tree, said: &Said) {
     same(rt, &found, &(word, slot, child, bound));
 }
 
-// A descent goes to the child of least enlargement, begins again where a page was split since, and says what is full.
+// A descent goes to the child of least enlargement, begins again if a page was split since, and says what is full.
 #[test]
 fn a_descent_goes_down(rt: HostRuntime) {
     let mut pages = split_twice(&rt);

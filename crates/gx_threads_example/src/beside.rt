@@ -50,8 +50,8 @@ struct Plan {
     each: u16,
 }
 
-/// Commits one insert after another: so many at most, or until nobody is left that has to end. With a pause behind each
-/// where one is wanted. Returns how many.
+/// Commits one insert after another: so many at most, or until nobody is left that has to end. With a pause after each
+/// if one is wanted. Returns how many.
 fn commit<E: Events<Box2>, R: Run<Box2>, W: Wait + Clock>(
     rt: &W,
     shared: &Shared<Box2, E, R>,

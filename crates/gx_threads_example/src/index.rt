@@ -29,8 +29,8 @@ pub(crate) fn make<D: SectorDisk + Drop>(
     Ok(disk)
 }
 
-/// Opens the index that a device has, to be shared by threads. Where devices of this kind keep what they acknowledge,
-/// it is seen as one machine, of whose sessions none has a call open.
+/// Opens the index that a device has, to be shared by threads. If devices of this kind keep what they acknowledge, it
+/// is seen as one machine, of whose sessions none has a call open.
 pub(crate) fn open_index<D: SectorDisk + Drop>(
     alloc: Global,
     disk: D,

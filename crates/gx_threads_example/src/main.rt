@@ -1,20 +1,20 @@
 //! Threads over one index in a file, as a service has them: the index is opened, shared by threads, closed, settled,
 //! and opened again.
 //!
-//! A line of `stdin` has two numbers: how many threads there are, 1 to 8, and how many transactions each makes. Behind
-//! them a file may be named; an index is made in it, and what it held is lost. Without a file the device is one in
-//! memory.
+//! A line of `stdin` has two numbers: how many threads there are, 1 to 8, and how many transactions each makes. After
+//! them a file may be named; the program makes an index in it, and what it held is lost. Without a file the device is
+//! one in memory.
 //!
-//! Behind the word `single` a transaction has one insert, behind `pair` a search and an insert, in place of three
-//! inserts and a search. Behind `told` it has one insert too, and each commit is printed once it is acknowledged, so
-//! that the program may be killed amid them.
+//! After the word `single` a transaction has one insert, after `pair` a search and an insert, in place of three inserts
+//! and a search. After `told` it has one insert too, and each commit is printed once it is acknowledged, so that the
+//! program may be killed amid them.
 //!
 //! A line may have the word `storm` first, and then a seed, how many sessions there are and how many calls each makes;
 //! so their calls are random, and the plain index replays the record.
 //!
-//! Behind `paced` the first thread commits so many single inserts, while each of the others commits one a millisecond;
-//! behind `reads` it commits without pause, while each of the others reads so often in one transaction. What they did
-//! is printed, with the time that it took.
+//! After `paced` the first thread commits so many single inserts, while each of the others commits one a millisecond;
+//! after `reads` it commits without pause, while each of the others reads so often in one transaction. What they did is
+//! printed, with the time that it took.
 //!
 //! The program prints what the record says of each session, how many calls were finished in all, how many commits were
 //! acknowledged, and how many entries the index has once it is opened again: the same in whatever order threads came.
@@ -56,7 +56,7 @@ struct Wanted<'l> {
     file: Option<&'l str>,
 }
 
-/// A line's two numbers, and the file behind them, if there is one.
+/// A line's two numbers, and the file after them, if there is one.
 fn read_line(line: &str) -> Result<Wanted<'_>, Trouble> {
     let (job, line) = Job::read(line);
     let Some((threads, rest)) = line.split_once(' ') else {

@@ -13,7 +13,7 @@ use std::thread::Threads;
 /// How many entries a node has at most, so few that nodes are often split.
 const MOST: u16 = 8;
 
-/// A line's three numbers behind its first word, and the file behind them, if there is one.
+/// A line's three numbers after its first word, and the file after them, if there is one.
 pub(crate) fn read_storm(words: &str) -> Result<(Storm, Option<&str>), Trouble>
     ensures { IfOk result (λ read. read.0.sessions ≤ SESSIONS) }
 {

@@ -78,7 +78,7 @@ impl<R: Ledger> Worker<R> {
         }
     }
 
-    /// One call, to its end; its reply is kept where the session's share rose.
+    /// One call, to its end; its reply is kept if the session's share rose.
     pub(crate) fn call<E: Events<Box2>, W: Wait>(
         &mut self,
         rt: &W,

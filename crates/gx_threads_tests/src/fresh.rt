@@ -34,7 +34,7 @@ pub(crate) fn fresh(
     }
 }
 
-/// The same in a file, which is made, or loses what it held, with a handle for early syncs. Where files keep what they
+/// The same in a file, which is made, or loses what it held, with a handle for early syncs. If files keep what they
 /// acknowledge, the engine is seen as the machine with nothing committed.
 pub(crate) fn fresh_in_file<T: Files<File = File>>(
     rt: &T,

@@ -31,7 +31,7 @@ fn commits_held<E: Events<Box2>, R: Run<Box2>, W: Wait + Abort>(
     caller
 }
 
-/// Makes these calls while another session's call is held, and lets that one go; none where it isn't held.
+/// Makes these calls while another session's call is held, and lets that one go; none if it isn't held.
 fn calls_while_held<E: Events<Box2>, R: Run<Box2>, W: Wait + Abort>(
     rt: &W,
     shared: &Shared<Box2, E, R>,

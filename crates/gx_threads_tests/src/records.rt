@@ -116,12 +116,12 @@ static RECORDS: [(&[Line], Option<u64>); 12] = [
     ),
 ];
 
-/// Puts an item behind the last.
+/// Puts an item after the last.
 fn add(rt: &impl Abort, items: &mut Vec<Item<Box2>>, item: Item<Box2>) {
     got(rt, items.push(item), "no memory for a record");
 }
 
-/// Puts a call of session 1 and its reply behind the last item.
+/// Puts a call of session 1 and its reply after the last item.
 fn add_line(rt: &impl Abort, items: &mut Vec<Item<Box2>>, line: Line) {
     let alloc = *items.allocator();
     let (call, reply) = match line {

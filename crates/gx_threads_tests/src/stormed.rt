@@ -57,7 +57,7 @@ enum Change {
     Lose(usize),
 }
 
-/// Changes, one after another, and what is said then; none where the record ends with a mismatch.
+/// Changes, one after another, and what is said then; none if the record ends with a mismatch.
 static CHANGES: [(Change, Option<Verdict>); 4] = [
     (Change::Nothing, Some(Verdict::Sound)),
     (

@@ -25,9 +25,9 @@ struct Seen {
     asks_amid: u64,
     /// How many sweeps came. Sessions make none.
     sweeps: u64,
-    /// How many asks came behind a sweep.
+    /// How many asks came after a sweep.
     asks_behind: u64,
-    /// How many sweeps came behind an ask.
+    /// How many sweeps came after an ask.
     sweeps_behind: u64,
 }
 

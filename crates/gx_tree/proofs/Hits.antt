@@ -33,7 +33,7 @@ module _ {X : Type 0} (p w : X → Bool) (only : (x : X) → p x ≡ false → w
   passed (x ∷ xs) (suc from) zero a b m = absurd (omega arith)
   passed (x ∷ xs) (suc from) (suc hit) a b m = passed xs from hit (omega arith) (omega arith) (λ k h i. m (suc k) (omega arith) (omega arith))
 
-  -- the next hit, if it is taken, and what comes behind it
+  -- the next hit, if it is taken, and what comes after it
   pub next_taken : (xs : List X) (from hit : ℕ) → IsNextHit (map p xs) from (Some hit) → (x : X) → slice_get xs hit ≡ Some x
       → filter w (drop from xs) ≡ filter w (x ∷ []) ++ filter w (drop (hit + 1) xs)
   next_taken xs from hit next x at =
@@ -44,7 +44,7 @@ module _ {X : Type 0} (p w : X → Bool) (only : (x : X) → p x ≡ false → w
       ∙ taken x (filter w (drop (suc hit) xs)) (w x)
       ∙ ap (λ n. filter w (x ∷ []) ++ filter w (drop n xs)) one
 
-  -- where there is no further hit nothing is left
+  -- if there is no further hit nothing is left
   pub none_left : (xs : List X) (from : ℕ) → IsNextHit (map p xs) from None → filter w (drop from xs) ≡ []
   none_left [] zero next = refl
   none_left [] (suc from) next = refl
@@ -52,7 +52,7 @@ module _ {X : Type 0} (p w : X → Bool) (only : (x : X) → p x ≡ false → w
       misses x xs (next 0 (omega arith) (omega (arith, length-map xs p))) ∙ none_left xs zero (λ k h i. next (suc k) (omega arith) (omega (arith, length-map xs p)))
   none_left (x ∷ xs) (suc from) next = none_left xs from (λ k h i. next (suc k) (omega arith) (omega (arith, length-map xs p)))
 
--- nothing is behind the last slot
+-- nothing is after the last slot
 pub none_behind : {X : Type 0} (w : X → Bool) (xs : List X) (from : ℕ) → length xs ≤ from → filter w (drop from xs) ≡ []
 none_behind w [] zero h = refl
 none_behind w [] (suc from) h = refl

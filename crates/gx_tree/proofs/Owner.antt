@@ -18,7 +18,7 @@ fails_none fails PagesFull is = refl
 fails_none fails (Step Damaged) is = refl
 fails_none fails (Step (Pages fault)) is = absurd is
 
--- what holds, holds where a step was refused
+-- what holds, holds if a step was refused
 pub where_refused : {A F P : Type 0} (result : Result A F) → P → OnErr result P
 where_refused (Ok done) holds = tt
 where_refused (Err fault) holds = holds

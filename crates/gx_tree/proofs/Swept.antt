@@ -14,7 +14,7 @@ use Rattle.gx_tree.specs.Sweeping.{Planned, PlansSweep, TakesOut, slots_from, sl
 use Rattle.gx_tree.specs.Writing.{Swept}
 use Rattle.gx_tree.proofs.Sides.{unpassing_stay, spares_others}
 
--- a side more adds its slot where it goes
+-- one more side adds its slot if that element goes
 pub listed_one : (n k : ℕ) (sides : List Bool) → k < length sides → get_or sides k false ≡ true
     → slots_from n (take (suc k) sides) ≡ slots_from n (take k sides) ++ (n + k) ∷ []
 unfolding slots_from

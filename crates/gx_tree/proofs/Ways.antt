@@ -27,7 +27,7 @@ module _ {K : Type 0} where
       let more : 0 < times c.page (map (λ d. d.page) ds) = named ds slot c at in
       omega (arith, more)
 
-  -- where one entry names a page, what holds of it holds of each that does
+  -- if one entry names a page, what holds of it holds of each that does
   pub alone : (P : Child K → Type 0) (cs : List (Child K)) (slot : ℕ) (c : Child K) → slice_get cs slot ≡ Some c → P c
       → times c.page (map (λ d. d.page) cs) ≤ 1 → Each (λ d. d.page ≡ c.page → P d) cs
   alone P [] slot c at p once = tt

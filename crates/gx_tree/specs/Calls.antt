@@ -105,7 +105,7 @@ module _ {P C F B A : Type 0} (pages : Ghosts P C F B) where
     pub told : CountsFaults (step_fails pages.fails) (pages.faults old) (pages.faults new) result
     pub later : OnOk result (IsWhyLater pages.why old new)
 
-  -- a step reads a page, and changes that alone where it writes: it asks to bring it, and to prepare it where it writes
+  -- a step reads a page, and changes that alone if it writes: it asks to bring it, and to prepare it if it writes
   pub record WritesPage (wrote : A → Bool) (page : ℕ) (old new : P) (result : Result A (StepFault F)) : Type 0 where
     pub steady : pages.steady old → pages.steady new
     pub since : KeepsSinceBut pages.since page old new

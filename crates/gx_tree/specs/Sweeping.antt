@@ -42,13 +42,13 @@ pub record PlansSweep {B : Type 0} (claimed : Entry B → Bool) (node : Node B) 
 abbrev pub Answers : {F B : Type 0} → (F → Entry B → Bool → Type 0) → F → (Entry B → Bool) → Type 0
 Answers {F} {B} post claimed test = (entry : Entry B) (answer : Bool) → post claimed entry answer → answer ≡ test entry
 
--- the pairs of these slots go; where there are none nothing has changed
+-- the pairs of these slots go; if there are none nothing has changed
 pub record TakesOut {B : Type 0} (plan : Planned) (old new : Store B) : Type 0 where
   pub some : takes_none plan ≡ false → ChangesOnly (tree_of old) (tree_of new) plan.page
       (staying plan.sides ((tree_of old).node plan.page).pairs) ((tree_of old).node plan.page).children
   pub none : takes_none plan ≡ true → new ≡ old
 
--- what taking out asks for: nothing, where nothing goes
+-- what taking out asks for: nothing, if nothing goes
 abbrev pub to_take_out : Bool → ℕ → List Asking
 to_take_out true page = []
 to_take_out false page = Prepares (page ∷ []) 0 ∷ []

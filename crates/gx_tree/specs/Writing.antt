@@ -29,7 +29,7 @@ SetsMark {B} wants old new a marked (Here slot before) =
     → ChangesOnly (tree_of old) (tree_of new) a (slice_set ((tree_of old).node a).pairs slot (marked_as marked x)) ((tree_of old).node a).children)
 SetsMark wants old new a marked (Right next) = Seeks wants ((tree_of old).node a) (Right next) × (new ≡ old)
 
--- a leaf is swept, where it has a marked pair that no session claims; otherwise nothing has changed
+-- a leaf is swept, if it has a marked pair that no session claims; otherwise nothing has changed
 pub record Swept {B : Type 0} (claimed : Entry B → Bool) (old new : Store B) (a : ℕ) (any : Bool) : Type 0 where
   pub leaf : ((tree_of old).node a).level ≡ 0
   pub some : any ≡ true → IsSweep (tree_of old) (tree_of new) a (λ x. claimed (entry_of x))

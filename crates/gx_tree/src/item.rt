@@ -4,7 +4,7 @@ ghost use Rattle.std.specs.Prelude.{◌≡◌, nat_lt};
 use gx_page::Page;
 use std::marker::Model;
 
-/// A page that is to be read, and the counter of splits as it was when the page's number was read (Kornacker, Mohan,
+/// A page that is to be read, and the counter of splits at the time when the page's number was read (Kornacker, Mohan,
 /// Hellerstein 1997). A page whose sequence number is greater was split since.
 #[derive(Clone, Copy, Debug, Default, PartialEq, Eq)]
 pub struct TraversalItem {
@@ -37,7 +37,7 @@ impl TraversalItem {
         self.page
     }
 
-    /// The counter as it was.
+    /// The remembered counter.
     pub fn seen(&self) -> u64
         ensures { result ≡ self.now.seen }
     {

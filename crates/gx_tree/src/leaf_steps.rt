@@ -62,7 +62,7 @@ pub(crate) fn prepare_page<K: KeyClass, P: PagesMut<K>>(
     pages.prepare(&[page], 0)
 }
 
-/// Puts a live pair behind the last one of the leaf on a page, if a node has at most `most` entries, which is at most
+/// Puts a live pair after the last one of the leaf on a page, if a node has at most `most` entries, which is at most
 /// `MAX_ENTRIES`.
 ///
 /// Refused with `Pages` if the page could not be brought or prepared, and with `Damaged` only if it isn't a leaf in

@@ -26,7 +26,7 @@ abbrev pub of_entry : {B : Type 0} → Keys B → Entry B → List (Note B) → 
 of_entry k e [] = None
 of_entry k e (n ∷ notes) = if same_entry k e n.entry then Some n else of_entry k e notes
 
--- a write with the mark from before an earlier write of the same entry, where there is one
+-- a write with the mark from before an earlier write of the same entry, if there is one
 abbrev pub with_first_mark : {B : Type 0} → Note B → Option (Note B) → Note B
 with_first_mark last None = last
 with_first_mark last (Some first) = record last { before = first.before }

@@ -37,7 +37,7 @@ fn claims_held<B: Shape>(slots: &[Holding<B>]) -> usize
     held
 }
 
-/// Claims an entry for the session at a place, where `spent` claims are held in all.
+/// Claims an entry for the session at a place; `spent` claims are held in all.
 fn claim_at<B: Shape>(
     slots: &mut Vec<Holding<B>>,
     place: usize,

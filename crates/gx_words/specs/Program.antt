@@ -19,7 +19,7 @@ wanted_rule name = record (new_rule name) { required = true }
 abbrev pub number_rule : Text → ℕ → ℕ → Rule
 number_rule name lowest highest = record (wanted_rule name) { parser = Some (value.Signed (pos lowest) (pos highest)) }
 
--- `--frames N`, from 16 to 4,096, and 64 where it isn't given
+-- `--frames N`, from 16 to 4,096, and 64 if it isn't given
 abbrev pub frames_rule : Rule
 frames_rule = record (new_rule (codes "frames")) {
   long = Some (codes "frames");

@@ -90,7 +90,7 @@ class Server(ThreadingHTTPServer):
         self.boxes = Boxes(index)
 
     def handle_error(self, *request: Any) -> None:
-        """Says nothing where the browser has left."""
+        """Says nothing if the browser has left."""
         if not isinstance(sys.exc_info()[1], ConnectionError):
             super().handle_error(*request)
 

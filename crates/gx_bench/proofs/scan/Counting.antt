@@ -31,7 +31,7 @@ one_more_block q p xs from h =
     passed_both q p (take (from + 64) xs) ∙ ap (count_by q) (block_more p xs from h) ∙ counted_both q (filter p (take from xs)) (passing_of p xs from)
     ∙ ap (λ n. n + count_by q (passing_of p xs from)) (sym (passed_both q p (take from xs)))
 
--- a pair is counted where it isn't marked
+-- a pair is counted if it isn't marked
 pub one_counted : {B : Type 0} (n : ℕ) (x : Pair B) (marked : Bool) → n ≡ bool_byte (not marked) → marked ≡ x.marked
     → (n ≡ count_by (λ pair. not pair.marked) (x ∷ [])) × (n ≤ 1)
 one_counted n x true is same =

@@ -10,7 +10,7 @@ use borrow.Table.Row.{s_int}
 use borrow.Rule.Simd.Lanes.{act2}
 use Rattle.gx_class.specs.Probes.{FourFit, are_between}
 
--- one lane's comparison: all ones where the first is less
+-- one lane's comparison: all ones if the first is less
 abbrev less : ℕ → ℕ → ℕ
 less = act2 (mask (lt signed)) (s_int w32) (s_int w32) (s_int w32)
 

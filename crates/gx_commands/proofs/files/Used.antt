@@ -32,7 +32,7 @@ used {F} file access disk after old middle new from to tries opened leaves quiet
     } in
     subst (λ (o : Opener F). Uses file old o access disk after from to) (sym leaves.kept) uses
 
--- so where the file was extended for as many sectors
+-- so if the file was extended for as many sectors
 pub used_for : {F : Type 0} (file : List ℕ) (old new : Opener F) (n wanted : ℕ) (disk after : FileDisk) (from to : Outputs) → n ≡ wanted
     → Uses file old new (Create n) disk after from to → Uses file old new (Create wanted) disk after from to
 used_for file old new n wanted disk after from to is uses = subst (λ (m : ℕ). Uses file old new (Create m) disk after from to) is uses

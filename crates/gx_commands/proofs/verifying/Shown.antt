@@ -18,7 +18,7 @@ use Rattle.gx_restart.specs.Verified.{HandsOut, IsDamagedCopy}
 use Rattle.gx_restart.specs.declared.verification.NotVerified.{NotVerified}
 use Rattle.gx_commands.specs.Verifying.{CopyFinds, IsShownOf, TellsUnverified}
 
--- what is said of what was found otherwise, where that follows
+-- what is said of what was found otherwise, if that follows
 pub so_told : (was now : Result (Option Damage) Refusal → Type 0) (why : Refusal) → (why ≡ refusal.Damaged → (found : Result (Option Damage) Refusal) → was found → now found) → (old new : Outputs) (status : ℕ)
     → TellsUnverified was why old new status → TellsUnverified now why old new status
 so_told was now why follows old new status (inl (is, tells)) =

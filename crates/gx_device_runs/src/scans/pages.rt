@@ -53,7 +53,7 @@ impl Boxes {
     }
 }
 
-/// Puts an item behind the last. `None` if the page has no room.
+/// Puts an item after the last. `None` if the page has no room.
 fn push(page: &mut Page, item: &[u8]) -> Option<()>
     requires { (1 ≤ length item.now) × (length item.now ≤ 4060) }
 {
@@ -102,7 +102,7 @@ impl Pages {
         Some(pages)
     }
 
-    /// Puts a box behind the last. `None` if there is no room.
+    /// Puts a box after the last. `None` if there is no room.
     fn push_box(&mut self, key: Box2, row: usize) -> Option<()> {
         push(&mut self.leaf, &pair(key, row))?;
         push(&mut self.inner, &child(key))

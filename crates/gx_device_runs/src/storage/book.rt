@@ -16,7 +16,7 @@ pub(crate) const SESSIONS: usize = 4;
 #[derive(Clone, Copy)]
 pub(crate) struct Row {
     pub(crate) key: Box2,
-    /// The leaf on which it was last written, 0 where it never was.
+    /// The leaf on which it was last written, 0 if it never was.
     pub(crate) leaf: u32,
     pub(crate) live: bool,
     /// Whether it was live when the last transaction that wrote it had ended.
@@ -133,7 +133,7 @@ impl Book {
         })
     }
 
-    /// The transaction of a session, which begins one where it has none.
+    /// The transaction of a session, which begins one if it has none.
     pub(crate) fn transaction(&mut self, number: usize) -> Result<u64, StorageFault> {
         if let Some(transaction) = self.session(number)?.transaction {
             return Ok(transaction);

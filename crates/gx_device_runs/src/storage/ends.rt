@@ -92,7 +92,7 @@ fn read_back(alloc: Global, disk: &mut MemDisk) -> Result<Reading, StorageFault>
     }
 }
 
-/// What was read back, where it is one of those that are expected.
+/// What was read back, if it is one of those that are expected.
 fn judge(expected: &Expected, left: Left, found: &Reading) -> Result<Stood, StorageFault> {
     let Some(flight) = &expected.flight else {
         expected.gated.stands(found)?;

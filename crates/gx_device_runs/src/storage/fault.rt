@@ -3,7 +3,7 @@ use gx_geom::Refusal;
 use gx_page::PageFault;
 use std::alloc::{AllocError, AllocFailed};
 
-/// What a call returned, or what the device has, where that isn't as expected.
+/// What a call returned, or what the device has, if that isn't as expected.
 #[derive(Clone, Copy)]
 pub(crate) enum What {
     Base,

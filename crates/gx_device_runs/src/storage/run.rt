@@ -40,7 +40,7 @@ pub(crate) struct Expected {
     pub(crate) flight: Option<Snapshot>,
     /// Whether records fill that aren't in flight.
     pub(crate) fills: bool,
-    /// The last of the log's calls; `GateSync` too where another sync has settled the gate in flight.
+    /// The last of the log's calls; `GateSync` too if another sync has settled the gate in flight.
     pub(crate) last: Stage,
     /// Whether the gate of the batch in flight was written.
     pub(crate) gate_written: bool,

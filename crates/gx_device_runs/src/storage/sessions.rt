@@ -25,7 +25,7 @@ impl Run {
         self.book.set_coming(number, Some(Coming { row, place }));
     }
 
-    /// Splits the node that is in the way. Where no page is left the insert is given up.
+    /// Splits the node that is in the way. If no page is left the insert is given up.
     fn make_room(&mut self, number: usize, coming: &Coming) -> Result<(), StorageFault> {
         let page = coming.place.item.page();
         let made = if page == 1 {

@@ -99,7 +99,7 @@ fn are_same(one: &Node, other: &Node) -> bool {
         && are_same_children(&one.children, &other.children)
 }
 
-/// The number of the first page that differs, where as many are in use.
+/// The number of the first page that differs, if as many are in use.
 fn first_other(one: &[Node], other: &[Node]) -> Option<u64> {
     let mut page = 0_u64;
     for (a, b) in one.iter().zip(other.iter()) {

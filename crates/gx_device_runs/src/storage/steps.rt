@@ -165,7 +165,7 @@ impl Run {
         Err(StorageFault::Unexpected(What::Right))
     }
 
-    /// Splits a full node below its parent, where that has a place for it.
+    /// Splits a full node below its parent, if that has a place for it.
     pub(crate) fn split(&mut self, page: u32, parent: u32) -> Result<(), StorageFault> {
         for _try in 0..TRIES {
             match self.volume.split(page, parent, &mut self.keys) {

@@ -18,10 +18,10 @@ use gx_storage::Storage;
 use gx_store::StoreFault;
 use gx_tree::{Descended, RootSplit, Sought, Split, SplitFault, StepFault, TraversalItem};
 
-/// Why a call of the pages answers nothing.
+/// Why a call of the pages was refused.
 pub(crate) type Fault = StepFault<StoreFault>;
 
-/// Why a split answers nothing.
+/// Why a split was refused.
 pub(crate) type NoSplit = SplitFault<StoreFault>;
 
 /// Pages with their log.
@@ -85,7 +85,7 @@ impl<D: SectorDisk, K: ReadKeys> Volume<D, K> {
         self.storage.sync()
     }
 
-    /// Puts a record into the head of a turn, once nothing is in flight. `TooSmall` where it doesn't go there.
+    /// Puts a record into the head of a turn, once nothing is in flight. `TooSmall` if it doesn't go there.
     pub(crate) fn put_head(&mut self, logged: &Record<'_>) -> Result<(), Refusal>
         requires in_range { IsInRange (rec_of logged.now) }
     {
@@ -98,7 +98,7 @@ impl<D: SectorDisk, K: ReadKeys> Volume<D, K> {
         }
     }
 
-    /// Makes the next call of a turn. `CallOpen` where it may not begin.
+    /// Makes the next call of a turn. `CallOpen` if it may not begin.
     pub(crate) fn turn_step(&mut self) -> Result<Turn, Refusal> {
         if !self.storage.may_turn() {
             return Err(Refusal::CallOpen);

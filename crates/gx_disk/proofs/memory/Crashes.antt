@@ -12,7 +12,7 @@ use Rattle.gx_disk.specs.Crash.{pending_below, crashed, IsCrash}
 use Rattle.gx_disk.proofs.Calls.{second_of_both}
 use Rattle.gx_disk.proofs.Record.{total_kept-append}
 
--- the later calls fit where all do
+-- the later calls fit if all do
 fit_drop : (sectors n : ℕ) (calls : List PastCall) → fit_all sectors calls ≡ true → fit_all sectors (drop n calls) ≡ true
 unfolding fit_all
 fit_drop sectors zero calls fit = fit

@@ -114,7 +114,7 @@ place_within (Write first n m) s at some =
     let in_it = within_of first m s chosen.0 in
     omega (arith, chosen.1, in_it.from, in_it.below)
 
--- the calls behind one fit where all do
+-- the calls after one fit if all do
 fit_behind : (sectors : ℕ) (call : PastCall) (calls : List PastCall) → fit_all sectors (call ∷ calls) ≡ true → fit_all sectors calls ≡ true
 unfolding fit_all
 fit_behind sectors Sync calls fit = fit

@@ -179,7 +179,7 @@ module _ {B D : Type 0} (c : Class B) (l : IsLawful c) (r : Reading (Entry B) (P
       spares = λ s. ap (λ (n : ℕ). left_by (phase_at (s - 1) old.sessions.phases) n) (renewed_stays c l i h.whole may.no_flight may.no_filling may.written may.next s);
     }
 
-    -- the turn goes on behind the same head
+    -- the turn goes on with the same head
     pub renews_by : (head : List ℕ) → head ≡ old.volume.log.flight → MayRenew k r head e.sectors e.pending i.log → MayRenewBy k r i.next head e.sectors e.pending i.log
     renews_by head same now = record {
       may = record {

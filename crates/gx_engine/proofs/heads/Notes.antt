@@ -1,4 +1,4 @@
--- What comes behind the records of a head.
+-- What comes after the records of a head.
 use Rattle.std.proofs.Common.{◌≡◌, ◌∙◌, sym, ap, refl, subst, inl, inr, ◌⊎◌, ℕ, suc, ◌+◌, ◌-◌, ◌*◌, ◌<◌, ◌≤◌, Bool, true, false, ◌&&◌, cond, Option, None, Some, List, [], ◌∷◌, ◌++◌, length, map, take, get_or, Result, Ok, Err, append_assoc, arith}
 use Rattle.std.specs.Prelude.{nat_le, nat_lt, filter, OnOk}
 use Rattle.std.specs.List.{AllByRecursion}
@@ -222,7 +222,7 @@ only_then {D} v u w flight first then log =
     let same : w.log ≡ record u.log { flight = w.log.flight } = log ∙ ap (λ (x : List ℕ). record u.log { flight = x }) (sym (ap (λ (g : Log). g.flight) log)) in
     then ∙ ap (λ (g : Log). record u { log = g }) same ∙ ap (λ (x : Volume D). record x { log = record x.log { flight = w.log.flight } }) first
 
--- A note more comes behind the records of the head.
+-- A note more comes after the records of the head.
 module _ {B D P : Type 0} (r : Reading (Entry B) P) (t : ℕ) (notes : List (Note B)) (i : ℕ) (n : Note B) (low : i < length notes) (is : n ≡ get_or notes i n) (x : Rec) (short : length (spelling x) ≤ note_record)
     (v u w : Volume D) (only : OnlyHead v u) (puts : Puts r (notes_of (map (touch_by t) (take i notes))) (note_record * i) v.log u.log) where
   notes_are : notes_of {P = P} (map (touch_by t) (take i notes)) ++ records.Note t n.entry n.before n.leaf ∷ [] ≡ notes_of (map (touch_by t) (take (i + 1) notes))
@@ -347,7 +347,7 @@ numbers_came r one ys size x v u w short goes has (Err fault) more = λ closed.
     let both = length-append v.log.flight (spelling x) in
     omega (arith, long, now, both, short)
 
--- the numbers and the notes come, where these are the sessions' numbers and the pages'
+-- the numbers and the notes come, if these are the sessions' numbers and the pages'
 module _ {B D W P : Type 0} (r : Reading (Entry B) P) (sessions : State B W) (v u w : Volume D) (n counter used next : ℕ) (latest : n ≡ sessions.latest) (its_counter : counter ≡ v.shelf.counter)
     (its_used : used ≡ v.shelf.used) (its_next : next ≡ sessions.next) where
   abbrev x : Rec

@@ -29,7 +29,7 @@ look_or other work = other
 pub one_look : {B : Type 0} (work : Work B) (look another : Look B) → work ≡ Looks look → work ≡ Looks another → look ≡ another
 one_look {B} work look another is there = ap (λ (w : Work B). look_or look w) (sym is ∙ there)
 
--- a look that was refused its page is kept as it was, unless memory was refused to it
+-- a look that was refused its page is kept unchanged, unless memory was refused to it
 module _ {B : Type 0} (t : Tree B) (s : ℕ) (call : Call B) (look after : Look B) (old new : State B (Work B)) (at : phase_at (s - 1) old.phases ≡ phase.Open call (Looks look))
     (only : new ≡ with_phase_of s (phase.Open call (Looks after)) old) (result : Result (Unit {0}) (LookFault StoreFault)) (same : result ≢ Err fault.Memory → after ≡ look)
     (damaged : result ≡ Err (fault.Step step.Damaged) → (rest : List TraversalItem) (item : TraversalItem) → look.stack.items ≡ rest ++ item ∷ [] → ¬ Used t item.page) where

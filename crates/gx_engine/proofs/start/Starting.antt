@@ -177,7 +177,7 @@ module _ {B D : Type 0} (c : Class B) (r : Reading (Entry B) (Page B)) (f : Form
           turns = λ works turning. absurd (let no : Running ≡ Turning = sym is.checkpoint ∙ turning in cc);
         }
 
-    -- whatever the log stands for
+    -- a started engine holds the index that was found
     pub started_from : IsLawful c → 4 ≤ c.rules.most → Holds c r f passes d e bodies i
     started_from l four =
         let undamaged : IsLog k log = bodies_log k bodies so.found.undamaged in

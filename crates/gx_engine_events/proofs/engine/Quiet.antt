@@ -29,7 +29,7 @@ use Rattle.gx_engine.specs.declared.checkpoint.Checkpoint.{Checkpoint}
 use Rattle.gx_engine.specs.declared.checkpoint.Checkpoint.TheVariants.{Off, Running, Turning}
 
 module _ {B D : Type 0} (d e : Device) (old new : Parts B D) (outcome : Outcome B) where
-  -- what an outcome is, is quiet where that is
+  -- what an outcome is, is quiet if that is
   as_that : (given : Outcome B) → outcome ≡ given → replied given ≡ 0 → replied outcome ≡ 0
   as_that given is quiet = ap (λ (o : Outcome B). replied o) is ∙ quiet
 

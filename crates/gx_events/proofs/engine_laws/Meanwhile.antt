@@ -37,7 +37,7 @@ module _ {B : Type 0} (k : Keys B) (l : IsLawful k) (s : ℕ) where
       left_twice old run.0 new (event_leaves k l old i s event run.0 run.1 (All-head Others event events others))
       (events_leave events run.0 new f.next (still_sound k l old run.0 m (step_of event) i seen f) f.seen run.2 (All-tail Others event events others))
 
-  -- what an open search matches stays as live as it was
+  -- what an open search matches is live exactly if it was
   pub match_stays : (events : List (Happening B)) (old new : Engine B) (m : Machine B) → (i : IsSound k old) → (seen : SeenAs k old m) → AreHappenings k old events new
       → All Others events → (locks : Locks B) (notes : List (Note B)) (query : Query B) → slot_at s old.slots ≡ Working locks notes (Some (Search query))
       → (e : Entry B) → matches k query e ≡ true → new.live e ≡ old.live e

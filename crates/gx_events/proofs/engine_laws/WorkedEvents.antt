@@ -130,7 +130,7 @@ finds_it =
     (λ e. ap (λ b. matches number_keys (Overlap 1) e && b) (two_marked (same_entry number_keys e sought) (same_entry number_keys e passed_over)))
     (set_that_is_found number_keys lawful (λ e. has number_keys e (sought ∷ passed_over ∷ [])) (Overlap 1) (sought ∷ passed_over ∷ []) both)
 
--- the commit's set is put behind the one before
+-- the commit's set is put after the one before
 stands : IsSetOf number_keys (stood number_keys e10) (sought ∷ [])
 stands = record {
   in_order = (tt, tt);

@@ -16,7 +16,7 @@ module _ {D : Type 0} (state : D → disk.Device) (parameters : Parameters) (roo
   run_formats (Err why) fails =
       subst (λ (r : Refusal). Formats state parameters root old new (Err r)) (sym fails.0) (range, (room, fails.1))
 
--- what holds where it is Ok holds on Ok
+-- what holds if it is Ok holds on Ok
 pub on_ok : (result : Result (Unit {0}) Refusal) (P : Type 0) → (result ≡ Ok tt → P) → OnOk result P
 on_ok (Ok x) P holds = holds refl
 on_ok (Err why) P holds = tt

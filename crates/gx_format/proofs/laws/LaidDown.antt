@@ -16,7 +16,7 @@ abbrev pub laying_of : (told selector gates root leaf body gate : List ℕ) → 
 laying_of told selector gates root leaf body gate =
     Write PARAMETERS 1 told ∷ Write SELECTOR 1 selector ∷ Write GATES_A PLACES gates ∷ Write GATES_B PLACES gates ∷ Write PAGES_AT PAGE_SECTORS root ∷ Write PAGE_2 PAGE_SECTORS leaf ∷ Write BODIES_A BODY_SECTORS body ∷ Sync ∷ Write GATES_A 1 gate ∷ Sync ∷ []
 
--- how many bytes an extent's gates have behind the first one
+-- how many bytes an extent's gates have after the first one
 abbrev pub later_size : ℕ
 later_size = 512 * (PLACES - 1)
 

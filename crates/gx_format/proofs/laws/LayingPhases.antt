@@ -121,7 +121,7 @@ laid_of parameters root seen size read = record {
 
 -- ---- the magic is written
 
--- the sectors beyond sector 0 have it, so an image has, where they are settled
+-- the sectors beyond sector 0 have it, so an image has, if they are settled
 laid_image : (parameters : Parameters) (root : Contents) (seen : List ℕ) (pending : ℕ → Bool) (image : List ℕ) → ((s : ℕ) → 1 ≤ s → pending s ≡ false) → IsImage seen pending image
     → IsLaid parameters root seen → IsLaid parameters root image
 laid_image parameters root seen pending image settled may laid = record {
@@ -212,7 +212,7 @@ module _ {D : Type 0} (state : D → Device) (whole : (d : D) → (state d).hone
         three.1,
       )
 
-  -- what comes behind the first phase
+  -- what comes after the first phase
   behind : (parameters : Parameters) (root : Contents) (old a new : D) (result : Result (Unit {0}) Refusal) → (state a).honest ≡ true → MIN_SECTORS ≤ (state a).sectors → IsCleared (state a)
       → Runs state (laying parameters root ++ naming) a new result
       → Leaves (IsOldOrFresh (state old) parameters root) (state a) (state new) × (result ≡ Ok tt → IsFresh parameters root (state new).seen × IsSettled (state new))

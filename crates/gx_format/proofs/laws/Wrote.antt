@@ -63,7 +63,7 @@ module _ {D : Type 0} (state : D → Device) (whole : (d : D) → (state d).hone
       run_spares f m calls run.0 b (right_true (spares_one f m call) (spares f m calls) is) still run.1.1
       ∙ touched_span (first_written call) (how_many_written call) f m (state a) (state run.0) touches apart
 
-  -- what a write wrote is read after the calls behind it that spare it
+  -- what a write wrote is read after later calls that spare it
   pub wrote : (before after : List Call) (f n : ℕ) (bytes : List ℕ) (a b : D) → HasRun state (before ++ Write f n bytes ∷ after) a b → (state a).honest ≡ true → f + n ≤ (state a).sectors
       → (k m : ℕ) → k + m ≤ n → spares (f + k) m after ≡ true → span_of (state b).seen (f + k) (512 * m) ≡ take (512 * m) (drop (512 * k) bytes)
   wrote before after f n bytes a b run honest inside k m fits spare =

@@ -8,7 +8,7 @@ use Rattle.gx_node.specs.Laws.{InnersHold}
 use Rattle.gx_node.specs.Reading.{format, is_inner, inner_of}
 use Rattle.gx_format.specs.Fresh.{fresh_root}
 
--- contents are the same where each part is
+-- contents are the same if each part is
 same_contents : (a b : Contents) → a.level ≡ b.level → a.nsn ≡ b.nsn → a.right ≡ b.right → a.number ≡ b.number → a.items ≡ b.items → a ≡ b
 same_contents a b level nsn right number items =
     let same : (let xs : Contents = record { level = a.level; nsn = a.nsn; right = a.right; number = a.number; items = a.items } in xs) ≡ b = rw (level, nsn, right, number, items) refl in

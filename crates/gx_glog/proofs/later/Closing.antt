@@ -1,4 +1,4 @@
--- What closing the gates behind a log's run leaves.
+-- What closing the gates after a log's run leaves.
 use Rattle.std.proofs.Common.{◌≡◌, ◌∙◌, sym, ap, refl, subst, inl, inr, ⊎_elim, ℕ, ◌+◌, ◌-◌, ◌*◌, ◌/◌, ◌<◌, ◌≤◌, ◌==◌, List, length, take, drop, replicate, get_or, true, false, Bool, Result, Ok, Err, arith}
 use Rattle.std.specs.Prelude.{OnOk}
 use Rattle.std.proofs.lemmas.Bool.{cases_lt, false≢true}
@@ -46,7 +46,8 @@ module _ {T E T' E' : Type 0} (from : ℕ) (extent : Extent) (at size : ℕ) (ga
       let closes = closes_gates {T = T} {E = E} from extent at size gates old new (Err x) are place whole writes in
       record { touches = closes.touches; written = tt; torn = closes.torn; pending = closes.pending; time = closes.time }
 
--- where the first n gates of an extent that is selected are open and the next one is closed, of which no other sector is known
+-- if the first n gates of an extent that is selected are open and the next one is closed, of which no other sector is
+-- known
 module _ (extent : Extent) (n : ℕ) (seen : List ℕ) (pending : ℕ → Bool) (few : n ≤ PLACES) (has : HasRun extent n seen pending) (selects : IsSelected extent seen pending) where
   -- bytes with each sector but those of later gates have the same log
   module _ (image : List ℕ) (others : (s : ℕ) → IsBesideLater extent n s → sector_of image s ≡ sector_of seen s) where

@@ -33,7 +33,7 @@ use Rattle.gx_index_laws.proofs.Standing.{is_legal, claimed_somewhere}
 use Rattle.gx_index_laws.proofs.Measuring.{on_device}
 use Rattle.gx_index_laws.proofs.Meanwhile.{look_stays, seek_stays, descent_kept, leaf_fits}
 
--- What is listed after one place has changed, where what it lists has not.
+-- What is listed after one place has changed, if what it lists has not.
 listed_alike : {X : Type 0} (test : X → Bool) (i : ℕ) (x y : X) (xs : List X) → i < length xs → test x ≡ test (slice_index_or xs i y) → list_any test (slice_set xs i x) ≡ list_any test xs
 listed_alike test i x y [] low same = absurd (omega (arith, low))
 listed_alike test zero x y (z ∷ xs) low same = ap (λ b. b || list_any test xs) same
@@ -44,7 +44,7 @@ marked_claimed true b is = ap (λ d. one_if (not d)) is
 marked_claimed false b is = refl
 
 module _ {B : Type 0} (c : Class B) (l : IsLawful c) where
-  -- what is claimed, where a session has another slot with the same locks
+  -- what is claimed, if a session has another slot with the same locks
   claims_alike : (s : ℕ) (slots : List (Slot B)) (x : Slot B) → is_session s ≡ true → length slots ≡ 8 → locks_held x ≡ locks_held (slot_at s slots)
       → claims_pair c (with_slot s x slots) ≡ claims_pair c slots
   claims_alike s slots x is eight same =

@@ -18,7 +18,7 @@ use Rattle.gx_index_laws.proofs.Tools.{changed_beside, not_true}
 use Rattle.gx_index_laws.proofs.Numbered.{or_first}
 use Rattle.gx_index_laws.proofs.Answering.{standing_le}
 
--- what is listed stays listed where the place that changes still lists it
+-- what is listed stays listed if the place that changes still lists it
 listed_still : {X : Type 0} (test : X → Bool) (i : ℕ) (x y : X) (xs : List X) → (test (slice_index_or xs i y) ≡ true → test x ≡ true) → list_any test xs ≡ true
     → list_any test (slice_set xs i x) ≡ true
 listed_still test i x y [] still h = let no : ⊥ = cc in absurd no

@@ -106,7 +106,7 @@ adding_by area used counter a x content low high is bottom room none covers = re
   covered = covers;
 }
 
--- the key is covered where the root names a leaf by a greater one
+-- the key is covered if the root names a leaf by a greater one
 covers_two : (t : Tree ℕ) (key : ℕ) → t.used ≡ 2 → (t.node 1).children ≡ child 9 2 ∷ [] → (t.node 2).children ≡ [] → nat_le key 9 ≡ true
     → EntriesCover numbers.rules t 2 key
 covers_two t key used top bottom low zero u = absurd (let h = u.0 in omega (arith, h))
@@ -123,7 +123,7 @@ covers_three t key used top first second low (suc (suc zero)) u = subst (λ (ds 
 covers_three t key used top first second low (suc (suc (suc zero))) u = subst (λ (ds : List (Child ℕ)). Each (λ d. d.page ≡ 3 → nat_le key d.key ≡ true) ds) (sym second) tt
 covers_three t key used top first second low (suc (suc (suc (suc q)))) u = absurd (let h = u.1 in omega (arith, h, used))
 
--- one note more, behind the others
+-- one note more, after the others
 noted_last : (n : Note ℕ) (notes : List (Note ℕ)) → WithNote number_keys n.entry n.was_live notes (notes ++ n ∷ [])
 noted_last n [] x = refl
 noted_last n (m ∷ notes) x = by (same_entry number_keys x m.entry) (noted_last n notes x)

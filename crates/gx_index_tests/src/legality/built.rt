@@ -27,7 +27,7 @@ pub(crate) fn a_box(rt: &impl Abort, corners: Corners) -> Box2 {
     Box2::new(x1, y1, x2, y2).ok().expect(rt, "a box")
 }
 
-/// Puts an item behind the others of a page.
+/// Puts an item after the others of a page.
 fn put_item(rt: &impl Abort, page: &mut Page, item: &[u8]) {
     assert!(rt; !item.is_empty() && item.len() <= 4060);
     let slot = page.count();

@@ -130,7 +130,7 @@ impl<'a> Asking<'a> {
     }
 }
 
-// The event that comes next, where the call goes on.
+// The event that comes next, if the call goes on.
 fn event_of(next: &Next<Box2>) -> Option<Event<Box2>> {
     match next {
         Next::Run(event) => Some(*event),

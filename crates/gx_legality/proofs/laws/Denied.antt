@@ -10,7 +10,7 @@ use Rattle.gx_legality.specs.Breaks.{Breaks, Leads}
 use Rattle.gx_legality.proofs.Slots.{slot_of}
 
 module _ {K : Type 0} where
-  -- where rightlinks lead from a page to another, its chain is the pages between and the other's chain
+  -- if rightlinks lead from a page to another, its chain is the pages between and the other's chain
   led_on : (t : Tree K) (p a : ℕ) (xs ys : List ℕ) → Leads t a xs p → Linked t a ys
       → (rest : List ℕ) × Linked t p rest × ((q : ℕ) → times q ys ≡ times q xs + times q rest)
   led_on t p a [] ys led linked = (ys, subst (λ k. Linked t k ys) led linked, λ q. omega arith)

@@ -76,7 +76,7 @@ module _ {E : Type 0} (cmp : E → E → Ordering) (o : IsTotalOrder cmp) where
   earlier : (a b : E) → cmp a b ≡ Greater → cmp b a ≡ Less
   earlier a b is = o.antisymm b a ∙ ap ordering_reverse is
 
-  -- what comes before the middle, where the middle comes before the entry
+  -- what comes before the middle, if the middle comes before the entry
   pub before_middle : (notes : List (NotedPair E)) (e : E) (at i : ℕ) (n m : NotedPair E) → Ascends cmp (noted notes) → slice_get notes at ≡ Some n
       → cmp n.entry e ≡ Less → i < at + 1 → slice_get notes i ≡ Some m → cmp m.entry e ≡ Less
   before_middle notes e at i n m up there less low here = elim (cases_eq i at) [
@@ -86,7 +86,7 @@ module _ {E : Type 0} (cmp : E → E → Ordering) (o : IsTotalOrder cmp) where
     | inr ne ↦ o.trans m.entry n.entry e (noted_less notes i at m n up (omega (arith, ne, low)) here there) less
   ]
 
-  -- and what comes after it, where it comes after the entry
+  -- and what comes after it, if it comes after the entry
   pub after_middle : (notes : List (NotedPair E)) (e : E) (at i : ℕ) (n m : NotedPair E) → Ascends cmp (noted notes) → slice_get notes at ≡ Some n
       → cmp n.entry e ≡ Greater → at ≤ i → slice_get notes i ≡ Some m → cmp m.entry e ≡ Greater
   after_middle notes e at i n m up there greater high here = elim (cases_eq i at) [
@@ -136,7 +136,7 @@ module _ {E : Type 0} (cmp : E → E → Ordering) (o : IsTotalOrder cmp) where
           let less : cmp n.entry m.entry ≡ Less = noted_less notes at i n m up high there here in
           ap is_eq (later e m.entry (sym (o.congr n.entry e m.entry same) ∙ less))
 
-  -- nothing changes where no note is the entry's
+  -- nothing changes if no note is the entry's
   pub meets_none : (notes : List (NotedPair E)) (stages : List NoteStage) (e : E)
       → ((i : ℕ) (n : NotedPair E) → slice_get notes i ≡ Some n → is_noted cmp n e ≡ false) → Moves (λ n s. meets (is_noted cmp n e) s) notes stages stages
   meets_none notes stages e none i n here = sym (ap (λ b. meets b (stage_at stages i)) (none i n here) ∙ not_met (stage_at stages i))
@@ -146,7 +146,7 @@ module _ {E : Type 0} (cmp : E → E → Ordering) (o : IsTotalOrder cmp) where
       not_met Reached = refl
       not_met Found = refl
 
-  -- and one stage where one is
+  -- and one stage if one is
   pub meets_one : (notes : List (NotedPair E)) (stages : List NoteStage) (e : E) (at : ℕ) (s was : NoteStage) → at < length stages → was ≡ stage_at stages at
       → s ≡ meets true was
       → ((i : ℕ) (n : NotedPair E) → slice_get notes i ≡ Some n → is_noted cmp n e ≡ (i == at)) → Moves (λ n s. meets (is_noted cmp n e) s) notes stages (set stages at s)

@@ -205,7 +205,7 @@ module _ {B C D : Type 0} (grammar : Grammar B) (shape : Members B) (proper : B 
         dumped frames disk after opened.engine from to status (opening frames disk opened.engine honest opened.opening) opened.dump
     given (Verifies frames from to status) after is = verified frames disk after from to status honest is
 
-  -- commands, one after another, behind what led to their device
+  -- commands, one after another, after what led to their device
   module _ (disk : D) (each : (before : List (Turn B)) (old new : D) (command : Command) → Living (Lies disk) before (Lies old)
       → IsGiven grammar shape (traits_of proper said class) state old command new → Over (AreOf grammar command) old new) where
     pub all_given : (commands : List Command) (before : List (Turn B)) (old new : D) → Living (Lies disk) before (Lies old) → AreGiven grammar shape (traits_of proper said class) state old commands new

@@ -1,4 +1,4 @@
--- What each step of the machine keeps of each session, and of the sets, where nothing is inserted or deleted.
+-- What each step of the machine keeps of each session, and of the sets, if nothing is inserted or deleted.
 use Rattle.std.proofs.Common.{◌≡◌, ℕ, zero, suc, ◌+◌, ◌-◌, ◌<◌, Bool, true, false, inl, inr, List, [], ◌∷◌, ◌++◌, drop, length, Option, Some, None, refl, ap, sym, ◌∙◌, subst, arith}
 use Rattle.std.specs.Prelude.{◌==◌, replicate, slice_set}
 use Rattle.std.specs.List.{slice_index_or}

@@ -30,7 +30,7 @@ Unchanged s (Open locks changes call) = changes ≡ no_changes
 Unchanged s (Aborting locks) = Unit {0}
 Unchanged s (Committing number) = Unit {0}
 
--- where the session is this one, a call that it has open is this search
+-- if the session is this one, a call that it has open is this search
 abbrev pub OpenFor : {B : Type 0} → ℕ → Query B → ℕ → Session B → Type 0
 OpenFor s q a Idle = Unit {0}
 OpenFor s q a (Open locks changes None) = Unit {0}

@@ -46,7 +46,7 @@ module _ {C B : Type 0} (shape : Members B) (lawful : IsLawful (keys_of shape)) 
         one_set_of_a_test (keys_of shape) lawful test xs ys one.set_is its,
       )
 
-  -- it says what it tells
+  -- a device's bytes say what it is formatted for
   says : (p : Parameters) → Tells d.seen p → Says d.seen p
   says p tells = record { bytes = tells.bytes; fit = tells.fit }
 

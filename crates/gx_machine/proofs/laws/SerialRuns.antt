@@ -283,7 +283,7 @@ module _ {B : Type 0} (k : Keys B) (l : IsLawful k) where
       subst (λ (x : Session B). Still k call old.latest x new.latest) still_open
       (still_run call old.latest s steps old new run none at_old before)
 
-  -- a call that got its reply in a transaction that is to be sealed is answered alike where it is sealed
+  -- a call that got its reply in a transaction that is to be sealed is answered alike when it is sealed
   pub answered_at_seal : (s : ℕ) (call : Call B) (locks then_locks seal_locks : Locks B) (changes then_changes seal_changes : Changes B) (reply : Reply B)
       (asked answered sealing : Machine B) (between : List (Step B))
       → Invariant k asked → session_at s asked.sessions ≡ Open locks changes (Some call) → IsStep k asked (Answers s reply) answered

@@ -77,7 +77,7 @@ module _ {K : Type 0} where
       pub begins : (t : Tree K) → Legal r t → AreKeys IsKey t → standing (is_entry r entry.row entry.key) t ≡ 0 → IsInsert r IsKey t entry (from_top t)
       begins t legal keys absent = record { legal = legal; keys = keys; absent = absent; descent = descent_begins r entry.key t legal; came = inl refl }
 
-      -- it begins again where nothing has changed
+      -- it begins again if nothing has changed
       pub begins_again : (t : Tree K) (place : DescentPlace) → IsInsert r IsKey t entry place → must_restart r t place.parent place.item ≡ true
           → GoesOn r IsKey t t entry place (from_top t)
       begins_again t place insert must = record {

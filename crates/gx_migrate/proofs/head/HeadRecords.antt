@@ -1,4 +1,4 @@
--- Records behind those of a log's first body.
+-- Records after those of a log's first body.
 use Rattle.std.proofs.Common.{◌≡◌, ◌∙◌, sym, ap, refl, subst, ℕ, ◌+◌, ◌*◌, ◌<◌, ◌≤◌, Bool, List, [], ◌∷◌, ◌++◌, length, take, take_all, get_or, append_assoc, Result, Ok, Err, arith}
 use Rattle.std.specs.Prelude.{OnOk}
 use Rattle.std.proofs.lemmas.List.{append-nil, length-append, take_more}
@@ -61,7 +61,7 @@ module _ {E P : Type 0} (r : Reading E P) where
     has = λ xs are. subst (λ (ys : List (Record E P)). AreRecords r bytes ys) (sym (append-nil xs)) are;
   }
 
-  -- a record that is put behind others is read behind them
+  -- a record that is put after others is read after them
   pub record_put : (x : Rec) (old new : List ℕ) → IsInRange x → (length old + length (spelling x) ≤ BODY_ROOM) × (new ≡ old ++ spelling x) → PutsRecord r x old new (Ok tt)
   record_put x old new range puts = (
     puts.0,

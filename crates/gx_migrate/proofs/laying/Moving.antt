@@ -102,7 +102,7 @@ module _ {B : Type 0} (shape : Members B) (is_key : B → Bool) (said : List ℕ
         ran body result is
         (subst (λ (n : ℕ). Runs state (migrating p e.seen n body) old new result) same (subst (λ (b : List ℕ). Runs state (migrating p b used body) old new result) (sym seen) runs))
 
--- where no call was made
+-- if no call was made
 pub nothing_in_phases : {D : Type 0} (state : D → disk.Device) (Has : List ℕ → Type 0) (d : D) → LeavesInPhases state Has d d
 nothing_in_phases state Has d = record {
   cleared = d;
@@ -114,7 +114,7 @@ nothing_in_phases state Has d = record {
   last_calls = omega arith;
 }
 
--- what holds where it is Ok
+-- what holds if it is Ok
 pub on_ok : (result : Result (Unit {0}) Refusal) (X : Type 0) → (result ≡ Ok tt → X) → OnOk result X
 on_ok (Ok done) X holds = holds refl
 on_ok (Err why) X holds = tt
@@ -132,7 +132,7 @@ pub run_migrates_at : {E P D : Type 0} (r : Reading E P) (state : D → disk.Dev
 run_migrates_at r state parameters a bytes body used old new result same is runs =
     run_migrates r state parameters a bytes body old new result is (subst (λ (n : ℕ). Runs state (migrating parameters bytes n body) old new result) same runs)
 
--- and where none was made
+-- and if none was made
 pub none_migrates : {E P D : Type 0} (r : Reading E P) (state : D → disk.Device) (parameters : Parameters) (told : Analysis E) (bytes : List ℕ) (d : D) (why : Refusal)
     → (why ≡ refusal.Memory) ⊎ ((why ≡ refusal.Damaged) × (TOUCHED < length told.touched)) → Migrates r state parameters told bytes d d (Err why)
 none_migrates r state parameters told bytes d why (inl memory) = subst (λ (w : Refusal). Migrates r state parameters told bytes d d (Err w)) (sym memory) refl

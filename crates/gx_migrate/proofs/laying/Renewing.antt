@@ -24,7 +24,7 @@ use Rattle.gx_durable.specs.Legal.{AgreeOnUsed, ReadsUsed}
 use Rattle.gx_durable.specs.Spelled.{Reading, AreRecords}
 use Rattle.gx_durable.specs.Standing.{Stands}
 
--- a page is the same where its bytes are
+-- a page is the same if its bytes are
 pub page_same : {E P : Type 0} (r : Reading E P) (pages : ℕ) (xs ys : List ℕ) (p : ℕ) → bytes_of xs p ≡ bytes_of ys p → area_of r pages xs p ≡ area_of r pages ys p
 unfolding area_of
 page_same r pages xs ys p same = ap (λ (bytes : List ℕ). if nat_lt 0 p && nat_le p pages then r.content bytes else r.no_page) same

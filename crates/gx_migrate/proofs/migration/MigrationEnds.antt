@@ -37,7 +37,7 @@ use Rattle.gx_migrate.specs.Moved.{HasMoved, LeavesInPhases, StandsForFound}
 pub whole_sectors : (n m : ℕ) → n ≡ 512 * m → n % 512 ≡ 0
 whole_sectors n m is = subst (λ k. k % 512 ≡ 0) (sym is) (mul-mod_right 512 m)
 
--- a device tells of one index
+-- a device names the parameters of one index
 pub tells_one : (seen : List ℕ) (p q : Parameters) → Tells seen p → Tells seen q → p ≡ q
 tells_one seen p q one other = told p q one.fit other.fit (sym one.bytes ∙ other.bytes)
 
@@ -78,7 +78,7 @@ module _ {B : Type 0} (shape : Members B) (is_key : B → Bool) (said : List ℕ
       let is : s.log.analysis.told ≡ analysis k (records_of other) = stands.laid.is.kept.told ∙ ap (λ (bodies : List (List (Record (Entry B) (Page B)))). analysis k (records_of bodies)) same in
       record { moved = moved; commits = number ∙ ap (λ (a : Analysis (Entry B)). a.number) is; used = greatest ∙ ap (λ (a : Analysis (Entry B)). a.used) is }
 
-  -- the same of the parameters and the bytes that the old device tells
+  -- the same of the parameters and the bytes of the old device
   pub moved_so : (p q : Parameters) (xs ys image : List ℕ) (told : ℕ × ℕ) → p ≡ q → xs ≡ ys → HasMovedBy shape is_key said f p xs image told → HasMovedBy shape is_key said f q ys image told
   moved_so p q xs ys image told same bytes moved =
       subst (λ (zs : List ℕ). HasMovedBy shape is_key said f q zs image told) bytes (subst (λ (t : Parameters). HasMovedBy shape is_key said f t xs image told) same moved)

@@ -11,7 +11,7 @@ use Rattle.gx_node.proofs.SplitReach.{nsn_same}
 use Rattle.gx_node.proofs.Roots.{used_before, same_node}
 use Rattle.gx_node.proofs.AllSteps.{kept_by_steps}
 
--- the page's rightlink is to a taken page, other than the root, of its own level
+-- the page's rightlink is to a taken page, other than the root, of the same level
 abbrev GoesRight : {K : Type 0} → Tree K → ℕ → Type 0
 GoesRight t p = (2 ≤ (t.node p).right) × ((t.node p).right ≤ t.used) × ((t.node (t.node p).right).level ≡ (t.node p).level)
 

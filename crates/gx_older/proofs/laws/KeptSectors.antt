@@ -66,7 +66,7 @@ module _ (sectors size : ℕ) (seen : List ℕ) (long : 512 * sectors ≤ length
       beside parts (with_part seen p bytes) s (part_size p bytes is fit.0) fit.1 out.1
       ∙ put_outside p.to p.sectors s (span_of seen p.from (512 * p.sectors)) bytes (of_part p fit.0) (room p bytes is fit.0) out.0
 
-  -- a part's sectors are in their places, where no later part lies
+  -- a part's sectors are in their places, if no later part lies
   in_place : (before : List Part) (p : Part) (after : List Part) (bytes : List ℕ) (k : ℕ) → length bytes ≡ size → AllFit sectors size (before ++ p ∷ after) → k < p.sectors
       → AreBeside (p.to + k) after → sector_of (with_parts seen (before ++ p ∷ after) bytes) (p.to + k) ≡ sector_of seen (p.from + k)
   in_place [] p after bytes k is fit below out = beside after (with_part seen p bytes) (p.to + k) (part_size p bytes is fit.0) fit.1 out ∙ there p bytes k is fit.0 below
@@ -103,7 +103,7 @@ module _ (pages : ℕ) (seen : List ℕ) (some : 1 ≤ pages) (long : 512 * olde
   laid_size : length laid ≡ 512 * sectors_of pages
   laid_size = parts_size (older_sectors_of pages) (512 * sectors_of pages) seen long (parts_of pages) zeros none_yet fit
 
-  -- a part's sector in its place, behind some parts and before others
+  -- a part's sector in its place, after some parts and before others
   placed : (before : List Part) (p : Part) (after : List Part) (k s t : ℕ) → parts_of pages ≡ before ++ p ∷ after → s ≡ p.to + k → t ≡ p.from + k → 1 ≤ s → k < p.sectors
       → AreBeside s after → sector_of (renumbered pages seen) s ≡ sector_of seen t
   placed before p after k s t are here was from below out =

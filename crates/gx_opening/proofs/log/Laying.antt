@@ -58,7 +58,7 @@ module _ {E P : Type 0} (k : Known E P) (r : Reading E P) where
   pub looks_keep : (a b : Device) → Looks a b → Leaves (IsKeptOrFound k r a) a b
   looks_keep a b looks = leaves_weaker (MayLeave a) (IsKeptOrFound k r a) a b (λ image may. inl may) looks.leaves
 
-  -- what could be left behind a look could be left before it
+  -- what could be left after a look could be left before it
   since_look : (a b : Device) (image : List ℕ) → Looks a b → IsKeptOrFound k r b image → IsKeptOrFound k r a image
   since_look a b image looks (inl may) = inl (rested_image a b looks.rests image may)
   since_look a b image looks (inr found) = inr (subst (λ (s : List ℕ). HasFoundLog k r s image) looks.rests.seen found)
@@ -76,7 +76,7 @@ module _ {E P : Type 0} (k : Known E P) (r : Reading E P) where
         log = subst (λ (s : List ℕ). LogLaid k r s c result) looks.rests.seen laid.log;
       }
 
-  -- reading alone, where it is refused
+  -- reading alone, if it is refused
   pub read_refused : (a b : Device) (why : Refusal) → IsSettled a → Looks a b → LogRead {E = E} {P = P} k r a.seen (Err why) → LaysLog k r a b (Err why)
   read_refused a b why settled looks read = record {
     leaves = looks_keep a b looks;

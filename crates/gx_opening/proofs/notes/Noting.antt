@@ -79,7 +79,7 @@ module _ {E : Type 0} (cmp : E → E → Ordering) where
   not_less_tied r less tied = absurd (cc)
 
   module _ (o : IsTotalOrder cmp) where
-    -- what comes behind a note is of another entry
+    -- what comes after a note is of another entry
     behind_differs : (x : NotedPair E) (ys : List (NotedPair E)) → Each (λ y. cmp x.entry y ≡ Less) (noted ys) → Each (λ n. cmp n.entry x.entry ≡ Equal → ⊥) ys
     behind_differs x [] all = tt
     behind_differs x (y ∷ ys) all = (

@@ -14,7 +14,7 @@ module _ {T : Type 0} where
   found_told before now (Err refusal.Memory) same = omega (arith, same)
   found_told before now (Err other) is = absurd is
 
-  -- where none failed before
+  -- if none failed before
   pub told_later : (before middle now : ℕ) (result : Result T Refusal) → middle ≡ before → FaultsAre middle now result → FaultsAre before now result
   told_later before middle now (Ok x) same told = told ∙ same
   told_later before middle now (Err why) same told = omega (arith, same, told)

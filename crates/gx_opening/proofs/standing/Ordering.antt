@@ -20,7 +20,7 @@ use Rattle.gx_opening.specs.declared.standing.Standing.{Standing}
 use Rattle.gx_opening.proofs.Sparing.{spared_read}
 use Rattle.gx_opening.proofs.Stood.{one_saying, read_safe}
 
--- what was read behind a sync
+-- what was read after a sync
 pub synced_so : (class : ℕ) (a b : Device) (p : Parameters) → Counted 1 a b (Ok p) → b.calls ≡ a.calls + 1 → Settles class a b (Ok p) → IsSynced a b
 synced_so class a b p counted calls settles = record { sectors = counted.sectors; honest = counted.honest; calls = calls; only = settles.only; settled = settles.settled }
 
@@ -44,7 +44,7 @@ fit why (inr (inr damaged)) (inr (inr (inl other))) = cc
 fit why (inr (inr damaged)) (inr (inr (inr other))) = cc
 
 module _ {B : Type 0} (shape : Members B) (is_key : B → Bool) (said : List ℕ → B) (f : Format B) where
-  -- what is laid behind it
+  -- what is laid after it
   pub laid_safely : (a b c : Device) (p : Parameters) (result : Result (FoundLog (Entry B)) Refusal) → Says a.seen p → IsSynced a b
       → LaysLog (known_for shape is_key said f p) (reading shape is_key said f) b c result → LaysSafely shape is_key said f b c
   laid_safely a b c p result says synced lays =

@@ -29,7 +29,7 @@ use Rattle.gx_page.specs.contracts.block.Block as block
 abbrev R : RattleType
 R = block.the_row
 
--- a paste changes neither what lies before it nor what lies behind it
+-- a paste changes neither what lies before it nor what lies after it
 pub paste_before : (d s : List ℕ) (at n k : ℕ) → k < at → at ≤ length d → get_or (paste d at s n) k 0 ≡ get_or d k 0
 paste_before d s at n k low fits =
     let front = length-take at d in let both = length-append (take at d) (take n s) in

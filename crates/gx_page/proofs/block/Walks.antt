@@ -64,7 +64,7 @@ module _ {M : Type 1} {𝓤 : Ura M} (𝓛 : Logic 𝓤) where
       pick ! (λ r. split ! $ split ! $ move ! (2 ∷ []) $ pick ! (λ ws. split ! $ keep ! (3 ∷ 1 ∷ []) $ now ! $
       show ! (λ s. sep 𝓤 (sem 𝓛 (Own s)) (ex 𝓤 (Said s))) r $ frame ! $ show ! (Said r) ws $ done !))
 
-  -- a function that is left with its result alone ends, where it has no lifetime and had one argument
+  -- a function that is left with its result alone ends, if it has no lifetime and had one argument
   pub ends_with : (result : Fml) {φ : Type 0} → φ → ent 𝓤 (sem 𝓛 result) (sep 𝓤 (sep 𝓤 (emp 𝓤) (sep 𝓤 (sem 𝓛 (fsep ftrue ftrue)) (sem 𝓛 result))) (fact 𝓤 φ))
   ends_with result holds = qed 𝓛 (‵ result ∷ []) ∵ says ! holds $ nothing ! $ nothing ! $ fjoin ! $ join ! $ nothing ! $ join ! $ done !
 
@@ -76,7 +76,7 @@ module _ {M : Type 1} {𝓤 : Ura M} (𝓛 : Logic 𝓤) where
   pub lends : (κ : Lft) (q : Share) (loan : Fml) → ent 𝓤 (sep 𝓤 (sem 𝓛 (flft κ q)) (sem 𝓛 loan)) (sep 𝓤 (sep 𝓤 (sem 𝓛 (flft κ q)) (emp 𝓤)) (sep 𝓤 (sem 𝓛 (fsep ftrue ftrue)) (sem 𝓛 loan)))
   lends κ q loan = qed 𝓛 (‵ (flft κ q) ∷ ‵ loan ∷ []) ∵ nothing ! $ move ! (1 ∷ 0 ∷ []) $ join ! $ frame ! $ nothing ! $ nothing ! $ fjoin ! $ done !
 
-  -- the same where it had a number besides, or two
+  -- the same if it had a number besides, or two
   pub gives : (κ : Lft) (q : Share) (result : Fml) → ent 𝓤 (sep 𝓤 (sem 𝓛 (flft κ q)) (sem 𝓛 result)) (sep 𝓤 (sep 𝓤 (sem 𝓛 (flft κ q)) (emp 𝓤)) (sep 𝓤 (sem 𝓛 (fsep ftrue (fsep ftrue ftrue))) (sem 𝓛 result)))
   gives κ q result = qed 𝓛 (‵ (flft κ q) ∷ ‵ result ∷ []) ∵ nothing ! $ move ! (1 ∷ 0 ∷ []) $ join ! $ frame ! $ nothing ! $ nothing ! $ fjoin ! $ nothing ! $ fjoin ! $ done !
 

@@ -179,7 +179,7 @@ module _ {B : Type 0} (k : Keys B) (l : IsLawful k) where
             ∙ sym put ∙ ap (λ s. including_all k (take j more) s ++ drop (at + j) new) shorter,
       )
 
--- An entry is put at a place, and those from there up to an end move up behind it.
+-- An entry is put at a place, and those from there up to an end move up after it.
 module _ {A : Type 0} (xs : List A) (at end left : ℕ) (e : A) (le : at ≤ end) (lt : end + left < length xs) where
   place_is : length (take (at + left + 1) xs) ≡ at + left + 1
   place_is = length-take-le (at + left + 1) xs (omega arith)

@@ -139,7 +139,7 @@ none_ready s queue from page sound listed before first = λ q less is. elim (cas
   | inr past ↦ unready s queue q sound listed (first.none_before q past less) is
 ]
 
--- nor is it, where it may not
+-- nor is it, if it may not
 pub none_passed : (s : State) (page : ℕ) → NoneBelow page s → (IsWritable s page → ⊥) → NoneBelow (page + 1) s
 none_passed s page before not_this = λ q less is. elim (ℕ_discrete q page) [
   | yes e ↦ not_this (ap (λ n. is_gated s.gated (stamp_of (kept s n))) (sym e) ∙ is)
@@ -159,14 +159,14 @@ pub may_not : (s : State) (page : ℕ) (found : Option ℕ) (there : Bool) → t
 may_not s page None there is so never = λ may. true_false (is_gated s.gated (stamp_of (kept s page))) may never
 may_not s page (Some i) there is so never = absurd (true_false there is so)
 
--- it is the least where it may
+-- it is the least if it may
 pub least_ready : (s : State) (page : ℕ) → NoneBelow page s → (q : ℕ) → IsWritable s q → page ≤ q
 least_ready s page before = λ q is. elim (cases_lt q page) [
   | inl less ↦ absurd (before q less is)
   | inr past ↦ past
 ]
 
--- none may be written where none is ready from a number on
+-- none may be written if none is ready from a number on
 pub none_written : (s : State) (queue : Queue) (from : ℕ) → IsSound s → AreListed s.gated s.marks queue → NoneBelow from s → NoneFrom queue.ready from → (q : ℕ) → IsWritable s q → ⊥
 none_written s queue from sound listed before none = λ q is. elim (cases_lt q from) [
   | inl below ↦ before q below is

@@ -142,6 +142,6 @@ some_later words groups from start word None grouped is none =
     absurd (not_both (has words there.0) (none there.0 (omega (arith, there.1)) (omega (arith, there.1))) there.2)
 some_later words groups from start word (Some n) grouped is none = tt
 
--- no word behind the first has any
+-- no word after the first has any
 pub none_later : (words groups : List ℕ) (from : ℕ) → AreGrouped words groups → ((n : ℕ) → from ≤ n → n / 64 ≡ from / 64 → has words n ≡ 0) → NoneFrom groups (from / 64 + 1) → NoneFrom words from
 none_later words groups from grouped first rest = λ n start. none_between words groups from (n / 64 + 1) grouped first (λ j past before. rest j past) n start (omega arith)

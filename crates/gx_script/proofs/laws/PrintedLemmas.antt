@@ -26,7 +26,7 @@ pub record IsRead (n : ℕ) (ds : List ℕ) : Type 0 where
   digit : 48 ≤ get_or ds 0 0
   read : n < 2 ^ 64 → (rest : List ℕ) → number_after 0 (ds ++ rest) ≡ number_after n rest
 
--- a digit behind a value
+-- a digit after a value
 next-digit : (v d m : ℕ) → d < 10 → v * 10 + d ≡ m → m < 2 ^ 64 → next_value v (48 + d) ≡ Some m
 next-digit v d m small e below =
     let first : leb 48 (48 + d) ≡ true = grind (arith, nat_tests) in

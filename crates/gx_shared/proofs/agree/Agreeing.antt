@@ -18,7 +18,7 @@ first_same {X} {x} {y} {xs} {ys} h = ap (λ (zs : List X). elim zs [ [] ↦ x | 
 pub rest_same : {X : Type 0} {x y : X} {xs ys : List X} → x ∷ xs ≡ y ∷ ys → xs ≡ ys
 rest_same {X} {x} {y} {xs} {ys} h = ap (λ (zs : List X). elim zs [ [] ↦ xs | z ∷ rest ↦ rest ]) h
 
--- the items from a place on: the item there, and those behind it
+-- the items from a place on: the item there, and those after it
 next_of : {X : Type 0} (xs : List X) (n : ℕ) (x : X) → n < length xs → x ≡ get_or xs n x → drop n xs ≡ x ∷ drop (n + 1) xs
 next_of xs n x within at =
     let next : suc n ≡ n + 1 = omega arith in

@@ -234,7 +234,7 @@ module _ {B : Type 0} (k : Keys B) where
       applies = applied record { room = tt; happens = h; recorded = calls_is };
     }
 
-    -- where the record is full, an engine that a fault has ended was asked to go on
+    -- if the record is full, an engine that a fault has ended was asked to go on
     full_failed : (s : ℕ) (r : Reply B) (n : Machine B) → Ends k s r b.machine n → RECORD ≤ length calls → b.machine.failed ≡ true
     full_failed s r n h full = elim (true_or_false b.machine.failed) [
       | inl p ↦ p
@@ -310,13 +310,13 @@ module _ {B : Type 0} (k : Keys B) where
           )
     ]
 
--- how many calls are open once one was given a reply, where one was
+-- how many calls are open once one was given a reply, if one was
 pub closes_right : (fault : Bool) (left opened : ℕ) → MatchBool fault (left ≡ opened) (left ≡ opened - 1) → (0 < opened) ⊎ (fault ≡ true) → left + closes_of fault ≡ opened
 closes_right true left opened h some = omega (arith, h)
 closes_right false left opened h (inl some) = omega (arith, h, some)
 closes_right false left opened h (inr fault_is) = let away : ⊥ = cc in absurd away
 
--- Items behind the last.
+-- Items after the last.
 
 module _ {B : Type 0} where
   -- the finished calls of a record that fits are few

@@ -19,7 +19,7 @@ use gx_store::StoreFault;
 use gx_tree::{StepFault, add_step};
 
 impl<D: SectorDisk, K: ReadKeys> Storage<D, K> {
-    /// Puts a live pair behind the last one of the leaf on a page, and appends the transaction's record of it: a small
+    /// Puts a live pair after the last one of the leaf on a page, and appends the transaction's record of it: a small
     /// one if the log's extent has an image of the leaf, otherwise its write with the image of the leaf. The entry was
     /// absent, which counts as a mark.
     ///

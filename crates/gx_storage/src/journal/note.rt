@@ -7,7 +7,7 @@ use crate::journal::Journal;
 use crate::journal::mark::mark_of;
 use gx_class::ReadKeys;
 use gx_durable::OfClass;
-use gx_durable::turn::put_first;
+use gx_durable::calls::put_first;
 use gx_glog::{Appended, Stage};
 use gx_record::Record;
 

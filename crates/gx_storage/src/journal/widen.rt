@@ -56,8 +56,8 @@ impl<K: ReadKeys> Journal<K> {
         );
     }
 
-    /// Appends the record that the bound in a slot of an inner node was widened to a key, where the node's page is
-    /// held: small, or with the page's image, whose bit is then set.
+    /// Appends the record that the bound in a slot of an inner node, whose page is held, was widened to a key: small,
+    /// or with the page's image, whose bit is then set.
     pub(crate) fn widen<D: SectorDisk>(
         &mut self,
         store: &PageStore<D, K>,

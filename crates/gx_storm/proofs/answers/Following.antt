@@ -208,7 +208,7 @@ module _ {B : Type 0} (k : Keys B) where
 
     -- ---- answers
 
-    -- an answer that isn't a commit's fits where the machine gives it
+    -- an answer that isn't a commit's fits if the machine gives it
     answer_fits : (x : Reply B) (end : Machine B) → kind_of x ≡ kind.Answer → is_committed x ≡ false → IsStep k r (Answers s x) end → FitsReply k s x r end
     answer_fits (reply.Committed number) end is isnt step = let no : ⊥ = cc in absurd no
     answer_fits (reply.Refused refusal.PagesFull) end is isnt step = let no : ⊥ = cc in absurd no
@@ -285,7 +285,7 @@ module _ {B : Type 0} (k : Keys B) where
         none_some (Reply B × Session B) (x, answered.0) (sym (ap (answer_session k m.latest m.oldest) at.2) ∙ answered.1)
         )
 
-    -- the index's answer where nothing is to be sealed
+    -- the index's answer if nothing is to be sealed
     abbrev answer_or : Option (Reply B × Machine B) → Reply B × Machine B
     answer_or o = unwrap_or o (reply.Refused (if is_session s then refusal.NoCall else refusal.BadSession), m)
 

@@ -1,4 +1,4 @@
--- An ask, put to the plain index once the item behind it is looked at.
+-- An ask, put to the plain index once the item after it is looked at.
 use Rattle.std.proofs.Common.{arith, ◌≡◌, ℕ, ◌+◌, ◌≤◌, Bool, true, false, ◌&&◌, Some, None, refl, ap, sym, ◌∙◌, subst}
 use Rattle.std.specs.Prelude.{if◌then◌else◌, MatchBool, ◌==◌}
 use Rattle.gx_geom.specs.declared.refusal.Refusal.TheVariants as refusal
@@ -36,7 +36,7 @@ module _ {B : Type 0} (k : Keys B) where
   one_more true next = omega arith
   one_more false next = omega arith
 
-  -- asking, where the numbers last
+  -- asking, if the numbers last
   ask_is : (s : ℕ) (call : Call B) (old : Index B) → is_used_up old ≡ false
       → ask_index k s call old ≡ (
         (ask k s call old.machine).0,
@@ -75,7 +75,7 @@ module _ {B : Type 0} (k : Keys B) where
         next = omega (arith, more, next_is);
       }
 
-  -- a record without faults: what comes behind an ask isn't the refusal of it for a cause outside of the machine
+  -- a record without faults: what comes after an ask isn't the refusal of it for a cause outside of the machine
 
   refuses_none : (x : Reply B) (call : Call B) → is_faultless {B = B} (Replied 0 x) ≡ true → refuses_ask x call ≡ false
   refuses_none (reply.Refused refusal.Failed) call is = let no : ⊥ = cc in absurd no

@@ -125,7 +125,7 @@ module _ {B : Type 0} where
         subst (λ (xs : List (Item B)). AreFaultless xs → HasNumbersFor (length xs) (fresh_index {B = B}) → P fresh_machine xs) same at_fresh in
         at_items faultless (has_numbers items few)
 
-    -- what is said where the replay was defined
+    -- what is said if the replay was defined
     pub replayed : (end : Machine B) (said : Verdict) → (AreFaultless read → HasNumbersFor (length read) old → ReplaysAs k old.machine read end)
         → Agrees calls items all said → Says k calls items all said
     replayed end verdict.Sound replays agrees =
@@ -141,7 +141,7 @@ module _ {B : Type 0} where
     replayed end (verdict.Mismatch place) replays agrees = inr agrees
     replayed end (verdict.Refused why) replays agrees = inr (inr agrees)
 
-    -- and where it wasn't
+    -- and if it wasn't
     pub stopped : (place : ℕ) (why : Mismatch) → why ≡ mismatch.At place → (AreFaultless read → HasNumbersFor (length read) old → IsMismatch k old.machine read why)
         → Says k calls items all (verdict.Mismatch place)
     stopped place why is stops =

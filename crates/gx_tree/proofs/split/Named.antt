@@ -30,7 +30,7 @@ module _ {X : Type 0} (w : X → Bool) where
       by_test true e = omega (arith, e)
       by_test false e = omega (arith, e)
 
-  -- a hit counts one, and what is behind it
+  -- a hit counts one, and what is after it
   one_more : (xs : List X) (from hit : ℕ) → IsNextHit (map w xs) from (Some hit)
       → length (filter w (drop from xs)) ≡ suc (length (filter w (drop (hit + 1) xs)))
   one_more xs from hit next =

@@ -11,7 +11,7 @@ use Rattle.gx_tree.specs.Splitting.{left_of, right_of, least_of, keys_in, CanSpl
 use Rattle.gx_tree.proofs.Splits.{other_half, at_changed, at_other, at_taken, at_untaken, union_alike}
 
 module _ {B : Type 0} where
-  -- a change of a node, where the store is known by an equation
+  -- a change of a node, if the store is known by an equation
   pub changed : (s t after : Store B) (p : ℕ) (f : Node B → Node B) (m : Node B) → s ≡ t → node_at t.nodes p ≡ m
       → after ≡ with_node s p (node_at after.nodes p) → node_at after.nodes p ≡ f (node_at s.nodes p) → after ≡ with_node t p (f m)
   changed s t after p f m same at others edited =

@@ -28,7 +28,7 @@ impl<K: KeyClass> Edit<K> for SetBound<K::Key> {
     }
 }
 
-/// A child for an inner node that isn't full: it is put behind the last.
+/// A child for an inner node that isn't full: it is put after the last.
 #[derive(Drop)]
 pub struct AppendChild<B> {
     /// The child's bound.

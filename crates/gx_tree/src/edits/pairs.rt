@@ -5,7 +5,7 @@ use gx_machine::Entry;
 use gx_node::{Edit, leaf_edits};
 use gx_page::Page;
 
-/// A live pair for a leaf that isn't full: it is put behind the last.
+/// A live pair for a leaf that isn't full: it is put after the last.
 #[derive(Drop)]
 pub struct AppendPair<B> {
     /// The row and its key.

@@ -31,7 +31,7 @@ module _ {B : Type 0} (k : Keys B) (l : IsLawful k) where
   length-including e [] = omega arith
   length-including e (x ∷ xs) = length_match e x xs (entry_cmp k e x) (length-including e xs)
 
-  -- one more claim, where there is a place for it
+  -- one more claim, if there is a place for it
   pub kept_with_claim : (e : Entry B) (h : Held B) → IsKept k h → length h.locks.claims < MAX_CLAIMS
       → IsKept k (with_locks (record h.locks { claims = including k e h.locks.claims }) h)
   kept_with_claim e h kept room = record {
@@ -92,7 +92,7 @@ module _ {B : Type 0} (k : Keys B) (l : IsLawful k) where
         subst (λ (ns : List (Note B)). IsKept k (record { locks = record { claims = claims; predicates = predicates }; notes = ns })) new_is
         (kept_with_note n old kept (claimed_old n.entry claimed))
 
-    -- there is room where the place is a gap
+    -- there is room if the place is a gap
     pub room_for_note : (n : Note B) (searched : List (Note B)) (i : ℕ) → has k n.entry h.locks.claims ≡ true → searched ≡ notes
         → i ≤ length searched → noting k n searched ≡ insert searched i n → length notes < MAX_CLAIMS
     unfolding old

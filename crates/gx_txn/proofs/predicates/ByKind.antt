@@ -68,7 +68,7 @@ module _ {B : Type 0} where
       (omega (arith, rest.0), omega (arith, rest.1), omega (arith, rest.2), omega (arith, rest.3))
 
 module _ {B : Type 0} where
-  -- so each kind has room for one more where there is room for one more
+  -- so each kind has room for one more if there is room for one more
   pub room_of_each : (asked self : List (Query B)) (overlap within equal covers : List B) (most : ℕ) → AreByKind asked overlap within equal covers → asked ≡ self
       → length self < most → (length overlap < most) × (length within < most) × (length equal < most) × (length covers < most)
   room_of_each asked self overlap within equal covers most is view room =

@@ -192,7 +192,7 @@ module _ (classes : ClassWords) (are : AreClasses classes) where
     (refl, inr (refl, omega arith), (refl, inr (refl, omega arith), (refl, inl refl, tt))),
   )
 
-  -- what `format` is given where nothing is wrong with it
+  -- what `format` is given if nothing is wrong with it
   has_format : (words : List Text) → level_fault format_shape [] nothing_held words false [] ≡ [] → HasFormat (rows_after format_shape.rules [] words)
   unfolding clap_on_literals
   has_format words fine =
@@ -219,7 +219,7 @@ module _ (classes : ClassWords) (are : AreClasses classes) where
         class = class_accepted classes are _ rows refl refl refl good_class;
       }
 
-  -- what `plain` is given where nothing is wrong with it
+  -- what `plain` is given if nothing is wrong with it
   has_plain : (words : List Text) → level_fault plain_shape [] nothing_held words false [] ≡ [] → HasClass (rows_after plain_shape.rules [] words)
   unfolding clap_on_literals
   has_plain words fine =
@@ -230,7 +230,7 @@ module _ (classes : ClassWords) (are : AreClasses classes) where
       let class = row_by_id (codes "class") rows kept in
       class_accepted classes are _ rows refl refl refl (good_word plain_shape.rules _ plain_own.0 rows passed.good class.0 class.1)
 
-  -- what `run` is given where nothing is wrong with it
+  -- what `run` is given if nothing is wrong with it
   has_run : (words : List Text) → level_fault run_shape [] nothing_held words false [] ≡ [] → HasRun (rows_after run_shape.rules [] words)
   unfolding clap_on_literals
   has_run words fine =
@@ -249,7 +249,7 @@ module _ (classes : ClassWords) (are : AreClasses classes) where
         frames = number_accepted _ rows 16 4096 refl refl (omega arith) good_frames;
       }
 
-  -- what `dump` is given where nothing is wrong with it
+  -- what `dump` is given if nothing is wrong with it
   has_dump : (words : List Text) → level_fault dump_shape [] nothing_held words false [] ≡ [] → HasDump (rows_after dump_shape.rules [] words)
   unfolding clap_on_literals
   has_dump words fine =
@@ -259,7 +259,7 @@ module _ (classes : ClassWords) (are : AreClasses classes) where
       let good_file = good_word dump_shape.rules _ dump_own.0 rows passed.good file.0 file.1 in
       record { file = good_file.word; file_is = good_file.first }
 
-  -- what `verify` is given where nothing is wrong with it
+  -- what `verify` is given if nothing is wrong with it
   has_verify : (words : List Text) → level_fault verify_shape [] nothing_held words false [] ≡ [] → HasDump (rows_after verify_shape.rules [] words)
   unfolding clap_on_literals
   has_verify words fine =
@@ -269,7 +269,7 @@ module _ (classes : ClassWords) (are : AreClasses classes) where
       let good_file = good_word verify_shape.rules _ verify_own.0 rows passed.good file.0 file.1 in
       record { file = good_file.word; file_is = good_file.first }
 
-  -- what `migrate` is given where nothing is wrong with it
+  -- what `migrate` is given if nothing is wrong with it
   has_migrate : (words : List Text) → level_fault migrate_shape [] nothing_held words false [] ≡ [] → HasMigrate (rows_after migrate_shape.rules [] words)
   unfolding clap_on_literals
   has_migrate words fine =
@@ -293,7 +293,7 @@ module _ (classes : ClassWords) (are : AreClasses classes) where
         frames = number_accepted _ rows 16 4096 refl refl (omega arith) good_frames;
       }
 
-  -- what `storm` is given where nothing is wrong with it
+  -- what `storm` is given if nothing is wrong with it
   has_storm : (words : List Text) → level_fault storm_shape [] nothing_held words false [] ≡ [] → HasStorm (rows_after storm_shape.rules [] words)
   unfolding clap_on_literals
   has_storm words fine =

@@ -1,4 +1,4 @@
--- The keys are split that the boxes stand for.
+-- What is split are the keys of the boxes.
 use Rattle.std.proofs.Common.{List, ap, ◌∙◌}
 use Rattle.gx_geom.specs.Rectangles.{Rectangle, union, area}
 use Rattle.gx_split.specs.Split.{measure, split_sides}

@@ -7,7 +7,7 @@ use Rattle.gx_tree.specs.declared.found.Found.{Found}
 use Rattle.gx_tree.specs.Found.{pairs_found}
 use Rattle.gx_engine.proofs.searches.gathered.Goals as goal
 
--- the entries of what was found are those of the pairs that it stands for
+-- the entries of what was found are those of its pairs
 of_pairs : {B : Type 0} (found : List (Found B)) → map (λ (one : Found B). one.entry) found ≡ map entry_of (pairs_found found)
 of_pairs [] = refl
 of_pairs {B} (one ∷ found) = ap (λ (es : List (Entry B)). one.entry ∷ es) (of_pairs found)

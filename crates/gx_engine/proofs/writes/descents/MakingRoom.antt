@@ -324,7 +324,7 @@ module _ {B D : Type 0} (k : Keys B) (f : Format B) (key : ℕ) (d : Device) (s 
   pub asks_widen : (size : ℕ) → size ≡ widen_room (is_imaged old.volume.imaged item.page) key → AsksRoom k f key d s (Insert entry) old size
   asks_widen size is = record { work = Descends parent item; at = at; asks = inl is }
 
-  -- for an added pair's by the leaf's bit, where no bit has changed since
+  -- for an added pair's by the leaf's bit, if no bit has changed since
   pub asks_add : HasPlace f d old item.page → (imaged : List Bool) → imaged ≡ old.volume.imaged → (size : ℕ)
       → size ≡ add_room (is_imaged imaged item.page) key → AsksRoom k f key d s (Insert entry) old size
   asks_add place imaged same size is = record {

@@ -192,7 +192,7 @@ module _ {B D : Type 0} (c : Class B) (lawful : 4 ≤ c.rules.most → IsLawful 
     abbrev work : i.work s ≡ index.Descends entry parent item
     work = its_work c l r f passes d old kept s is call (Descends parent item) at bodies i h
 
-    -- where a step over frames and device leads an index
+    -- if a step over frames and device leads an index
     abbrev pub Goes : index.State B → ℕ → TraversalItem → Type 0
     Goes j from next = GoesTo c l said f passes d e old.volume w bodies i h.whole s entry parent item work held.locks (map note_of held.notes) call slot h.keeps j from next
 

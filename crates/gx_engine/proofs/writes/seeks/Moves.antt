@@ -368,7 +368,7 @@ module _ {B D : Type 0} (c : Class B) (lawful : 4 ≤ c.rules.most → IsLawful 
       lives spot before found =
           here_live c (law bodies i h) IsKey (one bodies i h) other agree keys leaf used entry found.wants found.wanted spot before found.seeks (is_legal c (law bodies i h) i h.whole)
 
-      -- and it is answered where it has the mark already
+      -- and it is answered if it has the mark already
       module _ (spot : ℕ) (found : IsSought f IsKey c.keys d old.volume entry leaf (Here spot marked)) where
         its_slot : (m : Bool) → marked ≡ m → slot_at s i.slots ≡ Working (its bodies i h).locks (map note_of (its bodies i h).notes) (Some (write_call m entry))
         its_slot m same = slot bodies i h ∙ ap (λ (b : Bool). Working (its bodies i h).locks (map note_of (its bodies i h).notes) (Some (write_call b entry))) same
@@ -409,7 +409,7 @@ module _ {B D : Type 0} (c : Class B) (lawful : 4 ≤ c.rules.most → IsLawful 
     -- The pair has the other mark, and this one was set, or is sought further to the right.
     module _ (early : is_due old ≡ false) (spot : ℕ) (found : IsSought f IsKey c.keys d old.volume entry leaf (Here spot (not marked))) (e : Device) (w : Volume D) (most : w.most ≡ old.volume.most)
         (wants : Pair B → Bool) (wanted : (x : Pair B) → IsKey x.key → wants x ≡ ((x.row == entry.row) && is_eq (c.keys.cmp x.key entry.key))) where
-      -- where it was found it isn't missed
+      -- if it was found it isn't missed
       pub right_never : (page : ℕ) → (IsSteady d old.volume.shelf.frames → SetsMark wants (store_of f d.seen old.volume.shelf) (store_of f e.seen w.shelf) leaf marked (Right page))
           → (later : Device) (new : Parts B D) (o : Outcome B) (events : List (Happening B)) → Moves c r f passes d later s old new o events
       right_never page sets later new o events bodies i h =

@@ -6,7 +6,7 @@ use Rattle.gx_geom.specs.Spans.{Span}
 use Rattle.gx_split.specs.Frames.{IsShort}
 use Rattle.gx_split.proofs.solids.framed.Goals as goal
 
--- what lies between two numbers lies between those of a wider stretch, where it may be longer
+-- what lies between two numbers lies between those of a wider stretch, if it may be longer
 widened : (from to low high : ℤ) (longest more : ℕ) (a : Span) → longest ≤ more → IsShort from to longest a
     → IsShort (int_min from low) (int_max to high) more a
 widened from to low high longest more a le is = record {

@@ -4,7 +4,7 @@ use Rattle.clap.specs.Simple.{app_of_fields}
 use Rattle.clap.specs.Words.{with_rule}
 use Rattle.gx_words.proofs.words.format.Goals as goal
 
--- no argument is for the commands below, where none was before and the one that is added isn't
+-- no argument is for the commands below, if none was before and the one that is added isn't
 still : (before added now : Bool) → now ≡ (before || added) → before ≡ false → added ≡ false → now ≡ false
 still before added now is none own = is ∙ ap₂ (λ x y. x || y) none own
 

@@ -17,7 +17,7 @@ back_read bytes i =
     number_of (take 4 (drop-drop 0 8 bytes i)) ∷ number_of (take 4 (drop-drop 4 8 bytes i))
     ∷ number_of (take 4 (drop-drop 8 8 bytes i)) ∷ number_of (take 4 (drop-drop 12 8 bytes i)) ∷ []
 
--- what is behind the first eight bytes is all of it
+-- what is after the first eight bytes is all of it
 rest : (bytes : List ℕ) → take (length bytes - 8) (drop 8 bytes) ≡ drop 8 bytes
 rest bytes = take_all (length bytes - 8) (drop 8 bytes) (omega (arith, length-drop 8 bytes))
 

@@ -14,7 +14,7 @@ invariant_of-self g c =
     let items = c.self.inside.pages.items in
     let new = c.new.result in
     let at : with_image c.new.result c.self.inside.pages.items ≡ slice_set c.self.inside.pages.items c.in-Some.i c.new.result =
-    rw (c.new.ensures, ← c.deref.ensures.value) (c.in-Some.ensures.place.1 c.image-2.result.now)
+    rw (c.new.ensures, ← c.deref-2.ensures.value) (c.in-Some.ensures.place.1 c.image-2.result.now)
     in (
       c.self.invariant.0,
       subst (λ (xs : List Imaged). AreOnce xs) at (once_with new items c.self.invariant.1),

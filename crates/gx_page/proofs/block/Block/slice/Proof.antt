@@ -68,7 +68,7 @@ slice_spec 𝓤 𝓛 𝓜 𝓡 wired =
     sets ! (bin ! (get ! refl) (get ! refl) asked.0) refl (tt, record { fits = few }) $
     sets_last ! (agg ! (and_then ! (get ! refl) (and_then ! (get ! refl) (no_more !)))) refl (tt, (tt, (record { fits = few }, tt))) $ exec ! 𝓣.C 𝓣.Λ Ev (after 1 code.function.body) (at_ret Ev Post) $
     sets ! (of_opd ! (get ! refl)) refl (tt, (tt, (record { fits = few }, tt))) $ returns ! (look_at ! 0 refl) $ free_all ! refl $
-    -- [the `&` to each byte; the token]: the bytes before the part and behind it are released
+    -- [the `&` to each byte; the token]: the bytes before the part and after it are released
     keep ! (2 ∷ 0 ∷ []) $ unhide ! $ use1 𝓛 (‵ (elements_shared u8 (drop-list from d.bytes) b' (from + o') κs.0)) (drop_each 𝓛 κs.0 from d.bytes b' o' (from + o') refl) $
     use1 𝓛 (‵ (elements_shared u8 part b' (from + o') κs.0)) (take_each 𝓛 κs.0 n (drop-list from d.bytes) b' (from + o')) $ hide ! $
     flt_i ! (length part * 1) (2 ^ 63) (omega arith) $ flt_i ! (length part) (2 ^ 64) (omega arith) $ fjoin ! $

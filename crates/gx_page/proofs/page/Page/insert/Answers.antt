@@ -1,4 +1,4 @@
--- Where the heap starts too low for the item and its slot, the longer list doesn't fit.
+-- If the heap starts too low for the item and its slot, the longer list doesn't fit.
 use Rattle.std.proofs.Common.{◌≡◌, ℕ, ◌+◌, ◌*◌, ◌<◌, ◌≤◌, length, ap, subst, sym, ◌∙◌, arith}
 use Rattle.std.proofs.lemmas.Bool.{false≢true}
 use Rattle.std.specs.List.{insert}

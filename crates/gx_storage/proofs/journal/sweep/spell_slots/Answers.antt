@@ -6,7 +6,7 @@ use Rattle.gx_record.specs.Slots.{slots_bytes}
 use Rattle.gx_record.specs.declared.sizes.TheConstants.{SLOT_NUMBER}
 use Rattle.gx_storage.proofs.journal.sweep.spell_slots.Goals as goal
 
--- a slot more has its two bytes behind the others
+-- a slot more has its two bytes after the others
 one_more : (slots : List ℕ) (k : ℕ) → k < length slots → slots_bytes (take (suc k) slots) ≡ slots_bytes (take k slots) ++ u16_bytes (get_or slots k 0)
 one_more [] k low = absurd (omega arith)
 one_more (slot ∷ slots) zero low = append-nil (u16_bytes slot)

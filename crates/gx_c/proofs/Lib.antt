@@ -1,0 +1,3 @@
+mod Stages
+mod Walks
+mod Words

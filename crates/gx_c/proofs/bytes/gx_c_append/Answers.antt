@@ -1,0 +1,5 @@
+use Rattle.std.proofs.Common.{refl}
+use Rattle.gx_c.proofs.bytes.gx_c_append.Goals as goal
+
+pub returns : goal.returns
+returns c = rw (c.take-held.ensures.had, ← c.deref_mut.ensures.value, c.put.ensures) (c.append-status.ensures, refl)

@@ -1,0 +1,5 @@
+use Rattle.std.proofs.Common.{refl}
+use Rattle.gx_c.proofs.opened.Open.ask.Goals as goal
+
+pub returns : goal.returns
+returns g c = rw (← c.self.view_is) (record { reply = c.call-reply.result; asks = record { calls = c.call-reply.ensures.calls; told = c.call-reply.ensures.told; runs = c.call-reply.ensures.runs; ends = c.call-reply.ensures.ends }; status_is = c.replied.ensures; same = refl })

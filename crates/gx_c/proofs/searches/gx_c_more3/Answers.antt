@@ -1,0 +1,5 @@
+use Rattle.std.proofs.Common.{refl}
+use Rattle.gx_c.proofs.searches.gx_c_more3.Goals as goal
+
+pub returns-clause-tells : goal.returns-clause-tells
+returns-clause-tells c = rw (c.take-held.ensures.had, ← c.deref_mut.ensures.value, c.put.ensures) (c.more_of_space-status.ensures.tells, refl)

@@ -1,0 +1,13 @@
+pub mod Asking
+pub mod Bytes
+pub mod Formats
+pub mod Loose
+pub mod Openings
+pub mod Owned
+pub mod Sent
+pub mod Stages
+pub mod States
+pub mod Statuses
+pub mod Stepping
+pub mod Verified
+pub mod Waiting
