@@ -84,7 +84,7 @@ static void *searches_own(void *its) {
     return NULL;
 }
 
-/* Each thread is in the way of another one, and is told of the one that is in its way. */
+/* Each thread is in the way of another one, and learns which one is in its way. */
 static void *is_busy(void *its) {
     unsigned session = *(unsigned *)its, other = session ^ 1;
     static atomic_uint ready, done;
